@@ -2,7 +2,6 @@ pub mod Characters
 pub mod Decoding
 pub mod Fronts
 pub mod Lowering
-pub mod Messages
 pub mod Printing
 pub mod Reading
 pub mod RoundTrip

@@ -8,8 +8,7 @@ use Rattle.const_hex.specs.contracts.buffer.Buffer.{the_row}
 
 -- ---- what a buffer holds
 
--- what a buffer holds before any bytes are formatted: `0x` or nothing, and a NUL byte for each
--- digit
+-- what a buffer holds before any bytes are formatted: `0x` or nothing, and a NUL byte for each digit
 abbrev pub blank_text : Bool → ℕ → List ℕ
 blank_text prefix n = prefix_of prefix ++ replicate (2 * n) 0
 

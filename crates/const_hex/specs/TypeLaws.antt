@@ -1,6 +1,6 @@
 -- Lemmas for the laws of types that are read from text.
-use Rattle.std.specs.Prelude.{◌≡◌, ℕ, suc, ◌+◌, ◌-◌, ◌*◌, ◌%◌, ◌<◌, ◌≢◌, Bool, List, [], ◌∷◌, length, map, ℤ, slice_index, Result, Ok, Err, refl}
-use Rattle.std.proofs.Common.{inl, inr, sym, ap, subst, ◌∙◌, arith}
+use Rattle.std.specs.Prelude.{◌≡◌, ℕ, suc, ◌*◌, ◌%◌, ◌<◌, ◌≢◌, Bool, List, [], ◌∷◌, length, map, ℤ, Result, Ok, Err, refl}
+use Rattle.std.proofs.Common.{inl, inr, sym, ◌∙◌, arith}
 use Rattle.std.proofs.lemmas.Bool.{cases_eq}
 use Rattle.std.proofs.lemmas.Bool.Decides.{nat_tests}
 use Rattle.const_hex_arch.proofs.lemmas.FirstInvalid.{Spells-some, digits_or_bad}
@@ -24,18 +24,21 @@ Reads-some t =
       | inr not_odd ↦
           let even : IsEven (length t) = omega arith in
           elim (digits_or_bad (body_of t)) [
-            | inl a ↦ let s = Spells-some (body_of t) (body-parity t ∙ even) a in (Ok s.0, (even, s.1))
-            | inr b ↦ (
-              Err (InvalidHexCharacter (slice_index (body_of t) b.0) (b.0 + (length t - length (body_of t)))),
-              (even, (b.0, b.1, refl, refl)),
-            )
+            | inl a ↦ let (bs, s) = Spells-some (body_of t) (body-parity t ∙ even) a in (Ok bs, (even, s))
+            | inr (p, bad) ↦ (Err (InvalidHexCharacter _ _), (even, (p, bad, refl, refl)))
           ]
     ]
 
 -- ---- owned bytes
 
-pub ReadsOwned-faithful : {V : Type 0} (bytes : V → List ℕ) (t : List ℕ) (r : Result V FromHexError)
-    → ReadsOwned bytes t r → IsFaithful bytes AnyCount is_no_memory t r
+-- these results have the law of types that are read from text
+abbrev pub AreFaithful : {V E : Type 0} → (V → List ℕ) → (ℕ → Type 0) → (E → Bool)
+    → (List ℕ → Result V E → Type 0) → Type 0
+AreFaithful bytes fits is_memory answers =
+    (t : List ℕ) (r : Result _ _) → answers t r → IsFaithful bytes fits is_memory t r
+
+pub ReadsOwned-faithful : {V : Type 0} (bytes : V → List ℕ)
+    → AreFaithful bytes AnyCount is_no_memory (ReadsOwned bytes)
 ReadsOwned-faithful bytes t (Ok v) h = (h, tt)
 ReadsOwned-faithful bytes t (Err e) h = λ known. inl (e, grind (arith, known))
 
@@ -44,14 +47,11 @@ ReadsOwned-faithful bytes t (Err e) h = λ known. inl (e, grind (arith, known))
 -- a body of another length is an error, or its bytes do not fit
 unfit : (n : ℕ) (t : List ℕ) → length (body_of t) ≢ 2 * n → (r : Result (List ℕ) FromHexError) × Reads t r
     → IsRejected (IsCount n) t
-unfit n t other (Ok bs, h) =
-    inr (bs, h, λ same. let len = Spells-length (body_of t) bs h.1 in other (omega (arith, len, same)))
+unfit n t other (Ok bs, h) = inr (bs, h, λ same. other (omega (arith, Spells-length (body_of t) bs h.1, same)))
 unfit n t other (Err e, h) = inl (e, h)
 
-pub ReadsSized-faithful : (n : ℕ) (t : List ℕ) (r : Result (List ℕ) FromHexError)
-    → ReadsSized t n r → IsFaithful (λ bs. bs) (IsCount n) is_no_memory t r
-ReadsSized-faithful n t (Ok bs) h =
-    (h.1, let len = Spells-length (body_of t) bs h.1.1 in let twice = h.0 in omega (arith, len, twice))
+pub ReadsSized-faithful : (n : ℕ) → AreFaithful (λ bs. bs) (IsCount n) is_no_memory (λ t r. ReadsSized t n r)
+ReadsSized-faithful n t (Ok bs) h = (h.1, omega (arith, Spells-length (body_of t) bs h.1.1, h.0))
 ReadsSized-faithful n t (Err OddLength) h = λ _. inl (OddLength, h)
 ReadsSized-faithful n t (Err InvalidStringLength) h = λ _. unfit n t h.1 (Reads-some t)
 ReadsSized-faithful n t (Err (InvalidHexCharacter c i)) h = λ _. inl (InvalidHexCharacter c i, h.1)
@@ -70,33 +70,26 @@ bytes_back (b ∷ bs) h = rw (byte_of-signed_of b (h 0), bytes_back bs (λ k. h 
 module _ {V : Type 0} (items : V → List ℤ) (fits : ℕ → Type 0)
     (answers : List ℕ → Result (List ℕ) FromHexError → Type 0) where
   -- the law for signed elements is the law for the bytes
-  pub ReadsSigned-faithful : ((t : List ℕ) (r : Result (List ℕ) FromHexError) → answers t r
-      → IsFaithful (λ bs. bs) fits is_no_memory t r)
-      → (t : List ℕ) (r : Result V FromHexError) → ReadsSigned items answers t r
-      → IsFaithful (λ v. map byte_of (items v)) fits is_no_memory t r
+  pub ReadsSigned-faithful : AreFaithful (λ bs. bs) fits is_no_memory answers
+      → AreFaithful (λ v. map byte_of (items v)) fits is_no_memory (ReadsSigned items answers)
   ReadsSigned-faithful law t (Ok v) h =
       let of_bytes = law t (Ok h.0) h.1 in
-      let P : List ℕ → Type 0 = λ bs. Reads t (Ok bs) × fits (length bs) in
-      subst P (sym (bytes_back h.0 (Spells-bytes (body_of t) h.0 of_bytes.0.1)) ∙ ap (map byte_of) (sym h.2)) of_bytes
+      rw (h.2, bytes_back h.0 (Spells-bytes (body_of t) h.0 of_bytes.0.1)) of_bytes
   ReadsSigned-faithful law t (Err e) h = law t (Err e) h
 
 -- ---- a type of your own
 
 pub ReadsAs-faithful : {V : Type 0} (bytes : V → List ℕ) (fits : ℕ → Type 0)
-    (answers : List ℕ → Result (List ℕ) FromHexError → Type 0)
-    → ((t : List ℕ) (r : Result (List ℕ) FromHexError) → answers t r → IsFaithful (λ bs. bs) fits is_no_memory t r)
-    → (t : List ℕ) (r : Result V FromHexError) → ReadsAs bytes answers t r → IsFaithful bytes fits is_no_memory t r
+    (answers : List ℕ → Result (List ℕ) FromHexError → Type 0) → AreFaithful (λ bs. bs) fits is_no_memory answers
+    → AreFaithful bytes fits is_no_memory (ReadsAs bytes answers)
 ReadsAs-faithful bytes fits answers law t (Ok v) h = law t (Ok (bytes v)) h
 ReadsAs-faithful bytes fits answers law t (Err e) h = law t (Err e) h
 
 -- ---- pointers
 
 pub ReadsThrough-faithful : {W V E : Type 0} (target : W → V) (bytes : V → List ℕ) (fits : ℕ → Type 0)
-    (is_memory : E → Bool)
-    (answers : List ℕ → Result V E → Type 0)
-    → ((t : List ℕ) (r : Result V E) → answers t r → IsFaithful bytes fits is_memory t r)
-    → (t : List ℕ) (r : Result W E) → ReadsThrough target is_memory answers t r
-    → IsFaithful (λ w. bytes (target w)) fits is_memory t r
+    (is_memory : E → Bool) (answers : List ℕ → Result V E → Type 0) → AreFaithful bytes fits is_memory answers
+    → AreFaithful (λ w. bytes (target w)) fits is_memory (ReadsThrough target is_memory answers)
 ReadsThrough-faithful target bytes fits is_memory answers law t (Ok w) h = law t (Ok (target w)) h
 ReadsThrough-faithful target bytes fits is_memory answers law t (Err e) (inl h) = law t (Err e) h
 ReadsThrough-faithful target bytes fits is_memory answers law t (Err e) (inr h) = λ no. cc (sym h.0 ∙ no)

@@ -42,15 +42,13 @@ IsRejected fits t =
     ((e : FromHexError) × Reads t (Err e))
     ⊎ ((bs : List ℕ) × Reads t (Ok bs) × (fits (length bs) → ⊥))
 
--- the law of types that are read from text: a value has the bytes that the text decodes to, and
--- their number fits; an error means that memory ran out, or that the text is rejected for each type,
--- or that its number of bytes does not fit
+-- the law of types that are read from text: a value has the bytes that the text decodes to, and their number fits; an
+-- error means that memory ran out, or that the text is rejected for each type, or that its number of bytes does not fit
 abbrev pub IsFaithful : {V E : Type 0} → (V → List ℕ) → (ℕ → Type 0) → (E → Bool) → List ℕ → Result V E → Type 0
 IsFaithful bytes fits is_memory t (Ok v) = Reads t (Ok (bytes v)) × fits (length (bytes v))
 IsFaithful bytes fits is_memory t (Err e) = is_memory e ≡ false → IsRejected fits t
 
--- the results of a type that owns its bytes: the text's result, or, if its length is even, out of
--- memory
+-- the results of a type that owns its bytes: the text's result, or, if its length is even, out of memory
 abbrev pub ReadsOwned : {V : Type 0} → (V → List ℕ) → List ℕ → Result V FromHexError → Type 0
 ReadsOwned bytes t (Ok v) = Reads t (Ok (bytes v))
 ReadsOwned bytes t (Err OddLength) = IsOdd (length t)
@@ -70,8 +68,7 @@ abbrev pub ReadsSigned : {V : Type 0} → (V → List ℤ) → (List ℕ → Res
 ReadsSigned items answers t (Ok v) = (bs : List ℕ) × answers t (Ok bs) × (items v ≡ map signed_of bs)
 ReadsSigned items answers t (Err e) = answers t (Err e)
 
--- the results of a pointer: the results of its target, or out of memory if the target may have a
--- value
+-- the results of a pointer: the results of its target, or out of memory if the target may have a value
 abbrev pub ReadsThrough : {W V E : Type 0} → (W → V) → (E → Bool) → (List ℕ → Result V E → Type 0) → List ℕ → Result W E
     → Type 0
 ReadsThrough target is_memory answers t (Ok w) = answers t (Ok (target w))
@@ -93,8 +90,7 @@ json_message message (Hex e) = message e
 
 -- ---- the characters that are left in an iterator over the text of bytes
 
--- the second digit of a byte whose first was returned, if there is one, and then the characters of
--- the rest
+-- the second digit of a byte whose first was returned, if there is one, and then the characters of the rest
 abbrev pub with_low : Option ℕ → List ℕ → List ℕ
 with_low None xs = xs
 with_low (Some c) xs = c ∷ xs

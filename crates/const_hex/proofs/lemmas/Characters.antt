@@ -1,7 +1,8 @@
 -- Steps of an iterator over the characters of bytes.
 use mir.Val.{bool_byte}
-use Rattle.std.proofs.Common.{◌≡◌, ℕ, ◌+◌, ◌*◌, ◌/◌, ◌%◌, Bool, List, [], ◌∷◌, length, Option, Some, None, refl, arith}
+use Rattle.std.proofs.Common.{◌≡◌, ℕ, ◌+◌, ◌*◌, ◌/◌, ◌%◌, Bool, List, [], ◌∷◌, length, Option, None, refl, arith}
 use Rattle.std.specs.Prelude.{is_some}
+use Rattle.std.proofs.lemmas.List.{nil_from_length}
 use Rattle.const_hex_arch.specs.Texts.{hex_digit, hex_text}
 use Rattle.const_hex_arch.proofs.lemmas.Texts.{length-hex_text}
 use Rattle.const_hex.specs.Types.{with_low}
@@ -10,8 +11,7 @@ use Rattle.const_hex.specs.Types.{with_low}
 pub left-none : (up : Bool) (low : Option ℕ) (u : List ℕ) → low ≡ None → length u ≡ 0
     → with_low low (hex_text up u) ≡ []
 unfolding hex_text
-left-none up low [] h e = rw h refl
-left-none up low (b ∷ u) h e = absurd (omega (arith, e))
+left-none up low u h e = rw (h, nil_from_length u e) refl
 
 -- one more byte is left
 pub left-more : (up : Bool) (low : Option ℕ) (t u : List ℕ) (b x y : ℕ) → low ≡ None → t ≡ b ∷ u
@@ -23,7 +23,6 @@ left-more up low t u b x y h e ex ey = rw (h, e, ex, ey) refl
 -- how many are left
 pub length-left : (up : Bool) (low : Option ℕ) (u : List ℕ)
     → length (with_low low (hex_text up u)) ≡ 2 * length u + bool_byte (is_some low)
-length-left up None u = let two = length-hex_text up u in omega (arith, two)
-length-left up (Some c) u = let two = length-hex_text up u in omega (arith, two)
+length-left up low u = grind (arith, length-hex_text)
 
 pub ruleset lefts = (left-none, left-more, length-left)

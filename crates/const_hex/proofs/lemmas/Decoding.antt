@@ -1,173 +1,122 @@
 -- A text in chunks: what a `Decoder` has read after one more, with or without an error.
-use Rattle.std.proofs.Common.{◌≡◌, ℕ, suc, ◌+◌, ◌-◌, ◌*◌, ◌/◌, ◌%◌, ◌<◌, ◌≤◌, List, [], ◌∷◌, ◌++◌, length, take, drop, get_or, slice_index, Bool, true, false, if◌then◌else◌, ◌==◌, ◌&&◌, ◌||◌, None, Ok, refl, sym, ap, ◌∙◌, arith, length-append, length-drop}
-use Rattle.std.proofs.lemmas.Grind.{common_steps}
-use Rattle.std.proofs.lemmas.List.{append_assoc, append-nil, length-take-le, take-append-le, take-append-drop, take_all, take_at, drop_all, drop_at}
-use Rattle.const_hex.proofs.lemmas.Fronts.{partial_front}
+use Rattle.std.proofs.Common.{◌≡◌, ℕ, ◌+◌, ◌-◌, ◌*◌, ◌/◌, ◌%◌, ◌≤◌, ◌≢◌, List, [], ◌∷◌, ◌++◌, length, take, drop, get_or, slice_index, None, Ok, refl, sym, ap, ◌∙◌, arith, length-append, length-drop}
+use Rattle.std.proofs.lemmas.List.{append_assoc, append-nil, get_or_append_left, get_or-append-add, length-take, take-append-le, take-append-drop, take_all, take_at, drop_all, drop_at}
+use Rattle.std.proofs.lemmas.List.Elements.{All-drop, All-take}
 use Rattle.const_hex.specs.Results.{IsOdd, Reads, body_of}
 use Rattle.const_hex.specs.Decoding.{HasRead, NamesCounted, counted, error_of, position_of, waiting_digit}
 use Rattle.const_hex.specs.TypeLaws.{body-parity}
 use Rattle.const_hex.specs.declared.codec.decoder.Decoder.{Decoder}
 use Rattle.const_hex_arch.specs.Texts.{IsDigit, AllDigits, FirstBad, Partial, Spells}
-use Rattle.std.proofs.lemmas.List.Elements.{All-drop, All-take}
 use Rattle.const_hex_arch.proofs.lemmas.DigitTexts.{digits_append}
-use Rattle.const_hex_arch.proofs.lemmas.FirstInvalid.{FirstBad-after, Spells-some, digits_no_bad, first_bad}
-use Rattle.const_hex_arch.proofs.lemmas.LeftOutputs.{Partial-after}
+use Rattle.const_hex_arch.proofs.lemmas.FirstInvalid.{FirstBad-after, Spells-some}
+use Rattle.const_hex_arch.proofs.lemmas.LeftOutputs.{Partial-after, none_decoded}
 use Rattle.const_hex_arch.proofs.lemmas.Spelling.{Spells-append, Spells-digits, Spells-length}
 
 -- ---- an invalid character, whatever follows
 
-within_front : (u v : List ℕ) (p : ℕ) → p < length u → slice_index u p ≡ slice_index (u ++ v) p
-within_front u v p h = grind (arith, common_steps)
-
--- w stands after either branch
-longer : (b : Bool) (u v w : List ℕ) → (if b then u ++ w else v ++ w) ≡ (if b then u else v) ++ w
-longer true u v w = refl
-longer false u v w = refl
-
-pub FirstBad-longer : (u v : List ℕ) (p : ℕ) → FirstBad u p → FirstBad (u ++ v) p
-FirstBad-longer u v p f =
-    let inside = f.within in
-    let early : p ≤ length u = omega arith in
-    record {
-      within = omega (arith, length-append u v);
-      before = rw (take-append-le p u v early) f.before;
-      here = rw (within_front u v p inside) at f.here;
-    }
-
 pub Partial-longer : (old u new v : List ℕ) → Partial old u new → Partial old (u ++ v) new
 Partial-longer old u new v p =
-    let bad = p.first_bad.within in
+    let inside = p.first_bad.within in
     let early : 2 * p.done ≤ length u = omega (arith, p.not_past) in
     record {
       bad = p.bad;
       done = p.done;
-      first_bad = FirstBad-longer u v p.bad p.first_bad;
+      first_bad = record {
+        within = omega (arith, length-append u v);
+        before = rw (take-append-le p.bad u v (omega arith)) p.first_bad.before;
+        here = rw (get_or_append_left u v 0 p.bad inside) p.first_bad.here;
+      };
       not_past = p.not_past;
       same_length = p.same_length;
       front = rw (take-append-le (2 * p.done) u v early) p.front;
       rest = p.rest;
     }
 
--- ---- pairs, and one byte more
+-- ---- pairs, and what follows
 
 -- the pairs are rejected
 pub pairs_refused : (old u new : List ℕ) (m : ℕ) → Partial old (take m u) new → Partial old u new
 pairs_refused old u new m p = rw (take-append-drop m u) at (Partial-longer old (take m u) new (drop m u) p)
 
--- the pairs are decoded, and a byte after them is rejected
-pub last_refused : (old u new : List ℕ) (n : ℕ) → (AllDigits (drop (2 * n) u) → ⊥) → 2 * n ≤ length u → length new ≡ n
-    → length old ≡ n
-    → Spells (take (2 * n) u) new → Partial old u new
-last_refused old u new n bad h l o s =
-    let f = first_bad (drop (2 * n) u) bad in
-    record {
-      bad = 2 * n + f.0;
-      done = n;
-      first_bad = FirstBad-after (2 * n) u f.0 (Spells-digits _ _ s) h f.1;
-      not_past = omega arith;
-      same_length = l ∙ sym o;
-      front = rw (take_all n new (omega arith)) s;
-      rest = rw (drop_all n new (omega arith), drop_all n old (omega arith)) refl;
-    }
-
--- the pairs are decoded, and what follows has only digits
-pub digits_whole : (u bs : List ℕ) (m : ℕ) → Spells (take m u) bs → AllDigits (drop m u) → AllDigits u
-digits_whole u bs m s a =
-    rw (take-append-drop m u) at ((digits_append (take m u) (drop m u)).1 (Spells-digits _ _ s, a))
-
--- ---- a digit that waits, and the digits that follow
-
--- the first pair is decoded, and the pairs that follow
-pub pairs_spell : (c : ℕ) (u bs cs : List ℕ) (n m : ℕ) → 1 ≤ length u → n ≡ m + 1 → Spells (c ∷ get_or u 0 0 ∷ []) bs
-    → Spells (take (2 * m) (drop 1 u)) cs → Spells (take (2 * n) (c ∷ u)) (bs ++ cs)
-pairs_spell c [] bs cs n m h e s t = absurd (omega (arith, h))
-pairs_spell c (d ∷ u) bs cs n m h e s t =
-    let q : 2 * n ≡ suc (suc (2 * m)) = omega (arith, e) in
-    rw q (Spells-append (c ∷ d ∷ []) bs (take (2 * m) u) cs s t)
-
--- the first pair is rejected
-pub pair_refused : (c : ℕ) (u old new : List ℕ) → 1 ≤ length u → 1 ≤ length old
-    → Partial (take 1 old) (c ∷ get_or u 0 0 ∷ []) new
-    → Partial old (c ∷ u) (new ++ drop 1 old)
-pair_refused c [] old new h l p = absurd (omega (arith, h))
-pair_refused c (d ∷ u) old new h l p =
-    Partial-longer old (c ∷ d ∷ []) (new ++ drop 1 old) u (partial_front old (c ∷ d ∷ []) new 1 l refl p)
-
--- the first pair is decoded, and what follows is rejected
-pub rest_refused : (c : ℕ) (u old bs new : List ℕ) → 1 ≤ length u → 1 ≤ length old → Spells (c ∷ get_or u 0 0 ∷ []) bs
-    → Partial (drop 1 old) (drop 1 u) new → Partial old (c ∷ u) (bs ++ new)
-rest_refused c [] old bs new h l s p = absurd (omega (arith, h))
-rest_refused c (d ∷ u) old bs new h l s p =
-    let two = Spells-length (c ∷ d ∷ []) bs s in
-    let one : length bs ≡ 1 = omega (arith, two) in
+-- the pairs are decoded, and what follows them is rejected
+pub rest_refused : (u v old bs new : List ℕ) (k : ℕ) → length bs ≡ k → Spells u bs → k ≤ length old
+    → Partial (drop k old) v new → Partial old (u ++ v) (bs ++ new)
+rest_refused u v old bs new k e s fits p =
     let same = p.same_length in
-    let size : length (bs ++ new) ≡ length old = omega (arith, length-append bs new, length-drop 1 old) in
-    Partial-after old (c ∷ d ∷ u) (bs ++ new) 1 2 refl (omega arith) size (omega arith) (rw (take_at bs new 1 one) s)
-    (rw (drop_at bs new 1 one) p)
+    let size : length (bs ++ new) ≡ length old = omega (arith, length-append bs new, length-drop k old) in
+    let twice : length u ≡ 2 * k = omega (arith, Spells-length u bs s) in
+    Partial-after old (u ++ v) (bs ++ new) k (length u) twice (omega (arith, length-append u v)) size (omega arith)
+    (rw (take_at u v (length u) refl, take_at bs new k e) s) (rw (drop_at u v (length u) refl, drop_at bs new k e) p)
+
+-- the pairs are decoded, and a byte after them is rejected
+pub last_refused : (old u new : List ℕ) → (AllDigits (drop (2 * length old) u) → ⊥) → 2 * length old ≤ length u
+    → length new ≡ length old → Spells (take (2 * length old) u) new → Partial old u new
+last_refused old u new bad h l s =
+    Partial-after old u new (length old) _ refl h l (omega arith) (rw (take_all (length old) new (omega arith)) s)
+    (rw (drop_all (length old) new (omega arith), drop_all (length old) old (omega arith)) (none_decoded [] _ bad))
+
+-- the pairs are digits, and what follows them
+pub digits_whole : (u : List ℕ) (m : ℕ) → AllDigits (take m u) → AllDigits (drop m u) → AllDigits u
+digits_whole u m a b = rw (take-append-drop m u) at ((digits_append (take m u) (drop m u)).1 (a, b))
+
+-- the first byte, and what follows it
+pub first_and_rest : (u : List ℕ) → 1 ≤ length u → u ≡ get_or u 0 0 ∷ drop 1 u
+first_and_rest [] h = absurd (omega (arith, h))
+first_and_rest (c ∷ u) h = refl
 
 -- ---- what a decoder that has read t reads on
-
-pub even_pairs : (pairs bs : List ℕ) → Spells pairs bs → length pairs % 2 ≡ 0
-even_pairs pairs bs s = let twice = Spells-length pairs bs s in omega (arith, twice)
 
 body-shorter : (t : List ℕ) → length (body_of t) ≤ length t
 body-shorter t = grind arith
 
--- byte p of u is byte length v + p of v ++ u
-behind : (v u : List ℕ) (p : ℕ) → slice_index u p ≡ slice_index (v ++ u) (length v + p)
-behind [] u p = let e : p ≡ 0 + p = omega arith in ap (slice_index u) e
-behind (c ∷ v) u p = let e : suc (length v + p) ≡ suc (length v) + p =
-    omega arith in behind v u p ∙ ap (slice_index (c ∷ (v ++ u))) e
-
 -- d has read t and has written bs; then w, the waiting digit if there is one, and the digits of the chunk follow the
 -- pairs that were read
-module _ (d : Decoder) (t bs chunk w digits : List ℕ) (r : HasRead d t bs)
-    (whole : body_of (t ++ chunk) ≡ r.pairs ++ (w ++ digits)) where
+module _ (d : Decoder) (chunk w digits : List ℕ)
+    (next : (t pairs : List ℕ) → position_of d ≡ counted (length t) → body_of t ≡ pairs ++ waiting_digit d
+    → length pairs % 2 ≡ 0 → body_of (t ++ chunk) ≡ pairs ++ (w ++ digits))
+    (fine : AllDigits (waiting_digit d) → AllDigits w) (t bs : List ℕ) (r : HasRead d t bs) where
+  whole : body_of (t ++ chunk) ≡ r.pairs ++ (w ++ digits)
+  whole = next t r.pairs r.counts r.whole (omega (arith, Spells-length r.pairs bs r.given))
+
   -- how many bytes are decoded by now
   pub spelled_by_now : (count : ℕ) → count ≡ length (w ++ digits) / 2
       → length (body_of (t ++ chunk)) / 2 ≡ length bs + count
   spelled_by_now count e =
-      let twice = Spells-length r.pairs bs r.given in
-      let size : length (body_of (t ++ chunk)) ≡ length r.pairs + length (w ++ digits) =
-      rw whole (length-append r.pairs (w ++ digits)) in
-      omega (arith, e, twice, size)
+      omega (arith, e, Spells-length r.pairs bs r.given, ap length whole ∙ length-append r.pairs (w ++ digits))
 
   -- all of it is digits
-  pub digits_by_now : AllDigits w → AllDigits digits → AllDigits (body_of (t ++ chunk))
-  digits_by_now a b =
-      rw whole ((digits_append r.pairs (w ++ digits)).1 (Spells-digits _ _ r.given, (digits_append w digits).1 (a, b)))
+  pub digits_by_now : AllDigits digits → AllDigits (body_of (t ++ chunk))
+  digits_by_now a =
+      rw whole ((digits_append _ _).1 (Spells-digits _ _ r.given, (digits_append w digits).1 (fine r.waits, a)))
 
-  -- the decoder goes on
-  pub goes_on : (e : Decoder) (out : List ℕ) (count : ℕ) → AllDigits w → AllDigits digits
-      → Spells (take (2 * count) (w ++ digits)) out
-      → error_of e ≡ None → position_of e ≡ counted (position_of d + length chunk)
-      → waiting_digit e ≡ drop (2 * count) (w ++ digits)
-      → HasRead e (t ++ chunk) (bs ++ out)
-  goes_on e out count a b s none index waits =
-      let u = w ++ digits in
-      let parts = take-append-drop (2 * count) u in
-      let size = length-append t chunk in
-      let before = r.counts in record {
-        no_error = none;
-        counts = omega (arith, index, before, size);
-        pairs = r.pairs ++ take (2 * count) u;
-        whole = whole ∙ rw (waits, append_assoc r.pairs (take (2 * count) u) (drop (2 * count) u), parts) refl;
-        given = Spells-append r.pairs bs (take (2 * count) u) out r.given s;
-        waits = rw waits (All-drop IsDigit (2 * count) u ((digits_append w digits).1 (a, b)));
-      }
+  -- the decoder e goes on after count bytes more
+  module _ (e : Decoder) (count : ℕ) (all : AllDigits digits) (none : error_of e ≡ None)
+      (index : position_of e ≡ counted (position_of d + length chunk))
+      (waits : waiting_digit e ≡ drop (2 * count) (w ++ digits)) where
+    pub goes_on : (out : List ℕ) → Spells (take (2 * count) (w ++ digits)) out → HasRead e (t ++ chunk) (bs ++ out)
+    goes_on out s =
+        let u = w ++ digits in
+        let before = r.counts in record {
+          no_error = none;
+          counts = omega (arith, index, before, length-append t chunk);
+          pairs = r.pairs ++ take (2 * count) u;
+          whole = rw (
+            waits,
+            append_assoc r.pairs (take (2 * count) u) (drop (2 * count) u),
+            take-append-drop (2 * count) u,
+          ) whole;
+          given = Spells-append r.pairs bs (take (2 * count) u) out r.given s;
+          waits = rw waits (All-drop IsDigit (2 * count) u ((digits_append w digits).1 (fine r.waits, all)));
+        }
 
-  -- and it does so if no byte is written
-  pub goes_on_unwritten : (e : Decoder) (count : ℕ) → count ≡ length (w ++ digits) / 2 → AllDigits w → AllDigits digits
-      → error_of e ≡ None → position_of e ≡ counted (position_of d + length chunk)
-      → waiting_digit e ≡ drop (2 * count) (w ++ digits)
-      → (more : List ℕ) × HasRead e (t ++ chunk) (bs ++ more)
-  goes_on_unwritten e count half a b none index waits =
-      let u = w ++ digits in
-      let even : length (take (2 * count) u) % 2 ≡ 0 =
-      omega (arith, length-take-le (2 * count) u (omega (arith, half))) in
-      let bytes = Spells-some (take (2 * count) u) even
-      (All-take IsDigit (2 * count) u ((digits_append w digits).1 (a, b))) in
-      (bytes.0, goes_on e bytes.0 count a b bytes.1 none index waits)
+    -- and it does so if no byte is written
+    pub goes_on_unwritten : count ≡ length (w ++ digits) / 2 → (more : List ℕ) × HasRead e (t ++ chunk) (bs ++ more)
+    goes_on_unwritten half =
+        let pairs = take (2 * count) (w ++ digits) in
+        let even : length pairs % 2 ≡ 0 = simp length-take (omega (arith, half)) in
+        let (more, s) = Spells-some pairs even
+        (All-take IsDigit (2 * count) _ ((digits_append w digits).1 (fine r.waits, all))) in
+        (more, goes_on more s)
 
   -- what the chunk adds
   pub added : drop (2 * length bs) (body_of (t ++ chunk)) ≡ w ++ digits
@@ -175,24 +124,22 @@ module _ (d : Decoder) (t bs chunk w digits : List ℕ) (r : HasRead d t bs)
 
   -- the first invalid character is in the chunk
   -- `fail` names it, since only skipped bytes of the chunk stand before the digits
-  pub bad_by_now : (skipped p : ℕ) → skipped ≡ length chunk - length digits → length digits ≤ length chunk → AllDigits w
-      → FirstBad digits p
-      → NamesCounted (t ++ chunk) (slice_index digits p) (counted (position_of d + skipped + p))
-  bad_by_now skipped p e shorter a f =
+  pub bad_by_now : (p : ℕ) → length digits ≤ length chunk → FirstBad digits p
+      → NamesCounted (t ++ chunk) (slice_index digits p)
+      (counted (position_of d + (length chunk - length digits) + p))
+  bad_by_now p shorter f =
       let v = r.pairs ++ w in
       let body : body_of (t ++ chunk) ≡ v ++ digits = whole ∙ sym (append_assoc r.pairs w digits) in
-      let fine = (digits_append r.pairs w).1 (Spells-digits _ _ r.given, a) in
+      let fine = (digits_append r.pairs w).1 (Spells-digits _ _ r.given, fine r.waits) in
       let before = r.counts in
-      let size = length-append t chunk in
-      let parts : length (body_of (t ++ chunk)) ≡ length v + length digits = rw body (length-append v digits) in
-      let bound = body-shorter (t ++ chunk) in
+      let parts = ap length body ∙ length-append v digits in
       let named : FirstBad (v ++ digits) (length v + p) =
       FirstBad-after (length v) (v ++ digits) p (rw (take_at v digits (length v) refl) fine)
       (omega (arith, length-append v digits))
       (rw (drop_at v digits (length v) refl) f) in (
         length v + p + (length (t ++ chunk) - length (body_of (t ++ chunk))),
-        (length v + p, rw body named, rw body (behind v digits p), refl),
-        omega (arith, e, before, size, parts, bound),
+        (length v + p, rw body named, rw body (sym (get_or-append-add v digits p 0)), refl),
+        omega (arith, before, length-append t chunk, parts, body-shorter (t ++ chunk)),
       )
 
 -- ---- what was read is decoded
@@ -200,47 +147,37 @@ module _ (d : Decoder) (t bs chunk w digits : List ℕ) (r : HasRead d t bs)
 pub read_digits : (d : Decoder) (t bs : List ℕ) → HasRead d t bs → AllDigits (body_of t)
 read_digits d t bs r = rw r.whole ((digits_append r.pairs (waiting_digit d)).1 (Spells-digits _ _ r.given, r.waits))
 
-front_of : (u v bs : List ℕ) → Spells u bs → Spells (take (2 * length bs) (u ++ v)) bs
-front_of u v bs s = rw (take_at u v (2 * length bs) (Spells-length u bs s)) s
+body-longer : (t u : List ℕ) → 2 ≤ length t → body_of (t ++ u) ≡ body_of t ++ u
+body-longer t u h = grind arith
 
 -- whatever follows
 pub read_front : (d : Decoder) (t bs u : List ℕ) → HasRead d t bs → Spells (take (2 * length bs) (body_of (t ++ u))) bs
 read_front d t [] u r = tt
-read_front d [] (b ∷ bs) u r =
+read_front d t (b ∷ bs) u r =
     let twice = Spells-length r.pairs (b ∷ bs) r.given in
-    let size : 0 ≡ length r.pairs + length (waiting_digit d) =
-    ap length r.whole ∙ length-append r.pairs (waiting_digit d) in
-    absurd (omega (arith, twice, size))
-read_front d (c ∷ []) (b ∷ bs) u r =
-    let twice = Spells-length r.pairs (b ∷ bs) r.given in
-    let size : 1 ≡ length r.pairs + length (waiting_digit d) =
-    ap length r.whole ∙ length-append r.pairs (waiting_digit d) in
-    absurd (omega (arith, twice, size))
-read_front d (c ∷ e ∷ t) (b ∷ bs) u r =
-    let more : body_of ((c ∷ e ∷ t) ++ u) ≡ r.pairs ++ (waiting_digit d ++ u) =
-    longer ((c == 48) && (e == 120 || e == 88)) t (c ∷ e ∷ t) u ∙ ap (λ x. x ++ u) r.whole
-    ∙ append_assoc r.pairs (waiting_digit d) u in
-    rw more (front_of r.pairs (waiting_digit d ++ u) (b ∷ bs) r.given)
-
--- ---- digits alone have no invalid character
-
--- a rejected text does not have digits alone
-pub not_all : (w digits old new : List ℕ) → Partial old (w ++ digits) new → AllDigits w → AllDigits digits → ⊥
-not_all w digits old new p a b = digits_no_bad (w ++ digits) p.bad ((digits_append w digits).1 (a, b)) p.first_bad
+    let size = ap length r.whole ∙ length-append r.pairs (waiting_digit d) in
+    let long : 2 ≤ length t = omega (arith, twice, size, body-shorter t) in
+    rw (
+      body-longer t u long,
+      r.whole,
+      append_assoc r.pairs (waiting_digit d) u,
+      take_at r.pairs (waiting_digit d ++ u) (2 * length (b ∷ bs)) twice,
+    ) r.given
 
 -- ---- the end of a text
 
 -- no digit waits
-pub ends_even : (d : Decoder) (t bs : List ℕ) → HasRead d t bs → waiting_digit d ≡ [] → Reads t (Ok bs)
-ends_even d t bs r none =
-    let whole : body_of t ≡ r.pairs = r.whole ∙ rw none (append-nil r.pairs) in
-    let even = even_pairs r.pairs bs r.given in
-    let size = rw whole at (body-parity t) in
-    (omega (arith, even, size), rw whole r.given)
+none_waits : (d : Decoder) → d.state ≢ 1 → waiting_digit d ≡ []
+none_waits d other = grind arith
+
+pub ends_even : (d : Decoder) (t bs : List ℕ) → HasRead d t bs → d.state ≢ 1 → Reads t (Ok bs)
+ends_even d t bs r other =
+    let whole : body_of t ≡ r.pairs = r.whole ∙ rw (none_waits d other) (append-nil r.pairs) in
+    (omega (arith, Spells-length r.pairs bs r.given, ap length whole, body-parity t), rw whole r.given)
 
 -- a digit waits
-pub ends_odd : (d : Decoder) (t bs : List ℕ) (c : ℕ) → HasRead d t bs → waiting_digit d ≡ c ∷ [] → IsOdd (length t)
-ends_odd d t bs c r one =
-    let twice = Spells-length r.pairs bs r.given in
-    let size : length (body_of t) ≡ length r.pairs + 1 = rw (r.whole, one) (length-append r.pairs (c ∷ [])) in
-    omega (arith, twice, size, body-parity t)
+pub ends_odd : (d : Decoder) (t bs : List ℕ) → HasRead d t bs → d.state ≡ 1 → IsOdd (length t)
+ends_odd d t bs r is =
+    let one : length (waiting_digit d) ≡ 1 = grind arith in
+    let size = ap length r.whole ∙ length-append r.pairs (waiting_digit d) in
+    omega (arith, Spells-length r.pairs bs r.given, one, size, body-parity t)

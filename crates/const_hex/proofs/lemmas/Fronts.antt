@@ -8,11 +8,11 @@ use Rattle.const_hex_arch.specs.Texts.{Partial}
 pub partial_pairs : (old u new : List ℕ) (n : ℕ) → n ≤ length old → length u / 2 ≡ n → Partial (take n old) u new
     → Partial old u (new ++ drop n old)
 partial_pairs old u new n within sized p =
+    let front = take n old in
     let other = drop n old in
     let bad = p.first_bad.within in
-    let whole = take-append-drop n old in
     let in_new : p.done ≤ length new = grind (arith, common_steps) in
-    let in_old : p.done ≤ length (take n old) = grind (arith, common_steps) in
+    let in_old : p.done ≤ length front = grind (arith, common_steps) in
     record {
       bad = p.bad;
       done = p.done;
@@ -20,12 +20,8 @@ partial_pairs old u new n within sized p =
       not_past = p.not_past;
       same_length = grind (arith, common_steps);
       front = rw (take-append-le p.done new other in_new) p.front;
-      rest = rw (
-        drop-append-le p.done new other in_new,
-        p.rest,
-        ← drop-append-le p.done (take n old) other in_old,
-        whole,
-      ) refl;
+      rest = rw (drop-append-le p.done new other in_new, p.rest, ← drop-append-le p.done front other in_old)
+          (rw (take-append-drop n old) refl);
     }
 
 -- the same for an even text

@@ -1,12 +1,12 @@
 -- The canonical text of what a text decodes to.
-use Rattle.std.proofs.Common.{◌≡◌, ℕ, ◌+◌, ◌/◌, ◌%◌, nat_le, ◌&&◌, if◌then◌else◌, false, List, [], ◌∷◌, Some, refl, sym, ap, ◌∙◌, arith}
+use Rattle.std.proofs.Common.{◌≡◌, ℕ, ◌+◌, ◌/◌, ◌%◌, nat_le, ◌&&◌, if◌then◌else◌, false, List, [], ◌∷◌, Some, refl, sym, ◌∙◌, arith}
 use Rattle.std.specs.Prelude.{◌↔◌}
 use Rattle.std.proofs.lemmas.Bool.Decides.{nat_tests}
 use Rattle.const_hex_arch.specs.Texts.{hex_value, hex_digit, hex_text, Spells}
 use Rattle.const_hex_arch.proofs.lemmas.Digits.{hex_value-small}
 use Rattle.const_hex_arch.proofs.lemmas.Spelling.{Spells-same, Spells-bytes}
 use Rattle.const_hex_arch.proofs.lemmas.Texts.{Spells-hex_text}
-use Rattle.const_hex.specs.Results.{lowered, AreBytes}
+use Rattle.const_hex.specs.Results.{lowered}
 
 -- the lower digit of a digit's value
 lowered_digit : (c v : ℕ) → hex_value c ≡ Some v
@@ -17,29 +17,21 @@ lowered_digit c v h = grind (arith, nat_tests)
 pub hex_text-lowered : (u bs : List ℕ) → Spells u bs → hex_text false bs ≡ lowered u
 unfolding hex_text
 hex_text-lowered [] [] s = refl
-hex_text-lowered [] (b ∷ bs) s = absurd s
-hex_text-lowered (c ∷ []) bs s = absurd s
-hex_text-lowered (c ∷ d ∷ u) [] s = absurd s
 hex_text-lowered (c ∷ d ∷ u) (b ∷ bs) s =
     let low = hex_value-small d s.0.low s.0.low_is in
     let e = s.0.byte_is in
     let h : b / 16 ≡ s.0.high = omega (arith, low, e) in
     let l : b % 16 ≡ s.0.low = omega (arith, low, e) in
     rw (h, l, lowered_digit c s.0.high s.0.high_is, lowered_digit d s.0.low s.0.low_is, hex_text-lowered u bs s.1) refl
-
--- bytes with the same text are the same
-hex_text-same : (xs ys : List ℕ) → AreBytes xs → AreBytes ys → hex_text false xs ≡ hex_text false ys → xs ≡ ys
-hex_text-same xs ys hx hy e =
-    Spells-same (hex_text false ys) xs ys (rw (sym e) (Spells-hex_text false xs hx)) (Spells-hex_text false ys hy)
+hex_text-lowered _ _ s = absurd s
 
 -- two texts decode to the same bytes if and only if they are the same in lowercase
 pub Spells-agree : (u v xs ys : List ℕ) → Spells u xs → Spells v ys → (xs ≡ ys) ↔ (lowered u ≡ lowered v)
 Spells-agree u v xs ys s t =
     let a = hex_text-lowered u xs s in
-    let b = hex_text-lowered v ys t in (
-      λ e. sym a ∙ ap (hex_text false) e
-          ∙ b,
-      λ e. hex_text-same xs ys (Spells-bytes u xs s) (Spells-bytes v ys t) (a ∙ e ∙ sym b),
-    )
+    let b = hex_text-lowered v ys t in
+    let of_xs = Spells-hex_text false xs (Spells-bytes u xs s) in
+    let of_ys = Spells-hex_text false ys (Spells-bytes v ys t) in
+    (λ e. cc, λ e. Spells-same (hex_text false xs) xs ys of_xs (rw (a ∙ e ∙ sym b) of_ys))
 
 pub ruleset read_back = (hex_text-lowered, Spells-agree)

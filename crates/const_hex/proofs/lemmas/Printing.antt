@@ -2,7 +2,7 @@
 use Rattle.std.proofs.Common.{◌≡◌, ℕ, Bool, false, List, [], ◌∷◌, refl, subst, ◌∙◌}
 use Rattle.std.specs.List.{concat}
 use Rattle.std.specs.Prelude.{Result}
-use Rattle.std.specs.Fmt.{IsFlush, HasWrittenStyled, WritesOnOk, WritesStyledOnOk, formatter_spec, spec_alternate}
+use Rattle.std.specs.Fmt.{WritesOnOk, WritesStyledOnOk, formatter_spec, spec_alternate}
 use Rattle.std.specs.declared.fmt.Error.{Error}
 use Rattle.std.specs.declared.fmt.Formatter.{Formatter}
 use Rattle.std.proofs.Output.{has_written_styled_nil, has_written_styled_append}
@@ -10,7 +10,7 @@ use Rattle.const_hex_arch.specs.Sinks.{Offers, Streams}
 use Rattle.const_hex_arch.specs.Texts.{hex_text, full_text}
 use Rattle.const_hex_arch.proofs.lemmas.Streams.{Offers-accepting, Streams-all}
 use Rattle.const_hex.specs.declared.formatting.sink.FormatterSink.{FormatterSink}
-use Rattle.const_hex.specs.Writers.{FormatterStep, sink_formatter}
+use Rattle.const_hex.specs.Writers.{FormatterStep}
 
 module _ {W : Type 0} (took : W → List ℕ → W → Type 0) where
   -- if nothing failed, pieces are written as one
@@ -32,13 +32,6 @@ module _ {W : Type 0} (took : W → List ℕ → W → Type 0) where
       → Streams (FormatterStep took) (λ x. x.failed) s text t → FormatterStep took s text t
   printed_stream s text t e h =
       rw h.cut.whole at (offered_text s h.pieces t e (Streams-all (FormatterStep took) (λ x. x.failed) s text t e h))
-
-  -- the same for the formatters that the sinks begin and end with
-  pub written_at : (s : FormatterSink W) (text : List ℕ) (t : FormatterSink W) → t.failed ≡ false
-      → FormatterStep took s text t
-      → (f : Formatter W) → sink_formatter s ≡ f → IsFlush f → (g : Formatter W) → g ≡ sink_formatter t
-      → HasWrittenStyled took f text g
-  written_at s text t ok h f a p g e = rw (e, ← a) (h.writes ok (rw (← a) at p))
 
   -- a formatter without options writes no prefix
   pub plain_from_styled : (f : Formatter W) (r : Result (Unit {0}) Error) (up : Bool) (bs : List ℕ) (g : Formatter W)

@@ -9,7 +9,6 @@ use Rattle.const_hex_arch.proofs.lemmas.Spelling.{Spells-same, Spells-digits}
 use Rattle.const_hex.specs.Results.{body_of, Reads, ReadsSized, Checks, ChecksText, IsEven, is_text_of}
 use Rattle.const_hex.specs.TypeLaws.{body-parity}
 use Rattle.const_hex.specs.declared.error.FromHexError.{FromHexError}
-use Rattle.const_hex.specs.declared.error.FromHexError.TheVariants.{OddLength, InvalidStringLength, InvalidHexCharacter, NoMemory}
 
 -- no text decodes to bytes and has an invalid character
 pub Spells-no_bad : (u bs : List ℕ) (p : ℕ) → Spells u bs → FirstBad u p → ⊥
@@ -18,24 +17,21 @@ Spells-no_bad u bs p s f = digits_no_bad u p (Spells-digits u bs s) f
 -- a text that is read has one result
 pub one_answer : (t : List ℕ) (r s : Result (List ℕ) FromHexError) → Reads t r → Reads t s → r ≡ s
 one_answer t (Ok a) (Ok b) h k = ap Ok (Spells-same (body_of t) a b h.1 k.1)
-one_answer t (Ok a) (Err f) h k = absurd (grind (arith, Spells-no_bad))
-one_answer t (Err e) (Ok b) h k = absurd (grind (arith, Spells-no_bad))
 one_answer t (Err e) (Err f) h k = ap Err (grind (arith, FirstBad-same))
+one_answer t _ _ h k = absurd (grind (arith, Spells-no_bad))
 
 -- a text that is read as n bytes has one result
 pub one_sized_answer : (t : List ℕ) (n : ℕ) (r s : Result (List ℕ) FromHexError) → ReadsSized t n r → ReadsSized t n s
     → r ≡ s
 one_sized_answer t n (Ok a) (Ok b) h k = one_answer t (Ok a) (Ok b) h.1 k.1
-one_sized_answer t n (Ok a) (Err f) h k = absurd (grind (arith, Spells-no_bad))
-one_sized_answer t n (Err e) (Ok b) h k = absurd (grind (arith, Spells-no_bad))
 one_sized_answer t n (Err e) (Err f) h k = ap Err (grind (arith, FirstBad-same))
+one_sized_answer t n _ _ h k = absurd (grind (arith, Spells-no_bad))
 
 -- a text that is checked has one result
 pub one_check_answer : (t : List ℕ) (r s : Result Unit FromHexError) → Checks t r → Checks t s → r ≡ s
 one_check_answer t (Ok u) (Ok v) h k = refl
-one_check_answer t (Ok u) (Err f) h k = cc (one_answer t (Ok h.0) (Err f) h.1 k)
-one_check_answer t (Err e) (Ok v) h k = cc (one_answer t (Err e) (Ok k.0) h k.1)
 one_check_answer t (Err e) (Err f) h k = cc (one_answer t (Err e) (Err f) h k)
+one_check_answer t _ _ h k = absurd (grind (arith, Spells-no_bad))
 
 -- ---- what the calls return
 
@@ -62,18 +58,14 @@ is_text-parts n t e = let p = and_parts _ _ e in (eqb-true _ _ p.0, AllPass-from
 -- and no text of n bytes is rejected
 text_not_refused : (n : ℕ) (t : List ℕ) (e : FromHexError) → ReadsSized t n (Err e)
     → (length (body_of t) ≡ 2 * n) × AllDigits (body_of t) → ⊥
-text_not_refused n t OddLength h is = omega (arith, is.0, body-parity t, h)
-text_not_refused n t InvalidStringLength h is = h.1 is.0
-text_not_refused n t (InvalidHexCharacter c i) h is = digits_no_bad (body_of t) h.1.1.0 is.1 h.1.1.1
-text_not_refused n t NoMemory h is = h
+text_not_refused n t e h is = grind (arith, digits_no_bad, body-parity)
 
 -- a text is read as n bytes if and only if the test says so
 pub sized_accepts : (n : ℕ) (t : List ℕ) (r : Result (List ℕ) FromHexError) → ReadsSized t n r
     → IsOk r ↔ IsTrue (is_text_of n t)
 sized_accepts n t (Ok bs) h = (
   λ _. and_from _ _ (eq-eqb _ _ h.0) (list_all-from_AllPass _ (body_of t) (Spells-digits (body_of t) bs h.1.1)),
-  λ _.
-      refl,
+  λ _. refl,
 )
 sized_accepts n t (Err e) h = (λ gone. absurd (cc gone), λ is. absurd (text_not_refused n t e h (is_text-parts n t is)))
 

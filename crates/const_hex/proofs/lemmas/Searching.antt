@@ -1,9 +1,8 @@
 -- A search for the first byte from a start on that is not a digit.
 use Rattle.std.proofs.Common.{◌≡◌, ◌≢◌, ◌-◌, ◌+◌, ◌<◌, ◌≤◌, ◌↔◌, ℕ, List, length, take, drop, get_or, bit_or, ltb, IsTrue, ap, arith, length-drop}
-use Rattle.std.specs.Prelude.{IsNone}
 use Rattle.std.proofs.lemmas.Bool.Decides.{nat_tests}
 use Rattle.std.proofs.lemmas.List.{get_or-drop, take_all}
-use Rattle.const_hex_arch.specs.Texts.{AllDigits, IsDigit, FirstBad, value_or_nil, hex_value}
+use Rattle.const_hex_arch.specs.Texts.{AllDigits, IsDigit, value_or_nil, hex_value}
 use Rattle.std.proofs.lemmas.Nat.{or_lt}
 use Rattle.const_hex_arch.proofs.lemmas.Digits.{digit_small, two_digits}
 use Rattle.const_hex_arch.proofs.lemmas.DigitTexts.{digits_more}
@@ -43,15 +42,6 @@ pub two_on : (u : List ℕ) (start i j next : ℕ) → start ≤ i → j < lengt
 two_on u start i j next after within one two first second done =
     let middle = digit_on u start i j after (omega (arith, within, one)) one (has_value (get_or u i 0) first) done in
     digit_on u start j next (omega (arith, after, one)) within two (has_value (get_or u j 0) second) middle
-
--- a byte that is no digit
-pub found : (u : List ℕ) (start i : ℕ) → start ≤ i → i < length u → AllDigits (take (i - start) (drop start u))
-    → IsNone (hex_value (get_or u i 0)) → FirstBad (drop start u) (i - start)
-found u start i after within done none = record {
-  within = rw (length-drop start u) (omega arith);
-  before = done;
-  here = rw (from_start u start i after) none;
-}
 
 -- the end
 pub none_left : (u : List ℕ) (start i : ℕ) → length u ≤ i → AllDigits (take (i - start) (drop start u))

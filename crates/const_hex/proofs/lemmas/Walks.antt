@@ -1,6 +1,5 @@
--- Proofs by hand, which follow the machine's steps, for calls with a starred clause (`after`). Such
--- a clause says what a buffer or a slice holds after the text that it lent is given back. The
--- borrow checker cannot prove it.
+-- Proofs by hand, which follow the machine's steps, for calls with a starred clause (`after`). Such a clause says what
+-- a buffer or a slice holds after the text that it lent is given back. The borrow checker cannot prove it.
 --
 -- `LentText` is the walk for a function that takes the text out of the struct that one call returns:
 -- `Buffer::format`, `format_upper`, `format_slice`, `format_slice_upper`. It passes on the clauses of
@@ -8,12 +7,10 @@
 -- one call, and shares it with another: `encode_to_str` and `encode_to_str_upper`. The `Proof.antt`
 -- of each function names its calls and passes them to its walk.
 --
--- What breaks a walk: it names the function's locals by their numbers, and takes its calls in their
--- order. So a new local, a new call or another order in one of these functions breaks it. Other
--- code does not.
+-- What breaks a walk: it names the function's locals by their numbers, and takes its calls in their order. So a new
+-- local, a new call or another order in one of these functions breaks it. Other code does not.
 --
--- How to mend one: as `proofs/lemmas/Walks.antt` of `const_hex_arch` says, with `--start F` for the
--- function F.
+-- How to mend one: as `proofs/lemmas/Walks.antt` of `const_hex_arch` says, with `--start F` for the function F.
 pub mod EncodedStr
 pub mod LentText
 use Rattle.std.proofs.Common.{Bool, true, false, List}

@@ -1,8 +1,9 @@
 -- Texts that are passed to a writer in pieces.
-use Rattle.std.proofs.Common.{◌≡◌, ℕ, ◌+◌, ◌-◌, ◌≤◌, Bool, true, false, List, [], ◌∷◌, ◌++◌, length, take, drop, Option, refl, sym, ap, subst, ◌∙◌, arith}
+use Rattle.std.proofs.Common.{◌≡◌, ℕ, ◌+◌, ◌-◌, ◌≤◌, true, false, List, [], ◌∷◌, ◌++◌, length, take, drop, Option, refl, sym, ap, ◌∙◌, arith, inl, inr}
+use Rattle.std.proofs.lemmas.Bool.{cases_Bool, false_from_ne_true}
 use Rattle.std.proofs.KnownBytes.{Appends-kept, Appends-nil, Appends-trans}
 use Rattle.std.proofs.Math.Seq.{take-add, take-append-add}
-use Rattle.std.proofs.lemmas.List.{append_assoc, drop_all, take_all, take_min, take-append-drop, take-append-le, length-drop, length-take}
+use Rattle.std.proofs.lemmas.List.{append_assoc, drop_all, take_min, take_rest, take-append-drop, take-append-le, length-drop, length-take}
 use Rattle.std.proofs.lemmas.List.Folds.{concat-append}
 use Rattle.std.specs.Io.KnownBytes.{Appends}
 use Rattle.std.specs.List.{concat}
@@ -23,8 +24,8 @@ pub write_step : (a b c : Option (List ℕ)) (bytes : List ℕ) (done n : ℕ)
     → Appends b c (take n (take (length bytes - done) (drop done bytes)))
     → Appends a c (take (done + n) bytes)
 write_step a b c bytes done n p q =
-    let all = take_all (length bytes - done) (drop done bytes) (simp length-drop (omega arith)) in
-    rw (take-add done n bytes) (Appends-trans a b c (take done bytes) (take n (drop done bytes)) p (rw all at q))
+    rw (take-add done n bytes)
+    (Appends-trans a b c (take done bytes) (take n (drop done bytes)) p (rw (take_rest bytes done) at q))
 
 pub ruleset writes = (step_within, write_step, Appends-kept)
 
@@ -34,24 +35,22 @@ both_empty (x ∷ a) b e = cc e
 
 module _ {W : Type 0} (contents : W → Option (List ℕ)) where
   -- a text that follows another is written, unless the first failed and nothing more was tried
-  joined : (s : WriteSink W) (a : List ℕ) (m : WriteSink W) (b : List ℕ) (t : WriteSink W) (failed : Bool)
-      → has_failed m ≡ failed
+  joined : (s : WriteSink W) (a : List ℕ) (m : WriteSink W) (b : List ℕ) (t : WriteSink W)
       → WriteStep contents s a m → WriteStep contents m b t → (has_failed m ≡ true → t ≡ m)
       → WriteStep contents s (a ++ b) t
-  joined s a m b t false is h k stays = record {
+  joined s a m b t h k stays = record {
     same_writer = k.same_writer ∙ h.same_writer;
-    accepted = λ u. Appends-trans _ _ _ a b (h.accepted is) (k.accepted u);
-    refused = λ u.
-        let r = k.refused u in
-        (length a + r.0, rw (take-append-add a b r.0) (Appends-trans _ _ _ a (take r.0 b) (h.accepted is) r.1));
-    nothing = λ e. let none = both_empty a b e in k.nothing none.1 ∙ h.nothing none.0;
-  }
-  joined s a m b t true is h k stays = record {
-    same_writer = k.same_writer ∙ h.same_writer;
-    accepted = λ u. absurd (cc (stays is));
-    refused = λ _.
-        let r = h.refused is in
-        (min r.0 (length a), rw (stays is, take-append-le (min r.0 (length a)) a b (omega arith), take_min r.0 a) r.1);
+    accepted = λ u.
+        let before = false_from_ne_true (has_failed m) (λ v. cc (stays v)) in
+        Appends-trans _ _ _ a b (h.accepted before) (k.accepted u);
+    refused = λ u. elim (cases_Bool (has_failed m)) [
+      | inl first ↦
+          let r = h.refused first in let n = min r.0 (length a) in
+          (n, rw (stays first, take-append-le n a b (omega arith), take_min r.0 a) r.1)
+      | inr before ↦
+          let r = k.refused u in
+          (length a + r.0, rw (take-append-add a b r.0) (Appends-trans _ _ _ a (take r.0 b) (h.accepted before) r.1))
+    ];
     nothing = λ e. let none = both_empty a b e in k.nothing none.1 ∙ h.nothing none.0;
   }
 
@@ -73,7 +72,7 @@ module _ {W : Type 0} (contents : W → Option (List ℕ)) where
   }
   passed s (p ∷ ps) t left (e, (m, h, k)) none =
       rw append_assoc
-      (joined s p m (concat ps ++ left) t (has_failed m) refl h (passed m ps t left k none) (none_after m ps t k))
+      (joined s p m (concat ps ++ left) t h (passed m ps t left k none) (none_after m ps t k))
 
   -- a text that is passed in pieces is written as if it were one piece
   pub streamed_text : (s : WriteSink W) (text : List ℕ) (t : WriteSink W)
@@ -83,6 +82,6 @@ module _ {W : Type 0} (contents : W → Option (List ℕ)) where
       let left = drop h.offered h.pieces in
       let whole : concat offered ++ concat left ≡ text =
       sym (concat-append offered left) ∙ ap (λ x. concat x) (take-append-drop h.offered h.pieces) ∙ h.cut.whole in
-      subst (λ x. WriteStep contents s x t) whole
+      rw whole at
       (passed s offered t (concat left) h.run
       (λ u. ap (λ x. concat x) (drop_all h.offered h.pieces (omega (arith, h.complete u)))))

@@ -8,7 +8,7 @@ use base.Fml.{Lft, Share}
 use base.Fraction.{full_share}
 use base.Logic.{ent, ex_i}
 use base.Stored.{coded_list}
-use Rattle.const_hex_arch.proofs.lemmas.Walks.LaneOptions.{◌≡◌, ℕ, ◌*◌, Bool, true, false, List, [], ◌∷◌, length, refl, ap, ◌∙◌, Bor, MutBor, ◌↔◌, IsOk, IfOk, Ok, Err, IfErr, MatchResult, Result, proved, sep, id⊢, emp, GName, ftrue, flft, fres, Fn, Callee, local, value_local, ty_ref, ty_int, imm, mut, erased, field, deref, place, copy, addr_of, aggregate, assign, call, seq, named, w8, Val, fact, fact_i, Running, tables, Meets, ‵, raw, ◌⊛◌, some, later, ◌$◌, ◌∵◌, !, qed, done, move, drop, use0, use1, use2, split, join, pick, await, rewrite, suffices, frame, group, enter, addr, stop, fld, hop, from, no_more, and_then, returns, agg, whole, sub, alloc_all, pass_all, free_all, look_at, look_in_at, get, get_in, sets, lands_as, u8, bool, SliceRefOf, yes, no, Is, shows, bool_vals, bool_Makes, nothing, owned, heard, peeks, only, calls_at, Clauses, closing, lasts, Lasts, triple_of, Stays, stay_dropped, Goes-dropped, Goes-spent_slice, ends_at, framed, Model, Closed, Ura, Logic, sem, plain}
+use Rattle.const_hex_arch.proofs.lemmas.Walks.LaneOptions.{◌≡◌, ℕ, ◌*◌, Bool, List, [], ◌∷◌, length, refl, ap, ◌∙◌, Bor, MutBor, ◌↔◌, IsOk, IfOk, Ok, Err, IfErr, MatchResult, Result, proved, sep, id⊢, emp, GName, ftrue, flft, fres, Fn, Callee, local, value_local, ty_ref, ty_int, imm, mut, erased, field, deref, place, copy, addr_of, aggregate, assign, call, seq, named, w8, Val, fact, fact_i, Running, tables, Meets, ‵, raw, ◌⊛◌, some, later, ◌$◌, ◌∵◌, !, qed, done, move, drop, use0, use1, use2, split, join, pick, await, rewrite, suffices, frame, group, enter, addr, stop, fld, hop, from, no_more, and_then, returns, agg, whole, sub, alloc_all, pass_all, free_all, look_at, look_in_at, get, get_in, sets, lands_as, u8, bool, SliceRefOf, yes, no, Is, shows, bool_vals, bool_Makes, nothing, owned, heard, peeks, only, calls_at, Clauses, closing, lasts, Lasts, triple_of, Stays, stay_dropped, Goes-dropped, Goes-spent_slice, ends_at, framed, Model, Closed, Ura, Logic, sem, plain}
 use mir.Syntax.{Lifetime, return as end}
 use types.Kit.{split3, fsplit, fjoin, feq_i, updating, now}
 use borrow.Rule.Slice.Handed.{sl_Share}
@@ -36,16 +36,13 @@ use Rattle.const_hex.specs.contracts.codec.encoders.encoded_text as h
 use Rattle.const_hex.proofs.error.FromHexError.TheLaws as refusal_laws
 use Rattle.const_hex.proofs.lemmas.Walks.{flag, flag_lit}
 
-not_ok : false ≡ true → ⊥
-not_ok e = cc
-
 -- what the slice ends as, and what is lent of it
 ends : {A : Type 0} {m k : ℕ} {text old new : List ℕ} (r : Result (Bor (List ℕ)) A) → IsOk r ↔ (k ≡ m)
     → IfOk r (λ w. w.now ≡ new)
     → ((k ≡ m) → new ≡ text) → ((k ≢ m) → new ≡ old)
     → IfOk r (λ w. w.now ≡ text) × MatchResult r (λ _. new ≡ text) (λ _. new ≡ old)
 ends (Ok w) fits lent filled kept = let e = filled (fits.0 refl) in (lent ∙ e, e)
-ends (Err e) fits lent filled kept = (tt, kept (λ k. absurd (not_ok (fits.1 k))))
+ends (Err e) fits lent filled kept = (tt, kept (λ k. cc (fits.1 k)))
 
 abbrev code_of : Bool → Fn
 code_of up = record {
@@ -184,9 +181,8 @@ module _ {M : Type 1} (𝓤 : Ura M) (𝓛 : Logic 𝓤) (𝓜 : Model 𝓤 𝓛
       move ! (1 ∷ 3 ∷ []) $ join ! $ move ! (3 ∷ 0 ∷ []) $ join ! $ nothing ! $ move ! (3 ∷ 0 ∷ []) $ join ! $ move !
       (3 ∷ 0 ∷ []) $ join ! $ move ! (1 ∷ 0 ∷ []) $ join ! $
       let zh : H.Ghost = ((κs, qs, tt, (x, (as_bor s, tt)), (shr_slice_vals x, (mut_slice_vals s, tt))), tt) in
-      let asked = (length s.now ≡ m) → IsAscii s.now in
-      use0 𝓛 (raw (fact 𝓤 asked)) (fact_i 𝓤 asked (emp 𝓤) ascii) $ move ! (1 ∷ 0 ∷ []) $ use2 𝓛 (raw (H.pre zh))
-      (id⊢ 𝓤 _) $
+      use0 𝓛 (raw (fact 𝓤 ((length s.now ≡ m) → IsAscii s.now))) (fact_i 𝓤 _ _ ascii) $ move ! (1 ∷ 0 ∷ []) $
+      use2 𝓛 (raw (H.pre zh)) (id⊢ 𝓤 _) $
       calls_at ! (framed 𝓤 𝓛.H 𝓜 𝓣) H hands_met zh
       (and_then ! (get ! refl) (and_then ! (get ! refl) (no_more !))) (λ v'.
       use1 𝓛 (later (some (λ (r : Returned.Denot). (tokens ⊛ ‵ (Returned.own_val r (v' ∷ []))) ⊛
@@ -212,9 +208,8 @@ module _ {M : Type 1} (𝓤 : Ura M) (𝓛 : Logic 𝓤) (𝓜 : Model 𝓤 𝓛
       -- [what follows the loan; the result; the tokens]
       move ! (1 ∷ 0 ∷ []) $ nothing ! $ nothing ! $ join ! $ nothing ! $ join ! $ move ! (3 ∷ 0 ∷ 1 ∷ []) $ group ! 3 $
       frame ! $
-      use0 𝓛 (raw (fact 𝓤 (IsOk r ↔ (length o.now ≡ m))))
-      (fact_i 𝓤 (IsOk r ↔ (length o.now ≡ m)) (emp 𝓤) (subst (λ k. IsOk r ↔ (k ≡ m)) long fits)) $ frame ! $
-      use0 𝓛 (raw (fact 𝓤 (IfOk r (λ w. w.now ≡ hex_text up x.now))))
-      (fact_i 𝓤 (IfOk r (λ w. w.now ≡ hex_text up x.now)) (emp 𝓤) ended.0) $ frame ! $
-      use0 𝓛 (raw (fact 𝓤 (IfErr r (λ x. x ≡ InvalidStringLength))))
-      (fact_i 𝓤 (IfErr r (λ x. x ≡ InvalidStringLength)) (emp 𝓤) error) $ frame ! $ done !))))))))))))))))))
+      use0 𝓛 (raw (fact 𝓤 (IsOk r ↔ (length o.now ≡ m)))) (fact_i 𝓤 _ _ (subst (λ k. IsOk r ↔ (k ≡ m)) long fits)) $
+      frame ! $
+      use0 𝓛 (raw (fact 𝓤 (IfOk r (λ w. w.now ≡ hex_text up x.now)))) (fact_i 𝓤 _ _ ended.0) $ frame ! $
+      use0 𝓛 (raw (fact 𝓤 (IfErr r (λ x. x ≡ InvalidStringLength)))) (fact_i 𝓤 _ _ error) $ frame ! $
+      done !))))))))))))))))))

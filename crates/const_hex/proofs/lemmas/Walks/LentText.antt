@@ -1,12 +1,12 @@
 -- A function that fills a buffer by one call, and lends the text that this call lends in a struct.
 -- One walk serves every such function, whatever the two promise.
-use Rattle.const_hex_arch.proofs.lemmas.Walks.LaneOptions.{ℕ, length, Bool, List, [], ◌∷◌, refl, ap, T, proved, id⊢, ftrue, Ty, Fn, Callee, Args, local, value_local, ty_ref, ty_int, imm, mut, erased, field, deref, place, copy, rv_opd, addr_of, assign, call, seq, a_number, named, w8, Val, vptr, WT, has_ty, Running, tables, Model, Closed, Ura, Logic, ‵, raw, ◌⊛◌, some, later, ◌$◌, ◌∵◌, !, qed, done, move, drop, use1, use2, split, join, pick, await, suffices, enter, of_opd, addr, fld, stop, no_more, and_then, returns, alloc_all, pass_all, free_all, look_at, get, get_in, sub, whole, through, sets, lands_as, u8, bool, RefOf, SliceRefOf, RefMutOf, yes, no, left, Is, Tells, shows, bool_vals, bool_Makes, Slot, plain, nothing, owned, peeks, only, calls_at, Clauses, Ended, closing, lasts, Lasts, Meets, triple_of, RattleType, framed, ends_at}
+use Rattle.const_hex_arch.proofs.lemmas.Walks.LaneOptions.{ℕ, length, Bool, List, [], ◌∷◌, refl, ap, T, proved, id⊢, ftrue, Ty, Fn, Callee, local, value_local, ty_ref, ty_int, imm, mut, erased, field, deref, place, copy, rv_opd, addr_of, assign, call, seq, a_number, named, w8, Val, vptr, WT, has_ty, Running, tables, Model, Closed, Ura, Logic, ‵, raw, ◌⊛◌, some, later, ◌$◌, ◌∵◌, !, qed, done, move, drop, use1, use2, split, join, pick, await, suffices, enter, of_opd, addr, fld, stop, no_more, and_then, returns, alloc_all, pass_all, free_all, look_at, get, get_in, sub, whole, through, sets, lands_as, u8, bool, RefOf, SliceRefOf, RefMutOf, yes, no, left, Is, Tells, shows, bool_vals, bool_Makes, Slot, plain, nothing, owned, peeks, only, calls_at, Clauses, Ended, closing, lasts, Lasts, Meets, triple_of, RattleType, framed, ends_at}
 use mir.Syntax.{return as end}
 use types.Kit.{fsplit, fjoin}
 use contract.Lifetimes.{Lfts}
 use denote.Exit.{Kept}
 use denote.Memory.{pointee}
-use denote.Param.{number, layout, layouts, Types, param, ArrayAt}
+use denote.Param.{number, layout, Types, param, ArrayAt}
 use denote.Ref.{mut_vals, mut_Tells, shr_Tells}
 use denote.Signature.{named_lft}
 use denote.Signature.Struct.{takes}
@@ -55,12 +55,9 @@ slice_input = record {
 }
 
 module _ (n p len : ℕ) where
-  -- the parameters' rows, and their layouts
+  -- the parameters' rows
   abbrev pub numbers : Types (a_number ∷ a_number ∷ a_number ∷ [])
   numbers = (number n, (number p, (number len, tt)))
-
-  abbrev pub layout_of : Args
-  layout_of = layouts (a_number ∷ a_number ∷ a_number ∷ []) numbers
 
   -- an array of N bytes
   abbrev pub array_input : Input

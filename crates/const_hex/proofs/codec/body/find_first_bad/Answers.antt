@@ -1,8 +1,8 @@
-use Rattle.std.proofs.Common.{◌∙◌, ◌-◌, drop, get_or, refl, arith}
+use Rattle.std.proofs.Common.{◌∙◌, ◌-◌, drop, get_or, refl, arith, rules, length-drop}
 use Rattle.const_hex_arch.specs.Texts.{FirstBad}
 use Rattle.const_hex_arch.proofs.lemmas.Digits.{value_not_found}
 use Rattle.const_hex_arch.proofs.lemmas.FirstInvalid.{digits_no_bad}
-use Rattle.const_hex.proofs.lemmas.Searching.{digit_on, found, none_left}
+use Rattle.const_hex.proofs.lemmas.Searching.{digit_on, from_start, none_left}
 use Rattle.const_hex.proofs.codec.body.find_first_bad.Goals as goal
 
 -- the byte at the index is no digit
@@ -10,8 +10,11 @@ here : (c : goal.Then-value_at) → FirstBad (drop c.args.start c.args.text.now)
 here c =
     let (done, after, _) = c.digits.invariant in
     let none = value_not_found (get_or c.args.text.now c.digits.index 0) c.value_at.result c.value_at.ensures
-    c.if-value_at.true in
-    found c.args.text.now c.args.start c.digits.index after c.digits-test.true done none
+    c.if-value_at.true in record {
+      within = rw (length-drop c.args.start c.args.text.now) (omega (arith, c.digits-test.true));
+      before = done;
+      here = rw (from_start c.args.text.now c.args.start c.digits.index after) none;
+    }
 
 pub returns-then-value_at-clause-bad : goal.returns-then-value_at-clause-bad
 returns-then-value_at-clause-bad c = λ _. here c
@@ -41,5 +44,4 @@ returns-clause-all c =
     )
 
 pub returns-then-value_at-clause-within : goal.returns-then-value_at-clause-within
-returns-then-value_at-clause-within c =
-    let (_, after, _) = c.digits.invariant in (omega (arith, after), omega (arith, c.digits-test.true))
+returns-then-value_at-clause-within c = search rules

@@ -1,12 +1,12 @@
-use Rattle.std.proofs.Common.{◌≡◌, ◌-◌, ◌+◌, ◌<◌, ◌≤◌, ◌==◌, ◌&&◌, ◌||◌, ◌∙◌, ℕ, Bool, if◌then◌else◌, List, [], ◌∷◌, length, take, drop, get_or, true, false, refl, sym, arith}
+use Rattle.std.proofs.Common.{◌≡◌, ◌-◌, ◌+◌, ◌<◌, ◌≤◌, ◌==◌, ◌&&◌, ◌||◌, ◌∙◌, ℕ, Bool, if◌then◌else◌, List, length, take, drop, get_or, true, false, refl, sym, arith, length-drop}
 use Rattle.std.proofs.lemmas.Bool.Decides.{nat_tests}
-use Rattle.std.proofs.lemmas.List.{get_or-drop, take-append-drop}
-use Rattle.std.proofs.lemmas.List.Elements.{All-nil, All-cons}
+use Rattle.std.proofs.lemmas.List.{get_or-drop}
+use Rattle.std.proofs.lemmas.List.Elements.{All-nil}
 use Rattle.const_hex_arch.specs.Texts.{AllDigits, IsDigit}
-use Rattle.const_hex_arch.proofs.lemmas.DigitTexts.{digits_append}
 use Rattle.const_hex_arch.proofs.lemmas.FirstInvalid.{FirstBad-after}
 use Rattle.const_hex.specs.Results.{body_of, IsEven}
-use Rattle.const_hex.proofs.lemmas.Searching.{from_start}
+use Rattle.const_hex.proofs.lemmas.Decoding.{digits_whole}
+use Rattle.const_hex.proofs.lemmas.Searching.{from_start, two_on}
 use Rattle.const_hex.proofs.codec.body.find_invalid_character.Goals as goal
 use Rattle.const_hex.proofs.codec.body.find_invalid_character.Goals.{then-are_digits, in-len4-up, in_default, in_default-2, else-are_digits}
 
@@ -22,27 +22,19 @@ whole t k e digits within = rw e (k, refl, digits, within, omega arith)
 
 -- a text of less than four characters, of which one is invalid, has no prefix
 no_prefix : (t : List ℕ) → length t < 4 → IsEven (length t) → (AllDigits (body_of t) → ⊥) → body_of t ≡ t
-no_prefix [] short even bad = refl
-no_prefix (c ∷ []) short even bad = refl
-no_prefix (c ∷ d ∷ []) short even bad = grind (arith, All-nil IsDigit)
-no_prefix (c ∷ d ∷ e ∷ []) short even bad = absurd (omega (arith, even))
-no_prefix (c ∷ d ∷ e ∷ f ∷ t) short even bad = absurd (omega (arith, short))
+no_prefix t short even bad = grind (arith, All-nil IsDigit)
 
 after_digits : (t : List ℕ) → 4 ≤ length t → IsDigit (get_or t 0 0) → IsDigit (get_or t 1 0) → Begins t 2
-after_digits [] long first second = absurd (omega (arith, long))
-after_digits (c ∷ []) long first second = absurd (omega (arith, long))
-after_digits (c ∷ d ∷ t) long first second =
-    whole (c ∷ d ∷ t) 2 (grind (arith, nat_tests))
-    (All-cons IsDigit c (d ∷ []) first (All-cons IsDigit d [] second (All-nil IsDigit))) (omega (arith, long))
+after_digits t long first second =
+    let digits = two_on t 0 0 1 2 (omega arith) (omega arith) refl refl first second (All-nil IsDigit) in
+    whole t 2 (grind (arith, nat_tests)) digits (omega (arith, long))
 
 by_prefix : (t : List ℕ) (is : Bool) → 4 ≤ length t
     → ((get_or t 0 0 == 48) && (get_or t 1 0 == 120 || get_or t 1 0 == 88)) ≡ is → Begins t (if is then 2 else 0)
-by_prefix [] is long e = absurd (omega (arith, long))
-by_prefix (c ∷ []) is long e = absurd (omega (arith, long))
-by_prefix (c ∷ d ∷ t) false long e = whole (c ∷ d ∷ t) 0 (grind (arith, nat_tests)) (All-nil IsDigit) (omega arith)
-by_prefix (c ∷ d ∷ t) true long e =
-    let without : body_of (c ∷ d ∷ t) ≡ t = grind (arith, nat_tests) in
-    rw without (0, refl, All-nil IsDigit, omega arith, omega arith)
+by_prefix t false long e = whole t 0 (grind (arith, nat_tests)) (All-nil IsDigit) (omega arith)
+by_prefix t true long e =
+    let without : body_of t ≡ drop 2 t = grind (arith, nat_tests) in
+    rw without (0, refl, All-nil IsDigit, omega arith, omega (arith, length-drop 2 t))
 
 begins : (c : goal.After-from) → Begins c.args.text.now c.if-text-lt4.start
 begins c = elim c.if-text-lt4.branch [
@@ -71,10 +63,8 @@ returns c =
     let start = c.if-text-lt4.start in
     let found = c.find_first_bad-byte in
     let (k, rest, digits, within, is) = begins c in
-    let more : AllDigits (drop start t) → AllDigits (body_of t) =
-    λ a. rw (take-append-drop k (body_of t)) at ((digits_append _ _).1 (digits, rw rest at a)) in
     let bad = FirstBad-after k (body_of t) (found.result.1 - start) digits within
-    (rw rest at (found.ensures.bad (λ a. c.requires.bad (more a)))) in
+    (rw rest at (found.ensures.bad (λ a. c.requires.bad (digits_whole (body_of t) k digits (rw rest at a))))) in
     let after = found.ensures.within.0 in
     let here = sym (from_start t start found.result.1 after) in
     let byte = c.from.ensures ∙ found.ensures.byte ∙ rw rest at here ∙ get_or-drop k (body_of t) (found.result.1 - start) 0 in

@@ -1,20 +1,21 @@
 use Rattle.std.proofs.Common.{refl, arith, length, ◌*◌, sym, ◌∙◌}
 use Rattle.const_hex_arch.proofs.lemmas.Standard.{false_is_true}
+use Rattle.const_hex_arch.proofs.lemmas.Spelling.{Spells-digits}
 use Rattle.const_hex.proofs.lemmas.Decoding.{digits_whole, last_refused, pairs_refused}
 use Rattle.const_hex.proofs.codec.decoder.decode_digits.Goals as goal
 
 pub returns-then-decode_body-clause-digits : goal.returns-then-decode_body-clause-digits
 returns-then-decode_body-clause-digits g c = λ h.
     let s = rw c.split_at.ensures.front at (c.if-decode_body.ensures.spells refl) in
-    digits_whole c.args.digits.now c.decode_body.new.output (2 * length c.args.output.now) s
+    digits_whole c.args.digits.now (2 * length c.args.output.now) (Spells-digits _ _ s)
     (rw c.split_at.ensures.back at (c.check_last.ensures.0 h))
 
 pub returns-then-decode_body-clause-refused : goal.returns-then-decode_body-clause-refused
 returns-then-decode_body-clause-refused g c = λ h.
     let s = rw c.split_at.ensures.front at (c.if-decode_body.ensures.spells refl) in
-    last_refused c.args.output.now c.args.digits.now c.decode_body.new.output (length c.args.output.now)
+    last_refused c.args.output.now c.args.digits.now c.decode_body.new.output
     (λ a. false_is_true (sym h ∙ c.check_last.ensures.1 (rw c.split_at.ensures.back a))) (omega arith)
-    (omega (arith, c.decode_body.auto.output)) refl s
+    c.decode_body.auto.output s
 
 pub returns-else-decode_body-clause-refused : goal.returns-else-decode_body-clause-refused
 returns-else-decode_body-clause-refused g c = λ h.

@@ -28,12 +28,7 @@ pub returns : goal.returns
 returns g c =
     let body = c.in-Ok.ensures.body in
     let even = c.in-Ok.ensures.even in
-    let spelled =
-    rw (
-      take_all (2 * c.pairs.index) c.in-Ok.body.now (omega (arith, even.1)),
-      take_all c.pairs.index c.pairs.bytes
-          (omega arith),
-    ) at
-    c.pairs.invariant.front in
+    let all = take_all (2 * c.pairs.index) c.in-Ok.body.now (omega (arith, even.1)) in
+    let spelled = rw (all, take_all c.pairs.index c.pairs.bytes (omega arith)) at c.pairs.invariant.front in
     DecodesToArray-from_ReadsSized g.row.N c.args.input.now _
     (rw (← body) (omega (arith, even.1)), (even.0, rw (← body) spelled))

@@ -1,7 +1,6 @@
 -- `encode_to_str` lends the text in the slice, or leaves the slice unchanged.
 use Rattle.std.specs.Prelude.{false}
 use Rattle.const_hex.proofs.lemmas.Walks.EncodedStr.{text_or_error}
-use Rattle.const_hex.specs.contracts.codec.encoders.encode_to_str.Key.{name}
 use Rattle.const_hex.proofs.codec.encoders.encode_to_str.Statement.{statement}
 use Rattle.const_hex.proofs.codec.encoders.encode_to_str.Code as code
 use Rattle.const_hex.proofs.codec.encoders.encode_into.Met as fills
@@ -9,6 +8,6 @@ use Rattle.const_hex.proofs.codec.encoders.encoded_text.Met as hands
 
 pub encode_to_str_spec : {M : Type 1} → statement M
 encode_to_str_spec 𝓤 𝓛 𝓜 𝓡 wired =
-    text_or_error 𝓤 𝓛 𝓜 𝓡 false name (code.unfolded 𝓤 𝓛.H 𝓜 𝓡 wired)
+    text_or_error 𝓤 𝓛 𝓜 𝓡 false _ (code.unfolded 𝓤 𝓛.H 𝓜 𝓡 wired)
     (fills.met 𝓤 𝓛 𝓜 𝓡 (code.calls-const_hex::codec::encoders::encode_into 𝓡.env wired))
     (hands.met 𝓤 𝓛 𝓜 𝓡 (code.calls-const_hex::codec::encoders::encoded_text 𝓡.env wired))

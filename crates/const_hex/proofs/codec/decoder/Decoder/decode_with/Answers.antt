@@ -1,8 +1,9 @@
 use Rattle.std.proofs.Common.{arith, refl, sym, length, ◌≡◌, ◌∙◌, take, drop, rules}
-use Rattle.std.proofs.lemmas.Grind.{common_steps}
-use Rattle.std.proofs.lemmas.List.{length-take-le, take_at}
+use Rattle.std.proofs.lemmas.List.{length-take-le, take_at, drop_at}
 use Rattle.const_hex.specs.Decoding.{listed}
-use Rattle.const_hex.proofs.lemmas.Decoding.{added, bad_by_now, digits_by_now, even_pairs, goes_on, not_all, spelled_by_now}
+use Rattle.const_hex_arch.proofs.lemmas.DigitTexts.{digits_append}
+use Rattle.const_hex_arch.proofs.lemmas.FirstInvalid.{digits_no_bad}
+use Rattle.const_hex.proofs.lemmas.Decoding.{added, bad_by_now, digits_by_now, goes_on, spelled_by_now}
 use Rattle.const_hex.proofs.lemmas.Fronts.{partial_pairs}
 use Rattle.const_hex.proofs.codec.decoder.Decoder.decode_with.Goals as goal
 
@@ -11,9 +12,8 @@ returns-then-count-output g c = record {
   ok = search rules;
   answer = λ t bs r.
       let next = c.next_digits-waiting in
-      let whole = next.ensures.whole t r.pairs r.counts r.whole (even_pairs r.pairs bs r.given) in
-      let size = spelled_by_now _ t bs c.args.chunk.now (listed next.result.0) next.result.1.now r whole _
-      c.count_pairs-count.ensures in
+      let size = spelled_by_now _ c.args.chunk.now (listed next.result.0) next.result.1.now next.ensures.whole
+      next.ensures.waits t bs r _ c.count_pairs-count.ensures in
       omega (arith, size);
   within = search rules;
   most = search rules;
@@ -26,67 +26,60 @@ returns-then-count-output g c = record {
 }
 
 pub returns-then-not-decode_next : goal.returns-then-not-decode_next
-returns-then-not-decode_next g c = record {
-  ok = search rules;
-  answer = λ t bs r.
-      let next = c.next_digits-waiting in
-      let whole = next.ensures.whole t r.pairs r.counts r.whole (even_pairs r.pairs bs r.given) in
-      let size = spelled_by_now _ t bs c.args.chunk.now (listed next.result.0) next.result.1.now r whole _
-      c.count_pairs-count.ensures in
-      let waits = next.ensures.waits r.waits in
-      let bad = c.fail.ensures.names (not_all _ _ _ _ (c.if-not-decode_next.ensures.refused refl) waits) in
-      rw bad.2 (
-        omega (arith, size),
-        bad_by_now _ t bs c.args.chunk.now (listed next.result.0) next.result.1.now r whole
-            _ bad.0 refl next.ensures.shorter waits bad.1,
-      );
-  within = search rules;
-  most = search rules;
-  enough = search rules;
-  rest = search rules;
-  unchanged = search rules;
-  after_error = λ t bs r _.
-      let next = c.next_digits-waiting in
-      let whole = next.ensures.whole t r.pairs r.counts r.whole (even_pairs r.pairs bs r.given) in
-      rw (added _ t bs c.args.chunk.now (listed next.result.0) next.result.1.now r whole)
-      (partial_pairs c.args.output.now _ c.decode_next.new.output c.count_pairs-count.result (omega arith)
-      (sym c.count_pairs-count.ensures)
-      (c.if-not-decode_next.ensures.refused refl));
-  ended = search rules;
-  kept_error = search rules;
-}
+returns-then-not-decode_next g c =
+    let next = c.next_digits-waiting in
+    let refused = c.if-not-decode_next.ensures.refused refl in record {
+      ok = search rules;
+      answer = λ t bs r.
+          let size = spelled_by_now _ c.args.chunk.now (listed next.result.0) next.result.1.now next.ensures.whole
+          next.ensures.waits t bs r _ c.count_pairs-count.ensures in
+          let (p, bad, is) = c.fail.ensures.names (λ a.
+          digits_no_bad _ refused.bad ((digits_append _ _).1 (next.ensures.waits r.waits, a)) refused.first_bad) in
+          rw is (
+            omega (arith, size),
+            bad_by_now _ c.args.chunk.now (listed next.result.0) next.result.1.now next.ensures.whole
+                next.ensures.waits t bs r p next.ensures.shorter bad,
+          );
+      within = search rules;
+      most = search rules;
+      enough = search rules;
+      rest = search rules;
+      unchanged = search rules;
+      after_error = λ t bs r _.
+          rw (added _ c.args.chunk.now (listed next.result.0) next.result.1.now next.ensures.whole
+          next.ensures.waits t bs r)
+          (partial_pairs c.args.output.now _ c.decode_next.new.output c.count_pairs-count.result (omega arith)
+          (sym c.count_pairs-count.ensures) refused);
+      ended = search rules;
+      kept_error = search rules;
+    }
 
 pub returns : goal.returns
-returns g c = record {
-  ok = λ t bs r.
-      let next = c.next_digits-waiting in
-      let whole = next.ensures.whole t r.pairs r.counts r.whole (even_pairs r.pairs bs r.given) in
-      let n = c.count_pairs-count.result in
-      let space : length (take n c.args.output.now) ≡ n = length-take-le n c.args.output.now (omega arith) in
-      let size : length c.decode_next.new.output ≡ n = c.decode_next.auto.output ∙ space in
-      let reported = c.if-not-decode_next.ensures in
-      rw (take_at c.decode_next.new.output (drop n c.args.output.now) n size)
-      (goes_on _ t bs c.args.chunk.now (listed next.result.0) next.result.1.now r whole c.advance.new.self
-      c.decode_next.new.output n
-      (next.ensures.waits r.waits) (reported.digits refl) (rw space at (reported.spells refl))
-      c.advance.ensures.no_error c.advance.ensures.index (c.advance.ensures.waiting ∙ c.left_over.ensures));
-  answer = λ t bs r.
-      let next = c.next_digits-waiting in
-      let whole = next.ensures.whole t r.pairs r.counts r.whole (even_pairs r.pairs bs r.given) in
-      let size = spelled_by_now _ t bs c.args.chunk.now (listed next.result.0) next.result.1.now r whole _
-      c.count_pairs-count.ensures in (
+returns g c =
+    let next = c.next_digits-waiting in
+    let n = c.count_pairs-count.result in
+    let new = c.decode_next.new.output in
+    let space : length (take n c.args.output.now) ≡ n = length-take-le n c.args.output.now (omega arith) in
+    let size : length new ≡ n = c.decode_next.auto.output ∙ space in
+    let reported = c.if-not-decode_next.ensures in record {
+      ok = λ t bs r.
+          rw (take_at new (drop n c.args.output.now) n size)
+          (goes_on _ c.args.chunk.now (listed next.result.0) next.result.1.now next.ensures.whole next.ensures.waits t
+          bs r c.advance.new.self n (reported.digits refl) c.advance.ensures.no_error c.advance.ensures.index
+          (c.advance.ensures.waiting ∙ c.left_over.ensures) new (rw space at (reported.spells refl)));
+      answer = λ t bs r. (
         omega arith,
-        size,
-        digits_by_now _ t bs c.args.chunk.now (listed next.result.0) next.result.1.now r whole
-            (next.ensures.waits r.waits)
-            (c.if-not-decode_next.ensures.digits refl),
+        spelled_by_now _ c.args.chunk.now (listed next.result.0) next.result.1.now next.ensures.whole
+            next.ensures.waits t bs r _ c.count_pairs-count.ensures,
+        digits_by_now _ c.args.chunk.now (listed next.result.0) next.result.1.now next.ensures.whole
+            next.ensures.waits t bs r (reported.digits refl),
       );
-  within = search rules;
-  most = search rules;
-  enough = search rules;
-  rest = grind (arith, common_steps);
-  unchanged = search rules;
-  after_error = search rules;
-  ended = search rules;
-  kept_error = search rules;
-}
+      within = search rules;
+      most = search rules;
+      enough = search rules;
+      rest = drop_at new (drop n c.args.output.now) n size;
+      unchanged = search rules;
+      after_error = search rules;
+      ended = search rules;
+      kept_error = search rules;
+    }

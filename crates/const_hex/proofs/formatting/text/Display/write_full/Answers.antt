@@ -1,6 +1,6 @@
 use Rattle.std.proofs.Common.{rules, sym}
 use Rattle.std.proofs.lemmas.Bool.{not-true}
-use Rattle.const_hex.proofs.lemmas.Printing.{printed_stream, written_at}
+use Rattle.const_hex.proofs.lemmas.Printing.{printed_stream}
 use Rattle.const_hex.proofs.formatting.text.Display.write_full.Goals as goal
 
 pub returns-in-Ok : goal.returns-in-Ok
@@ -9,4 +9,5 @@ returns-in-Ok g c =
     let ok = not-true _ (sym c.in-Ok.ensures.flag) in
     let p = printed_stream took _ _ _ ok (rw c.new.ensures at c.write_to.ensures.streams) in
     let name = p.same_formatter in
-    λ flush _. search (rules, written_at took _ _ _ ok p _ c.new-sink.ensures.formatter flush)
+    let before = c.new-sink.ensures.formatter in
+    λ flush _. search (rules, rw before at (p.writes ok (rw before flush)))
