@@ -109,6 +109,7 @@ pub fn digit_at(upper: bool, v: u8) -> u8
 /// assert_eq!(rt; const_hex::value_at(b'g'), const_hex::NIL);
 /// ```
 #[inline]
+#[tactic(auto, using(crate::proofs::lemmas::Digits::in_table))]
 pub fn value_at(b: u8) -> u8
     ensures { result ≡ value_or_nil (hex_value b) }
 {

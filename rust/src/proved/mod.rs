@@ -54,7 +54,7 @@ pub use self::formatting::text::*;
 //    1  and the crate's decoder is cloned
 //    1  and writes a text to memory that is not cleared
 //    1  before it reads a chunk
-//   44  deleted: attribute
+//   50  deleted: attribute
 //  227  deleted: contract
 //  202  deleted: ghost item
 //    4  deleted: model

@@ -38,6 +38,7 @@ pub(crate) trait LaneOps<const N: usize> {
 // Reviewed against the published arithmetic, min(satsub(v + 0xC6, 6) - 0xF0, satadd((v & 0xDF) -
 // 0x41, 10)) with sums and differences that wrap, and equal to it on each of the 256 bytes.
 #[inline(always)]
+#[tactic(auto, using(crate::proofs::lemmas::LaneValues::nibbles_are))]
 pub(crate) fn nibbles<const N: usize>(v: Simd<u8, N>) -> Simd<u8, N>
     ensures { map as_value result ≡ map hex_value v.entry }
 {
@@ -59,6 +60,7 @@ pub(crate) fn are_unmarked<const N: usize>(marks: Simd<u8, N>) -> bool
 
 /// The value of each lane that is a digit.
 #[inline(always)]
+#[tactic(auto, using(crate::proofs::lemmas::LaneValues::unhex_are))]
 pub(crate) fn unhex<const N: usize>(v: Simd<u8, N>) -> Simd<u8, N>
     ensures { AllZip IsValueOf v.entry result }
 {
@@ -69,6 +71,7 @@ pub(crate) fn unhex<const N: usize>(v: Simd<u8, N>) -> Simd<u8, N>
 /// `min(lane - 48, limit)` for each lane. If the lane is a digit, this is its value. Otherwise it
 /// is a number by which [`marks`] rejects the lane.
 #[inline(always)]
+#[tactic(auto, using(crate::proofs::lemmas::LaneMarks::parts_are))]
 fn values<const N: usize, V: LaneOps<N>>(v: Simd<u8, N>) -> Simd<u8, N>
     ensures { AllZip IsPartOf v.entry result }
 {

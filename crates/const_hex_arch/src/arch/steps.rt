@@ -11,6 +11,7 @@ use std::simd::prelude::*;
 
 /// Fills the output with two digits for each byte of a step.
 #[inline(always)]
+#[tactic(auto, using(std::proofs::lemmas::List::take_all, crate::proofs::lemmas::LaneText::stored_pair))]
 pub(crate) fn fill_step<const N: usize, V: LaneOps<N>>(
     bytes: &[u8],
     upper: bool,

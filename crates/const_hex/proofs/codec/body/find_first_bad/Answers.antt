@@ -36,12 +36,5 @@ pub returns-clause-bad : goal.returns-clause-bad
 returns-clause-bad c =
     λ n. absurd (n (none_left c.args.text.now c.args.start c.digits.index c.digits-test.false c.digits.invariant.0))
 
-pub returns-clause-all : goal.returns-clause-all
-returns-clause-all c =
-    let (done, _, end) = c.digits.invariant in (
-      λ _. none_left c.args.text.now c.args.start c.digits.index c.digits-test.false done,
-      λ _. omega (arith, end, c.digits-test.false),
-    )
-
 pub returns-then-value_at-clause-within : goal.returns-then-value_at-clause-within
 returns-then-value_at-clause-within c = search rules

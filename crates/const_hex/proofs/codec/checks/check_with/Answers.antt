@@ -1,5 +1,4 @@
-use Rattle.std.proofs.Common.{Ok, sym, ◌∙◌, rules}
-use Rattle.const_hex_arch.proofs.lemmas.Standard.{false_is_true}
+use Rattle.std.proofs.Common.{Ok, rules}
 use Rattle.const_hex.proofs.lemmas.Reading.{Reads-digits, ChecksText-from_Checks}
 use Rattle.const_hex.proofs.codec.checks.check_with.Goals as goal
 
@@ -11,7 +10,3 @@ returns-then-check g c =
 
 pub returns-else-check : goal.returns-else-check
 returns-else-check g c = ChecksText-from_Checks c.args.input.now _ (search rules)
-
-pub find_invalid_character-requires-clause-bad : goal.find_invalid_character-requires-clause-bad
-find_invalid_character-requires-clause-bad g c =
-    λ a. false_is_true (sym c.if-check.false ∙ c.check.ensures.1 (rw c.in_ok-strip_even.ensures.body a))
