@@ -29,13 +29,13 @@ Reads-some t =
           ]
     ]
 
--- ---- owned bytes
-
 -- these results have the law of types that are read from text
 abbrev pub AreFaithful : {V E : Type 0} → (V → List ℕ) → (ℕ → Type 0) → (E → Bool)
     → (List ℕ → Result V E → Type 0) → Type 0
 AreFaithful bytes fits is_memory answers =
     (t : List ℕ) (r : Result _ _) → answers t r → IsFaithful bytes fits is_memory t r
+
+-- ---- owned bytes
 
 pub ReadsOwned-faithful : {V : Type 0} (bytes : V → List ℕ)
     → AreFaithful bytes AnyCount is_no_memory (ReadsOwned bytes)

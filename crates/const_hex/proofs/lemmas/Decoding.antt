@@ -12,8 +12,9 @@ use Rattle.const_hex_arch.proofs.lemmas.FirstInvalid.{FirstBad-after, Spells-som
 use Rattle.const_hex_arch.proofs.lemmas.LeftOutputs.{Partial-after, none_decoded}
 use Rattle.const_hex_arch.proofs.lemmas.Spelling.{Spells-append, Spells-digits, Spells-length}
 
--- ---- an invalid character, whatever follows
+-- ---- pairs, and what follows
 
+-- a rejected text is rejected with more behind it, too
 pub Partial-longer : (old u new v : List ℕ) → Partial old u new → Partial old (u ++ v) new
 Partial-longer old u new v p =
     let inside = p.first_bad.within in
@@ -31,8 +32,6 @@ Partial-longer old u new v p =
       front = rw (take-append-le (2 * p.done) u v early) p.front;
       rest = p.rest;
     }
-
--- ---- pairs, and what follows
 
 -- the pairs are rejected
 pub pairs_refused : (old u new : List ℕ) (m : ℕ) → Partial old (take m u) new → Partial old u new
@@ -54,10 +53,6 @@ pub last_refused : (old u new : List ℕ) → (AllDigits (drop (2 * length old) 
 last_refused old u new bad h l s =
     Partial-after old u new (length old) _ refl h l (omega arith) (rw (take_all (length old) new (omega arith)) s)
     (rw (drop_all (length old) new (omega arith), drop_all (length old) old (omega arith)) (none_decoded [] _ bad))
-
--- the pairs are digits, and what follows them
-pub digits_whole : (u : List ℕ) (m : ℕ) → AllDigits (take m u) → AllDigits (drop m u) → AllDigits u
-digits_whole u m a b = rw (take-append-drop m u) at ((digits_append (take m u) (drop m u)).1 (a, b))
 
 -- the first byte, and what follows it
 pub first_and_rest : (u : List ℕ) → 1 ≤ length u → u ≡ get_or u 0 0 ∷ drop 1 u

@@ -23,7 +23,7 @@ pub Reads-full_text : (t : List ℕ) (prefix up : Bool) (bs : List ℕ) → AreB
 Reads-full_text t prefix up bs h e =
     rw e (grind (arith, length-full_text), rw (body-full_text prefix up bs) (Spells-hex_text up bs h))
 
--- ---- what other texts give
+-- ---- what any text gives
 
 -- a decoder that returns the reader's result, or out of memory, keeps all that `decode` promises
 pub Decodes-from : {V : Type 0} (items : V → List ℕ) (t : List ℕ) (r : Result V FromHexError)

@@ -1,11 +1,11 @@
 -- Proofs by hand, which follow the machine's steps, for calls with a starred clause (`after`). Such a clause says what
 -- a buffer or a slice holds after the text that it lent is given back. The borrow checker cannot prove it.
 --
--- `LentText` is the walk for a function that takes the text out of the struct that one call returns:
--- `Buffer::format`, `format_upper`, `format_slice`, `format_slice_upper`. It passes on the clauses of
--- that call, whatever they are. `EncodedStr` is the walk for a function that passes a slice through
--- one call, and shares it with another: `encode_to_str` and `encode_to_str_upper`. The `Proof.antt`
--- of each function names its calls and passes them to its walk.
+-- `LentText` is the walk for a function that takes the text out of the struct that one call returns: `Buffer::format`,
+-- `format_upper`, `format_slice`, `format_slice_upper`. It passes on the clauses of that call, whatever they are.
+-- `EncodedStr` is the walk for a function that passes a slice through one call, and shares it with another:
+-- `encode_to_str` and `encode_to_str_upper`. The `Proof.antt` of each function names its calls and passes them to its
+-- walk.
 --
 -- What breaks a walk: it names the function's locals by their numbers, and takes its calls in their order. So a new
 -- local, a new call or another order in one of these functions breaks it. Other code does not.

@@ -3,9 +3,9 @@ use Rattle.std.proofs.lemmas.Bool.Decides.{nat_tests}
 use Rattle.std.proofs.lemmas.List.{get_or-drop}
 use Rattle.std.proofs.lemmas.List.Elements.{All-nil}
 use Rattle.const_hex_arch.specs.Texts.{AllDigits, IsDigit}
+use Rattle.const_hex_arch.proofs.lemmas.DigitTexts.{digits_parts}
 use Rattle.const_hex_arch.proofs.lemmas.FirstInvalid.{FirstBad-after}
 use Rattle.const_hex.specs.Results.{body_of, IsEven}
-use Rattle.const_hex.proofs.lemmas.Decoding.{digits_whole}
 use Rattle.const_hex.proofs.lemmas.Searching.{from_start, two_on}
 use Rattle.const_hex.proofs.codec.body.find_invalid_character.Goals as goal
 use Rattle.const_hex.proofs.codec.body.find_invalid_character.Goals.{then-are_digits, in-len4-up, in_default, in_default-2, else-are_digits}
@@ -64,8 +64,9 @@ returns c =
     let found = c.find_first_bad-byte in
     let (k, rest, digits, within, is) = begins c in
     let bad = FirstBad-after k (body_of t) (found.result.1 - start) digits within
-    (rw rest at (found.ensures.bad (λ a. c.requires.bad (digits_whole (body_of t) k digits (rw rest at a))))) in
+    (rw rest at (found.ensures.bad (λ a. c.requires.bad ((digits_parts k (body_of t)).1 (digits, rw rest at a))))) in
     let after = found.ensures.within.0 in
     let here = sym (from_start t start found.result.1 after) in
-    let byte = c.from.ensures ∙ found.ensures.byte ∙ rw rest at here ∙ get_or-drop k (body_of t) (found.result.1 - start) 0 in
+    let byte = c.from.ensures ∙ found.ensures.byte ∙ rw rest at here
+    ∙ get_or-drop k (body_of t) (found.result.1 - start) 0 in
     (c.requires.even, (k + (found.result.1 - start), bad, byte, omega (arith, is, after)))

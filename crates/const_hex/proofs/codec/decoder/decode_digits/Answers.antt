@@ -1,14 +1,15 @@
 use Rattle.std.proofs.Common.{refl, arith, length, ◌*◌, sym, ◌∙◌}
 use Rattle.const_hex_arch.proofs.lemmas.Standard.{false_is_true}
+use Rattle.const_hex_arch.proofs.lemmas.DigitTexts.{digits_parts}
 use Rattle.const_hex_arch.proofs.lemmas.Spelling.{Spells-digits}
-use Rattle.const_hex.proofs.lemmas.Decoding.{digits_whole, last_refused, pairs_refused}
+use Rattle.const_hex.proofs.lemmas.Decoding.{last_refused, pairs_refused}
 use Rattle.const_hex.proofs.codec.decoder.decode_digits.Goals as goal
 
 pub returns-then-decode_body-clause-digits : goal.returns-then-decode_body-clause-digits
 returns-then-decode_body-clause-digits g c = λ h.
     let s = rw c.split_at.ensures.front at (c.if-decode_body.ensures.spells refl) in
-    digits_whole c.args.digits.now (2 * length c.args.output.now) (Spells-digits _ _ s)
-    (rw c.split_at.ensures.back at (c.check_last.ensures.0 h))
+    (digits_parts (2 * length c.args.output.now) c.args.digits.now).1
+    (Spells-digits _ _ s, rw c.split_at.ensures.back at (c.check_last.ensures.0 h))
 
 pub returns-then-decode_body-clause-refused : goal.returns-then-decode_body-clause-refused
 returns-then-decode_body-clause-refused g c = λ h.
