@@ -16,7 +16,9 @@ def as_text(logic, conditions):
     """A question in SMT-LIB."""
     solver = z3.Solver()
     solver.add(*conditions)
-    return f"(set-logic {logic})\n{solver.to_smt2()}"
+    # Bits of a whole vector take minutes otherwise.
+    option = "(set-option :bitblast eager)\n" if logic == "QF_BV" else ""
+    return f"{option}(set-logic {logic})\n{solver.to_smt2()}"
 
 
 def disagreements(questions, most=None):
