@@ -2,20 +2,16 @@
 
 use const_hex_bench::{cases, CALLS, SIZES};
 use criterion::{criterion_group, criterion_main, BenchmarkId, Criterion, Throughput};
-use std::time::{Duration, Instant};
+use std::time::Duration;
 
 fn times(criterion: &mut Criterion) {
     for call in CALLS {
         let mut group = criterion.benchmark_group(call);
         for size in SIZES {
             group.throughput(Throughput::Bytes(size as u64));
-            for mut case in cases(size).into_iter().filter(|case| case.call == call) {
+            for case in cases(size).into_iter().filter(|case| case.call == call) {
                 group.bench_function(BenchmarkId::new(case.library, size), |bencher| {
-                    bencher.iter_custom(|count| {
-                        let start = Instant::now();
-                        case.repeat(count as usize);
-                        start.elapsed()
-                    })
+                    bencher.iter_custom(|count| case.repeat(count as usize))
                 });
             }
         }

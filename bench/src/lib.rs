@@ -3,6 +3,7 @@
 mod libraries;
 
 pub use libraries::cases;
+use std::time::{Duration, Instant};
 
 /// The numbers of bytes that are encoded, or decoded to.
 pub const SIZES: [usize; 13] = [
@@ -26,21 +27,30 @@ pub const CALLS: [&str; 9] = [
 pub struct Case {
     pub call: &'static str,
     pub library: &'static str,
-    repeats: Box<dyn Repeats>,
+    prepare: Box<dyn Fn() -> Box<dyn Repeats>>,
 }
 
 impl Case {
-    fn new(call: &'static str, library: &'static str, run: impl FnMut() + 'static) -> Case {
+    /// A case of the call that `prepare` returns, with its buffers.
+    fn new<F: FnMut() + 'static>(
+        call: &'static str,
+        library: &'static str,
+        prepare: impl Fn() -> F + 'static,
+    ) -> Case {
         Case {
             call,
             library,
-            repeats: Box::new(run),
+            prepare: Box::new(move || Box::new(prepare())),
         }
     }
 
-    /// Makes the call so many times.
-    pub fn repeat(&mut self, count: usize) {
-        self.repeats.repeat(count);
+    /// Makes the call so many times, and returns how long that took.
+    pub fn repeat(&self, count: usize) -> Duration {
+        // Prepared here, the buffers have the same addresses for each library: a store that crosses a page takes long.
+        let mut repeats = (self.prepare)();
+        let start = Instant::now();
+        repeats.repeat(count);
+        start.elapsed()
     }
 }
 

@@ -38,11 +38,14 @@ impl Input {
     fn encoding<T>(
         &self,
         (call, library): (&'static str, &'static str),
-        run: impl Fn(&[u8], &mut [u8]) -> T + 'static,
+        run: impl Fn(&[u8], &mut [u8]) -> T + Copy + 'static,
     ) -> Case {
-        let (bytes, mut text) = (self.bytes.clone(), vec![0; self.text.len()]);
+        let (bytes, text) = (self.bytes.clone(), vec![0; self.text.len()]);
         Case::new(call, library, move || {
-            black_box(run(black_box(&bytes), black_box(&mut text)));
+            let (bytes, mut text) = (bytes.clone(), text.clone());
+            move || {
+                black_box(run(black_box(&bytes), black_box(&mut text)));
+            }
         })
     }
 
@@ -50,7 +53,7 @@ impl Input {
     fn decoding<T>(
         &self,
         (call, library): (&'static str, &'static str),
-        run: impl Fn(&[u8], &mut [u8]) -> T + 'static,
+        run: impl Fn(&[u8], &mut [u8]) -> T + Copy + 'static,
     ) -> Case {
         let is_invalid = call.ends_with("_invalid");
         let text = if is_invalid {
@@ -59,9 +62,12 @@ impl Input {
             &self.text
         }
         .clone();
-        let mut bytes = vec![0; self.bytes.len()];
+        let bytes = vec![0; self.bytes.len()];
         Case::new(call, library, move || {
-            black_box(run(black_box(&text), black_box(&mut bytes)));
+            let (text, mut bytes) = (text.clone(), bytes.clone());
+            move || {
+                black_box(run(black_box(&text), black_box(&mut bytes)));
+            }
         })
     }
 }

@@ -45,12 +45,9 @@ fn repeat(call: &str, library: &str, size: &str, count: &str) -> ExitCode {
     let (Ok(size), Ok(count)) = (size.parse(), count.parse()) else {
         return ExitCode::FAILURE;
     };
-    let mut cases = cases(size);
-    match cases
-        .iter_mut()
-        .find(|case| case.call == call && case.library == library)
-    {
-        Some(case) => case.repeat(count),
+    let mut cases = cases(size).into_iter();
+    match cases.find(|case| case.call == call && case.library == library) {
+        Some(case) => drop(case.repeat(count)),
         None => return ExitCode::FAILURE,
     }
     ExitCode::SUCCESS

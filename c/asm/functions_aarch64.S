@@ -546,12 +546,12 @@
 	b.hi 2b
 6:
 	cbnz w10, 7f
-	mov x2, x9
+	mov x3, x9
 	b 8f
 7:
 	adrp_label x10, const_hex_constant_1
 	add_label x10, x10, const_hex_constant_1
-	add x2, x9, #0x2
+	add x3, x9, #0x2
 	sub x10, x9, x10
 	cmp x10, #0x1
 	mov w10, #0x7830
@@ -559,7 +559,7 @@
 8:
 	stp x29, x30, [sp, #-16]!
 	add x0, x0, x8
-	and w3, w4, #0x1
+	and w2, w4, #0x1
 	mov x29, sp
 	bl SYMBOL(const_hex_kernel_fill)
 	mov w0, #0x1

@@ -637,18 +637,18 @@
 	add    rdi,r9
 	test   edx,edx
 	jne    7f
-	mov    rdx,rax
+	mov    rcx,rax
 	jmp    8f
 7:
-	lea    rdx,[rax+0x2]
-	lea    rcx,[rip + const_hex_constant_5]
+	lea    rcx,[rax+0x2]
+	lea    rdx,[rip + const_hex_constant_5]
 	mov    r9,rax
-	sub    r9,rcx
+	sub    r9,rdx
 	cmp    r9,0x1
 	mov    WORD PTR [rax],0x7830
 8:
 	and    r8d,0x1
-	mov    ecx,r8d
+	mov    edx,r8d
 	call   SYMBOL(const_hex_kernel_fill)
 	mov    al,0x1
 	pop    rbx

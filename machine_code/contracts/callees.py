@@ -30,9 +30,9 @@ def _offset(state, name, address):
 
 def fill(state):
     """Writes the two digits of each byte."""
-    source, count, text, upper = state.arguments(4)
+    source, count, upper, text = state.arguments(4)
     upper = simple(z3.Extract(31, 0, upper))
-    _must_be_public(state, source, count, text, upper)
+    _must_be_public(state, source, count, upper, text)
     state.must(z3.ULT(count, 1 << 62), "a length")
     state.must(z3.Or(upper == 0, upper == 1), "the case of digits is neither 0 nor 1")
     for is_upper in (0, 1):

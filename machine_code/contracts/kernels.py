@@ -41,14 +41,14 @@ class Kernel(Function):
 
 
 class Fill(Kernel):
-    """fill(bytes, n, text, upper): the text has the two digits of each byte. There is no result."""
+    """fill(bytes, n, upper, text): the text has the two digits of each byte. There is no result."""
 
     function = "fill"
     input_size, output_size = N, simple(2 * N)
 
     def __init__(self, is_upper):
         self.is_upper, self.name = is_upper, "uppercase" if is_upper else "lowercase"
-        self.arguments = base("input"), N, base("output"), simple(of_32_bits(z3.BitVecVal(is_upper, 32)))
+        self.arguments = base("input"), N, simple(of_32_bits(z3.BitVecVal(is_upper, 32))), base("output")
 
     def valid(self, state):
         """Every input is valid."""

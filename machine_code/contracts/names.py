@@ -21,7 +21,7 @@ FUNCTIONS = {
 # The kernels' functions, which are called with these.
 KERNELS = {
     "kernel_check": "text text_length",
-    "kernel_fill": "bytes bytes_length text upper",
+    "kernel_fill": "bytes bytes_length upper text",
     "kernel_read": "text text_length bytes bytes_size",
 }
 WITH_ERROR = {name for name, function in FUNCTIONS.items() if function.error_may_be_null}

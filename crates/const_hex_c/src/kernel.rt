@@ -20,7 +20,7 @@ impl Kernel for Called {
 
     #[inline(always)]
     fn fill(input: &[u8], upper: bool, output: &mut [u8]) {
-        fill(input, output, upper);
+        fill(input, upper, output);
     }
 
     #[inline(always)]
@@ -41,7 +41,7 @@ impl Kernel for Called {
 
 /// Fills the text with two digits for each byte, in order.
 #[inline(never)]
-fn fill(bytes: &[u8], text: &mut [u8], upper: bool)
+fn fill(bytes: &[u8], upper: bool, text: &mut [u8])
     requires { length text.old ≡ 2 * length bytes.now }
     ensures { text.new ≡ hex_text upper bytes.now }
 {

@@ -13,7 +13,7 @@ use const_hex_arch::{FixedKernel, Kernel};
 
 /// Fills the text with two digits for each byte, in order.
 #[inline(never)]
-fn fill(bytes: &[u8], text: &mut [u8], upper: bool)
+fn fill(bytes: &[u8], upper: bool, text: &mut [u8])
     requires { length text.old ≡ 2 * length bytes.now }
     ensures { text.new ≡ hex_text upper bytes.now }
 {
@@ -41,7 +41,7 @@ fn read(text: &[u8], bytes: &mut [u8]) -> bool
 
 /// Calls `fill` if the text has two characters for each byte. Returns whether it has.
 #[unsafe(no_mangle)]
-pub extern "C" fn const_hex_rust_fill(bytes: &[u8], text: &mut [u8], upper: bool) -> bool
+pub extern "C" fn const_hex_rust_fill(bytes: &[u8], upper: bool, text: &mut [u8]) -> bool
     ensures fits { IsTrue result ↔ (2 * length bytes.now ≡ length text.old) }
     ensures text { IsTrue result → text.new ≡ hex_text upper bytes.now }
     ensures kept { result ≡ false → text.new ≡ text.old }
@@ -49,7 +49,7 @@ pub extern "C" fn const_hex_rust_fill(bytes: &[u8], text: &mut [u8], upper: bool
     if text.len() % 2 != 0 || bytes.len() != text.len() / 2 {
         return false;
     }
-    fill(bytes, text, upper);
+    fill(bytes, upper, text);
     true
 }
 

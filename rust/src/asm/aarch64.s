@@ -292,7 +292,7 @@
 	cmp x1, #0x20
 	b.cc 5f
 	ldp q1, q2, [x0]
-	cmp w3, #0x0
+	cmp w2, #0x0
 	mov w8, #0x10
 	adrp_label x9, const_hex_1_0_0_constant_2
 	add_label x9, x9, const_hex_1_0_0_constant_2
@@ -319,11 +319,11 @@
 	tbl v5.16b, {v1.16b}, v5.16b
 	tbl v4.16b, {v1.16b}, v4.16b
 	tbl v2.16b, {v1.16b}, v2.16b
-	stp q5, q3, [x2]
-	stp q2, q4, [x2, #32]
+	stp q5, q3, [x3]
+	stp q2, q4, [x3, #32]
 	b.eq 6f
 	add x9, x0, x8
-	add x8, x2, x8, lsl #1
+	add x8, x3, x8, lsl #1
 	ldp q2, q3, [x9]
 	uxtl2 v4.8h, v2.16b
 	uxtl v2.8h, v2.8b
@@ -345,7 +345,7 @@
 	stp q0, q4, [x8, #32]
 	ret
 2:
-	cmp w3, #0x0
+	cmp w2, #0x0
 	mov w9, #0x20
 	mov w10, #0x30
 	and x8, x1, #0x10
@@ -353,7 +353,7 @@
 	add_label x11, x11, const_hex_1_0_0_constant_2
 	csel x9, x10, x9, ne
 	ldr q1, [x11, x8]
-	mov x8, x2
+	mov x8, x3
 	ldr q0, [x11, x9]
 	mov x9, x0
 	mov x10, x1
@@ -426,7 +426,7 @@
 4:
 	sub x8, x1, #0x20
 	add x9, x0, x8
-	add x8, x2, x8, lsl #1
+	add x8, x3, x8, lsl #1
 	ldp q2, q3, [x9]
 	uxtl2 v4.8h, v2.16b
 	uxtl v2.8h, v2.8b
@@ -451,7 +451,7 @@
 	cmp x1, #0x10
 	b.cc 7f
 	ldr q1, [x0]
-	cmp w3, #0x0
+	cmp w2, #0x0
 	mov w8, #0x10
 	adrp_label x9, const_hex_1_0_0_constant_2
 	add_label x9, x9, const_hex_1_0_0_constant_2
@@ -470,7 +470,7 @@
 	ushr v3.8h, v3.8h, #4
 	tbl v2.16b, {v1.16b}, v2.16b
 	tbl v3.16b, {v1.16b}, v3.16b
-	stp q2, q3, [x2]
+	stp q2, q3, [x3]
 	b.ne 8f
 6:
 	ret
@@ -479,7 +479,7 @@
 	b.ne 9f
 	movi v0.16b, #0x0
 	ldrb w8, [x0]
-	cmp w3, #0x0
+	cmp w2, #0x0
 	adrp_label x9, const_hex_1_0_0_constant_2
 	add_label x9, x9, const_hex_1_0_0_constant_2
 	mov w10, #0x30
@@ -496,12 +496,12 @@
 	ushr v0.8h, v0.8h, #4
 	tbl v0.16b, {v1.16b}, v0.16b
 	mov b1, v0.b[3]
-	st1 {v0.b}[2], [x2]
-	stur b1, [x2, #1]
+	st1 {v0.b}[2], [x3]
+	stur b1, [x3, #1]
 	ret
 8:
 	ldr q2, [x0, x8]
-	add x8, x2, x8, lsl #1
+	add x8, x3, x8, lsl #1
 	uxtl v3.8h, v2.8b
 	uxtl2 v2.8h, v2.16b
 	mul v3.8h, v0.8h, v3.8h
@@ -517,7 +517,7 @@
 	b.cc 12f
 	add x8, x0, x1
 	ldr d0, [x0]
-	cmp w3, #0x0
+	cmp w2, #0x0
 	ldur d1, [x8, #-8]
 	mov w9, #0x10
 	mov w10, #0x30
@@ -532,12 +532,12 @@
 	mul v0.8h, v2.8h, v0.8h
 	mul v1.8h, v2.8h, v1.8h
 	ldr q2, [x9, x8]
-	add x8, x2, x1, lsl #1
+	add x8, x3, x1, lsl #1
 	ushr v0.8h, v0.8h, #4
 	ushr v1.8h, v1.8h, #4
 	tbl v0.16b, {v2.16b}, v0.16b
 	tbl v1.16b, {v2.16b}, v1.16b
-	str q0, [x2]
+	str q0, [x3]
 	stur q1, [x8, #-16]
 	ret
 12:
@@ -545,7 +545,7 @@
 	b.cc 13f
 	add x8, x0, x1
 	ldr s0, [x0]
-	cmp w3, #0x0
+	cmp w2, #0x0
 	sub x8, x8, #0x4
 	adrp_label x9, const_hex_1_0_0_constant_2
 	add_label x9, x9, const_hex_1_0_0_constant_2
@@ -559,18 +559,18 @@
 	csel x8, x10, x8, ne
 	mul v0.8h, v1.8h, v0.8h
 	ldr q1, [x9, x8]
-	add x8, x2, x1, lsl #1
+	add x8, x3, x1, lsl #1
 	ushr v0.8h, v0.8h, #4
 	tbl v0.16b, {v1.16b}, v0.16b
 	ext v1.16b, v0.16b, v0.16b, #8
-	str d0, [x2]
+	str d0, [x3]
 	stur d1, [x8, #-8]
 	ret
 13:
 	cbz x1, 6b
 	add x8, x0, x1
 	ldr h0, [x0]
-	cmp w3, #0x0
+	cmp w2, #0x0
 	sub x8, x8, #0x2
 	adrp_label x9, const_hex_1_0_0_constant_2
 	add_label x9, x9, const_hex_1_0_0_constant_2
@@ -595,9 +595,9 @@
 	zip1 v0.16b, v0.16b, v0.16b
 	mov v1.h[2], w8
 	xtn v0.8b, v0.8h
-	add x8, x2, x1, lsl #1
+	add x8, x3, x1, lsl #1
 	mov v1.h[3], w9
-	str s0, [x2]
+	str s0, [x3]
 	xtn v1.8b, v1.8h
 	stur s1, [x8, #-4]
 	ret

@@ -253,10 +253,10 @@
 	pmovzxbw xmm2,QWORD PTR [rdi+0x8]
 	pmovzxbw xmm3,QWORD PTR [rdi]
 	lea    rax,[rip + const_hex_1_0_0_constant_4_v2]
-	movzx  ecx,cl
-	shl    ecx,0x4
-	movdqu xmm1,XMMWORD PTR [rcx+rax*1]
-	movdqu xmm0,XMMWORD PTR [rcx+rax*1+0x20]
+	movzx  edx,dl
+	shl    edx,0x4
+	movdqu xmm1,XMMWORD PTR [rdx+rax*1]
+	movdqu xmm0,XMMWORD PTR [rdx+rax*1+0x20]
 	pmullw xmm3,xmm1
 	pmullw xmm2,xmm1
 	psrlw  xmm2,0x4
@@ -275,10 +275,10 @@
 	pshufb xmm6,xmm2
 	movdqa xmm2,xmm0
 	pshufb xmm2,xmm5
-	movdqu XMMWORD PTR [rdx+0x10],xmm3
-	movdqu XMMWORD PTR [rdx],xmm4
-	movdqu XMMWORD PTR [rdx+0x30],xmm2
-	movdqu XMMWORD PTR [rdx+0x20],xmm6
+	movdqu XMMWORD PTR [rcx+0x10],xmm3
+	movdqu XMMWORD PTR [rcx],xmm4
+	movdqu XMMWORD PTR [rcx+0x30],xmm2
+	movdqu XMMWORD PTR [rcx+0x20],xmm6
 	cmp    rsi,0x20
 	jne    5f
 2:
@@ -288,15 +288,15 @@
 	and    eax,0x10
 	lea    r8,[rip + const_hex_1_0_0_constant_4_v2]
 	movdqu xmm1,XMMWORD PTR [rax+r8*1]
-	movzx  eax,cl
+	movzx  eax,dl
 	shl    eax,0x4
 	movdqu xmm0,XMMWORD PTR [rax+r8*1+0x20]
-	xor    ecx,ecx
+	xor    edx,edx
 	mov    rax,rsi
 	.byte 0xf, 0x1f, 0x0  /* nop    DWORD PTR [rax] */
 4:
-	pmovzxbw xmm2,QWORD PTR [rdi+rcx*1+0x8]
-	pmovzxbw xmm3,QWORD PTR [rdi+rcx*1]
+	pmovzxbw xmm2,QWORD PTR [rdi+rdx*1+0x8]
+	pmovzxbw xmm3,QWORD PTR [rdi+rdx*1]
 	pmullw xmm3,xmm1
 	pmullw xmm2,xmm1
 	psrlw  xmm2,0x4
@@ -305,8 +305,8 @@
 	pshufb xmm4,xmm3
 	movdqa xmm3,xmm0
 	pshufb xmm3,xmm2
-	pmovzxbw xmm2,QWORD PTR [rdi+rcx*1+0x18]
-	pmovzxbw xmm5,QWORD PTR [rdi+rcx*1+0x10]
+	pmovzxbw xmm2,QWORD PTR [rdi+rdx*1+0x18]
+	pmovzxbw xmm5,QWORD PTR [rdi+rdx*1+0x10]
 	pmullw xmm5,xmm1
 	pmullw xmm2,xmm1
 	psrlw  xmm2,0x4
@@ -315,12 +315,12 @@
 	pshufb xmm6,xmm5
 	movdqa xmm5,xmm0
 	pshufb xmm5,xmm2
-	movdqu XMMWORD PTR [rdx+rcx*2+0x10],xmm3
-	movdqu XMMWORD PTR [rdx+rcx*2],xmm4
-	movdqu XMMWORD PTR [rdx+rcx*2+0x30],xmm5
-	movdqu XMMWORD PTR [rdx+rcx*2+0x20],xmm6
-	pmovzxbw xmm2,QWORD PTR [rdi+rcx*1+0x28]
-	pmovzxbw xmm3,QWORD PTR [rdi+rcx*1+0x20]
+	movdqu XMMWORD PTR [rcx+rdx*2+0x10],xmm3
+	movdqu XMMWORD PTR [rcx+rdx*2],xmm4
+	movdqu XMMWORD PTR [rcx+rdx*2+0x30],xmm5
+	movdqu XMMWORD PTR [rcx+rdx*2+0x20],xmm6
+	pmovzxbw xmm2,QWORD PTR [rdi+rdx*1+0x28]
+	pmovzxbw xmm3,QWORD PTR [rdi+rdx*1+0x20]
 	pmullw xmm3,xmm1
 	pmullw xmm2,xmm1
 	psrlw  xmm2,0x4
@@ -328,8 +328,8 @@
 	movdqa xmm4,xmm0
 	pshufb xmm4,xmm3
 	movdqa xmm3,xmm0
-	pmovzxbw xmm5,QWORD PTR [rdi+rcx*1+0x38]
-	pmovzxbw xmm6,QWORD PTR [rdi+rcx*1+0x30]
+	pmovzxbw xmm5,QWORD PTR [rdi+rdx*1+0x38]
+	pmovzxbw xmm6,QWORD PTR [rdi+rdx*1+0x30]
 	pshufb xmm3,xmm2
 	pmullw xmm6,xmm1
 	pmullw xmm5,xmm1
@@ -339,20 +339,20 @@
 	pshufb xmm2,xmm6
 	movdqa xmm6,xmm0
 	pshufb xmm6,xmm5
-	movdqu XMMWORD PTR [rdx+rcx*2+0x50],xmm3
-	movdqu XMMWORD PTR [rdx+rcx*2+0x40],xmm4
-	movdqu XMMWORD PTR [rdx+rcx*2+0x70],xmm6
-	movdqu XMMWORD PTR [rdx+rcx*2+0x60],xmm2
-	add    rcx,0x40
+	movdqu XMMWORD PTR [rcx+rdx*2+0x50],xmm3
+	movdqu XMMWORD PTR [rcx+rdx*2+0x40],xmm4
+	movdqu XMMWORD PTR [rcx+rdx*2+0x70],xmm6
+	movdqu XMMWORD PTR [rcx+rdx*2+0x60],xmm2
+	add    rdx,0x40
 	add    rax,0xffffffffffffffc0
 	cmp    rax,0x3f
 	ja     4b
-	cmp    rcx,rsi
+	cmp    rdx,rsi
 	je     2b
 	cmp    rax,0x21
 	jb     5f
-	pmovzxbw xmm2,QWORD PTR [rdi+rcx*1+0x8]
-	pmovzxbw xmm3,QWORD PTR [rdi+rcx*1]
+	pmovzxbw xmm2,QWORD PTR [rdi+rdx*1+0x8]
+	pmovzxbw xmm3,QWORD PTR [rdi+rdx*1]
 	pmullw xmm3,xmm1
 	pmullw xmm2,xmm1
 	psrlw  xmm2,0x4
@@ -361,8 +361,8 @@
 	pshufb xmm4,xmm3
 	movdqa xmm3,xmm0
 	pshufb xmm3,xmm2
-	pmovzxbw xmm2,QWORD PTR [rdi+rcx*1+0x18]
-	pmovzxbw xmm5,QWORD PTR [rdi+rcx*1+0x10]
+	pmovzxbw xmm2,QWORD PTR [rdi+rdx*1+0x18]
+	pmovzxbw xmm5,QWORD PTR [rdi+rdx*1+0x10]
 	pmullw xmm5,xmm1
 	pmullw xmm2,xmm1
 	psrlw  xmm2,0x4
@@ -371,10 +371,10 @@
 	pshufb xmm6,xmm5
 	movdqa xmm5,xmm0
 	pshufb xmm5,xmm2
-	movdqu XMMWORD PTR [rdx+rcx*2+0x10],xmm3
-	movdqu XMMWORD PTR [rdx+rcx*2],xmm4
-	movdqu XMMWORD PTR [rdx+rcx*2+0x30],xmm5
-	movdqu XMMWORD PTR [rdx+rcx*2+0x20],xmm6
+	movdqu XMMWORD PTR [rcx+rdx*2+0x10],xmm3
+	movdqu XMMWORD PTR [rcx+rdx*2],xmm4
+	movdqu XMMWORD PTR [rcx+rdx*2+0x30],xmm5
+	movdqu XMMWORD PTR [rcx+rdx*2+0x20],xmm6
 5:
 	pmovzxbw xmm2,QWORD PTR [rdi+rsi*1-0x18]
 	pmovzxbw xmm3,QWORD PTR [rdi+rsi*1-0x20]
@@ -395,10 +395,10 @@
 	movdqa xmm1,xmm0
 	pshufb xmm1,xmm6
 	pshufb xmm0,xmm5
-	movdqu XMMWORD PTR [rdx+rsi*2-0x30],xmm3
-	movdqu XMMWORD PTR [rdx+rsi*2-0x40],xmm4
-	movdqu XMMWORD PTR [rdx+rsi*2-0x10],xmm0
-	movdqu XMMWORD PTR [rdx+rsi*2-0x20],xmm1
+	movdqu XMMWORD PTR [rcx+rsi*2-0x30],xmm3
+	movdqu XMMWORD PTR [rcx+rsi*2-0x40],xmm4
+	movdqu XMMWORD PTR [rcx+rsi*2-0x10],xmm0
+	movdqu XMMWORD PTR [rcx+rsi*2-0x20],xmm1
 	ret
 6:
 	cmp    rsi,0x10
@@ -406,10 +406,10 @@
 	pmovzxbw xmm2,QWORD PTR [rdi+0x8]
 	pmovzxbw xmm3,QWORD PTR [rdi]
 	lea    rax,[rip + const_hex_1_0_0_constant_4_v2]
-	movzx  ecx,cl
-	shl    ecx,0x4
-	movdqu xmm1,XMMWORD PTR [rcx+rax*1]
-	movdqu xmm0,XMMWORD PTR [rcx+rax*1+0x20]
+	movzx  edx,dl
+	shl    edx,0x4
+	movdqu xmm1,XMMWORD PTR [rdx+rax*1]
+	movdqu xmm0,XMMWORD PTR [rdx+rax*1+0x20]
 	pmullw xmm3,xmm1
 	pmullw xmm2,xmm1
 	psrlw  xmm2,0x4
@@ -418,8 +418,8 @@
 	pshufb xmm4,xmm3
 	movdqa xmm3,xmm0
 	pshufb xmm3,xmm2
-	movdqu XMMWORD PTR [rdx],xmm4
-	movdqu XMMWORD PTR [rdx+0x10],xmm3
+	movdqu XMMWORD PTR [rcx],xmm4
+	movdqu XMMWORD PTR [rcx+0x10],xmm3
 	cmp    rsi,0x10
 	je     2b
 	pmovzxbw xmm2,QWORD PTR [rdi+rsi*1-0x8]
@@ -431,8 +431,8 @@
 	movdqa xmm1,xmm0
 	pshufb xmm1,xmm3
 	pshufb xmm0,xmm2
-	movdqu XMMWORD PTR [rdx+rsi*2-0x20],xmm1
-	movdqu XMMWORD PTR [rdx+rsi*2-0x10],xmm0
+	movdqu XMMWORD PTR [rcx+rsi*2-0x20],xmm1
+	movdqu XMMWORD PTR [rcx+rsi*2-0x10],xmm0
 	ret
 7:
 	cmp    rsi,0x1
@@ -441,14 +441,14 @@
 	lea    rsi,[rip + const_hex_1_0_0_constant_4_v2]
 	movd   xmm0,eax
 	pinsrb xmm0,eax,0x2
-	movzx  eax,cl
+	movzx  eax,dl
 	shl    eax,0x4
 	movdqu xmm1,XMMWORD PTR [rax+rsi*1]
 	pmullw xmm1,xmm0
 	movdqu xmm0,XMMWORD PTR [rax+rsi*1+0x20]
 	psrlw  xmm1,0x4
 	pshufb xmm0,xmm1
-	pextrw WORD PTR [rdx],xmm0,0x1
+	pextrw WORD PTR [rcx],xmm0,0x1
 	ret
 8:
 	cmp    rsi,0x8
@@ -456,10 +456,10 @@
 	pmovzxbw xmm0,QWORD PTR [rdi+rsi*1-0x8]
 	lea    rax,[rip + const_hex_1_0_0_constant_4_v2]
 	pmovzxbw xmm1,QWORD PTR [rdi]
-	movzx  ecx,cl
-	shl    ecx,0x4
-	movdqu xmm2,XMMWORD PTR [rcx+rax*1]
-	movdqu xmm3,XMMWORD PTR [rcx+rax*1+0x20]
+	movzx  edx,dl
+	shl    edx,0x4
+	movdqu xmm2,XMMWORD PTR [rdx+rax*1]
+	movdqu xmm3,XMMWORD PTR [rdx+rax*1+0x20]
 	pmullw xmm0,xmm2
 	pmullw xmm1,xmm2
 	psrlw  xmm0,0x4
@@ -467,8 +467,8 @@
 	movdqa xmm2,xmm3
 	pshufb xmm2,xmm1
 	pshufb xmm3,xmm0
-	movdqu XMMWORD PTR [rdx],xmm2
-	movdqu XMMWORD PTR [rdx+rsi*2-0x10],xmm3
+	movdqu XMMWORD PTR [rcx],xmm2
+	movdqu XMMWORD PTR [rcx+rsi*2-0x10],xmm3
 	ret
 9:
 	cmp    rsi,0x4
@@ -477,15 +477,15 @@
 	pinsrd xmm0,DWORD PTR [rdi+rsi*1-0x4],0x1
 	lea    rax,[rip + const_hex_1_0_0_constant_4_v2]
 	pmovzxbw xmm0,xmm0
-	movzx  ecx,cl
-	shl    ecx,0x4
-	movdqu xmm1,XMMWORD PTR [rcx+rax*1]
+	movzx  edx,dl
+	shl    edx,0x4
+	movdqu xmm1,XMMWORD PTR [rdx+rax*1]
 	pmullw xmm1,xmm0
-	movdqu xmm0,XMMWORD PTR [rcx+rax*1+0x20]
+	movdqu xmm0,XMMWORD PTR [rdx+rax*1+0x20]
 	psrlw  xmm1,0x4
 	pshufb xmm0,xmm1
-	movq   QWORD PTR [rdx],xmm0
-	pextrq QWORD PTR [rdx+rsi*2-0x8],xmm0,0x1
+	movq   QWORD PTR [rcx],xmm0
+	pextrq QWORD PTR [rcx+rsi*2-0x8],xmm0,0x1
 	ret
 12:
 	test   rsi,rsi
@@ -495,15 +495,15 @@
 	pinsrw xmm0,WORD PTR [rdi+rsi*1-0x2],0x1
 	lea    rax,[rip + const_hex_1_0_0_constant_4_v2]
 	pmovzxbw xmm0,xmm0
-	movzx  ecx,cl
-	shl    ecx,0x4
-	movdqu xmm1,XMMWORD PTR [rcx+rax*1]
+	movzx  edx,dl
+	shl    edx,0x4
+	movdqu xmm1,XMMWORD PTR [rdx+rax*1]
 	pmullw xmm1,xmm0
-	movdqu xmm0,XMMWORD PTR [rcx+rax*1+0x20]
+	movdqu xmm0,XMMWORD PTR [rdx+rax*1+0x20]
 	psrlw  xmm1,0x4
 	pshufb xmm0,xmm1
-	movd   DWORD PTR [rdx],xmm0
-	pextrd DWORD PTR [rdx+rsi*2-0x4],xmm0,0x1
+	movd   DWORD PTR [rcx],xmm0
+	pextrd DWORD PTR [rcx+rsi*2-0x4],xmm0,0x1
 	ret
 	end const_hex_1_0_0_fill_v2
 

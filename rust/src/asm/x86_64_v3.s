@@ -191,19 +191,19 @@
 	jb     6f
 	vpmovzxbw ymm1,XMMWORD PTR [rdi]
 	lea    rax,[rip + const_hex_1_0_0_constant_7_v3]
-	movzx  ecx,cl
-	shl    ecx,0x4
-	vbroadcasti128 ymm0,XMMWORD PTR [rcx+rax*1]
+	movzx  edx,dl
+	shl    edx,0x4
+	vbroadcasti128 ymm0,XMMWORD PTR [rdx+rax*1]
 	vpmullw ymm1,ymm0,ymm1
 	vpsrlw ymm2,ymm1,0x4
-	vbroadcasti128 ymm1,XMMWORD PTR [rcx+rax*1+0x20]
+	vbroadcasti128 ymm1,XMMWORD PTR [rdx+rax*1+0x20]
 	vpshufb ymm2,ymm1,ymm2
 	vpmovzxbw ymm3,XMMWORD PTR [rdi+0x10]
 	vpmullw ymm3,ymm0,ymm3
 	vpsrlw ymm3,ymm3,0x4
-	vmovdqu YMMWORD PTR [rdx],ymm2
+	vmovdqu YMMWORD PTR [rcx],ymm2
 	vpshufb ymm2,ymm1,ymm3
-	vmovdqu YMMWORD PTR [rdx+0x20],ymm2
+	vmovdqu YMMWORD PTR [rcx+0x20],ymm2
 	cmp    rsi,0x20
 	jne    5f
 2:
@@ -214,51 +214,51 @@
 	and    eax,0x10
 	lea    r8,[rip + const_hex_1_0_0_constant_7_v3]
 	vbroadcasti128 ymm0,XMMWORD PTR [rax+r8*1]
-	movzx  eax,cl
+	movzx  eax,dl
 	shl    eax,0x4
 	vbroadcasti128 ymm1,XMMWORD PTR [rax+r8*1+0x20]
-	xor    ecx,ecx
+	xor    edx,edx
 	mov    rax,rsi
 	.byte 0xf, 0x1f, 0x40, 0x0  /* nop    DWORD PTR [rax+0x0] */
 4:
-	vpmovzxbw ymm2,XMMWORD PTR [rdi+rcx*1]
+	vpmovzxbw ymm2,XMMWORD PTR [rdi+rdx*1]
 	vpmullw ymm2,ymm0,ymm2
 	vpsrlw ymm2,ymm2,0x4
 	vpshufb ymm2,ymm1,ymm2
-	vpmovzxbw ymm3,XMMWORD PTR [rdi+rcx*1+0x10]
+	vpmovzxbw ymm3,XMMWORD PTR [rdi+rdx*1+0x10]
 	vpmullw ymm3,ymm0,ymm3
 	vpsrlw ymm3,ymm3,0x4
 	vpshufb ymm3,ymm1,ymm3
-	vmovdqu YMMWORD PTR [rdx+rcx*2],ymm2
-	vmovdqu YMMWORD PTR [rdx+rcx*2+0x20],ymm3
-	vpmovzxbw ymm2,XMMWORD PTR [rdi+rcx*1+0x20]
+	vmovdqu YMMWORD PTR [rcx+rdx*2],ymm2
+	vmovdqu YMMWORD PTR [rcx+rdx*2+0x20],ymm3
+	vpmovzxbw ymm2,XMMWORD PTR [rdi+rdx*1+0x20]
 	vpmullw ymm2,ymm0,ymm2
 	vpsrlw ymm2,ymm2,0x4
-	vpmovzxbw ymm3,XMMWORD PTR [rdi+rcx*1+0x30]
+	vpmovzxbw ymm3,XMMWORD PTR [rdi+rdx*1+0x30]
 	vpshufb ymm2,ymm1,ymm2
 	vpmullw ymm3,ymm0,ymm3
 	vpsrlw ymm3,ymm3,0x4
 	vpshufb ymm3,ymm1,ymm3
-	vmovdqu YMMWORD PTR [rdx+rcx*2+0x40],ymm2
-	vmovdqu YMMWORD PTR [rdx+rcx*2+0x60],ymm3
-	add    rcx,0x40
+	vmovdqu YMMWORD PTR [rcx+rdx*2+0x40],ymm2
+	vmovdqu YMMWORD PTR [rcx+rdx*2+0x60],ymm3
+	add    rdx,0x40
 	add    rax,0xffffffffffffffc0
 	cmp    rax,0x3f
 	ja     4b
-	cmp    rcx,rsi
+	cmp    rdx,rsi
 	je     2b
 	cmp    rax,0x21
 	jb     5f
-	vpmovzxbw ymm2,XMMWORD PTR [rdi+rcx*1]
+	vpmovzxbw ymm2,XMMWORD PTR [rdi+rdx*1]
 	vpmullw ymm2,ymm0,ymm2
 	vpsrlw ymm2,ymm2,0x4
-	vpmovzxbw ymm3,XMMWORD PTR [rdi+rcx*1+0x10]
+	vpmovzxbw ymm3,XMMWORD PTR [rdi+rdx*1+0x10]
 	vpshufb ymm2,ymm1,ymm2
 	vpmullw ymm3,ymm0,ymm3
 	vpsrlw ymm3,ymm3,0x4
 	vpshufb ymm3,ymm1,ymm3
-	vmovdqu YMMWORD PTR [rdx+rcx*2],ymm2
-	vmovdqu YMMWORD PTR [rdx+rcx*2+0x20],ymm3
+	vmovdqu YMMWORD PTR [rcx+rdx*2],ymm2
+	vmovdqu YMMWORD PTR [rcx+rdx*2+0x20],ymm3
 5:
 	vpmovzxbw ymm2,XMMWORD PTR [rdi+rsi*1-0x20]
 	vpmullw ymm2,ymm0,ymm2
@@ -268,8 +268,8 @@
 	vpmullw ymm0,ymm0,ymm3
 	vpsrlw ymm0,ymm0,0x4
 	vpshufb ymm0,ymm1,ymm0
-	vmovdqu YMMWORD PTR [rdx+rsi*2-0x40],ymm2
-	vmovdqu YMMWORD PTR [rdx+rsi*2-0x20],ymm0
+	vmovdqu YMMWORD PTR [rcx+rsi*2-0x40],ymm2
+	vmovdqu YMMWORD PTR [rcx+rsi*2-0x20],ymm0
 	vzeroupper
 	ret
 6:
@@ -277,21 +277,21 @@
 	jb     7f
 	vpmovzxbw ymm1,XMMWORD PTR [rdi]
 	lea    rax,[rip + const_hex_1_0_0_constant_7_v3]
-	movzx  ecx,cl
-	shl    ecx,0x4
-	vbroadcasti128 ymm0,XMMWORD PTR [rcx+rax*1]
+	movzx  edx,dl
+	shl    edx,0x4
+	vbroadcasti128 ymm0,XMMWORD PTR [rdx+rax*1]
 	vpmullw ymm1,ymm0,ymm1
 	vpsrlw ymm2,ymm1,0x4
-	vbroadcasti128 ymm1,XMMWORD PTR [rcx+rax*1+0x20]
+	vbroadcasti128 ymm1,XMMWORD PTR [rdx+rax*1+0x20]
 	vpshufb ymm2,ymm1,ymm2
-	vmovdqu YMMWORD PTR [rdx],ymm2
+	vmovdqu YMMWORD PTR [rcx],ymm2
 	cmp    rsi,0x10
 	je     2b
 	vpmovzxbw ymm2,XMMWORD PTR [rdi+rsi*1-0x10]
 	vpmullw ymm0,ymm0,ymm2
 	vpsrlw ymm0,ymm0,0x4
 	vpshufb ymm0,ymm1,ymm0
-	vmovdqu YMMWORD PTR [rdx+rsi*2-0x20],ymm0
+	vmovdqu YMMWORD PTR [rcx+rsi*2-0x20],ymm0
 	vzeroupper
 	ret
 7:
@@ -302,13 +302,13 @@
 	vpinsrb xmm0,xmm0,eax,0x1
 	lea    rax,[rip + const_hex_1_0_0_constant_7_v3]
 	vpmovzxbw xmm0,xmm0
-	movzx  ecx,cl
-	shl    ecx,0x4
-	vpmullw xmm0,xmm0,XMMWORD PTR [rcx+rax*1]
+	movzx  edx,dl
+	shl    edx,0x4
+	vpmullw xmm0,xmm0,XMMWORD PTR [rdx+rax*1]
 	vpsrlw xmm0,xmm0,0x4
-	vmovdqu xmm1,XMMWORD PTR [rcx+rax*1+0x20]
+	vmovdqu xmm1,XMMWORD PTR [rdx+rax*1+0x20]
 	vpshufb xmm0,xmm1,xmm0
-	vpextrw WORD PTR [rdx],xmm0,0x1
+	vpextrw WORD PTR [rcx],xmm0,0x1
 	ret
 8:
 	cmp    rsi,0x8
@@ -318,15 +318,15 @@
 	vpunpcklqdq xmm0,xmm1,xmm0
 	lea    rax,[rip + const_hex_1_0_0_constant_7_v3]
 	vpmovzxbw ymm0,xmm0
-	movzx  ecx,cl
-	shl    ecx,0x4
-	vbroadcasti128 ymm1,XMMWORD PTR [rcx+rax*1]
+	movzx  edx,dl
+	shl    edx,0x4
+	vbroadcasti128 ymm1,XMMWORD PTR [rdx+rax*1]
 	vpmullw ymm0,ymm1,ymm0
 	vpsrlw ymm0,ymm0,0x4
-	vbroadcasti128 ymm1,XMMWORD PTR [rcx+rax*1+0x20]
+	vbroadcasti128 ymm1,XMMWORD PTR [rdx+rax*1+0x20]
 	vpshufb ymm0,ymm1,ymm0
-	vmovdqu XMMWORD PTR [rdx],xmm0
-	vextracti128 XMMWORD PTR [rdx+rsi*2-0x10],ymm0,0x1
+	vmovdqu XMMWORD PTR [rcx],xmm0
+	vextracti128 XMMWORD PTR [rcx+rsi*2-0x10],ymm0,0x1
 	vzeroupper
 	ret
 9:
@@ -337,14 +337,14 @@
 	vpunpckldq xmm0,xmm1,xmm0
 	lea    rax,[rip + const_hex_1_0_0_constant_7_v3]
 	vpmovzxbw xmm0,xmm0
-	movzx  ecx,cl
-	shl    ecx,0x4
-	vpmullw xmm0,xmm0,XMMWORD PTR [rcx+rax*1]
+	movzx  edx,dl
+	shl    edx,0x4
+	vpmullw xmm0,xmm0,XMMWORD PTR [rdx+rax*1]
 	vpsrlw xmm0,xmm0,0x4
-	vmovdqu xmm1,XMMWORD PTR [rcx+rax*1+0x20]
+	vmovdqu xmm1,XMMWORD PTR [rdx+rax*1+0x20]
 	vpshufb xmm0,xmm1,xmm0
-	vmovq  QWORD PTR [rdx],xmm0
-	vpextrq QWORD PTR [rdx+rsi*2-0x8],xmm0,0x1
+	vmovq  QWORD PTR [rcx],xmm0
+	vpextrq QWORD PTR [rcx+rsi*2-0x8],xmm0,0x1
 	ret
 12:
 	test   rsi,rsi
@@ -354,14 +354,14 @@
 	vpinsrw xmm0,xmm0,WORD PTR [rdi+rsi*1-0x2],0x1
 	lea    rax,[rip + const_hex_1_0_0_constant_7_v3]
 	vpmovzxbw xmm0,xmm0
-	movzx  ecx,cl
-	shl    ecx,0x4
-	vpmullw xmm0,xmm0,XMMWORD PTR [rcx+rax*1]
+	movzx  edx,dl
+	shl    edx,0x4
+	vpmullw xmm0,xmm0,XMMWORD PTR [rdx+rax*1]
 	vpsrlw xmm0,xmm0,0x4
-	vmovdqu xmm1,XMMWORD PTR [rcx+rax*1+0x20]
+	vmovdqu xmm1,XMMWORD PTR [rdx+rax*1+0x20]
 	vpshufb xmm0,xmm1,xmm0
-	vmovd  DWORD PTR [rdx],xmm0
-	vpextrd DWORD PTR [rdx+rsi*2-0x4],xmm0,0x1
+	vmovd  DWORD PTR [rcx],xmm0
+	vpextrd DWORD PTR [rcx+rsi*2-0x4],xmm0,0x1
 	ret
 	end const_hex_1_0_0_fill_v3
 

@@ -94,7 +94,7 @@ functions! {
     ///
     /// Safety: there are so many bytes, and `text` may be written for two bytes for each. These need not be
     /// initialized, and are afterwards.
-    fill(bytes: *const u8, length: usize, text: *mut u8, upper: u32),
+    fill(bytes: *const u8, length: usize, upper: u32, text: *mut u8),
         const_hex_1_0_0_fill_v2, const_hex_1_0_0_fill_v3, const_hex_1_0_0_fill;
     /// Returns whether every byte of the text is a digit.
     ///

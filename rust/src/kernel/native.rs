@@ -32,7 +32,7 @@ impl Kernel for Native {
         assert!(output.len() == 2 * input.len());
         let (bytes, text) = (input.as_ptr(), output.as_mut_ptr());
         // SAFETY: the output has two bytes for each byte of the input.
-        unsafe { machine_code::fill(bytes, input.len(), text, upper.into()) }
+        unsafe { machine_code::fill(bytes, input.len(), upper.into(), text) }
     }
 
     #[inline]

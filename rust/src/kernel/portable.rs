@@ -8,7 +8,7 @@ use core::{ptr, slice};
 const BLOCK: usize = Portable::PIECE;
 
 #[inline(always)]
-pub unsafe fn fill(bytes: *const u8, length: usize, text: *mut u8, upper: u32) {
+pub unsafe fn fill(bytes: *const u8, length: usize, upper: u32, text: *mut u8) {
     let mut block = [0; 2 * BLOCK];
     let mut at = 0;
     while at < length {

@@ -1,5 +1,5 @@
 -- Texts and pieces by their first and their last bytes.
-use Rattle.std.proofs.Common.{◌≡◌, ℕ, ◌+◌, ◌-◌, ◌*◌, ◌≤◌, ◌↔◌, Bool, List, ◌++◌, length, take, drop, refl, sym, ap, ◌∙◌, arith, take-append-drop, take-add, length-take, length-drop}
+use Rattle.std.proofs.Common.{◌≡◌, ℕ, ◌+◌, ◌-◌, ◌*◌, ◌/◌, ◌%◌, ◌<◌, ◌≤◌, ◌↔◌, Bool, List, [], ◌∷◌, ◌++◌, length, take, drop, get_or, refl, sym, ap, ◌∙◌, arith, take-append-drop, take-add, length-take, length-drop}
 use Rattle.std.proofs.lemmas.Grind.{common_steps}
 use Rattle.std.proofs.lemmas.List.{take_all, take_at, take_rest, take-take, drop_at, drop-take}
 use Rattle.std.proofs.lemmas.List.Elements.{All-take, All-drop}
@@ -7,11 +7,11 @@ use Rattle.std.proofs.lemmas.Simd.{length-put_chunk, take_more_put_chunk}
 use lib.Lanes.{put_chunk}
 use borrow.Rule.Slice.PartMut.{put_mid}
 use Rattle.std.proofs.lemmas.Slice.{take-put_mid}
-use Rattle.const_hex_arch.specs.Texts.{IsDigit, hex_text, AllDigits, Spells}
+use Rattle.const_hex_arch.specs.Texts.{IsDigit, hex_digit, hex_text, AllDigits, Spells}
 use Rattle.const_hex_arch.proofs.lemmas.DigitTexts.{digits_append, digits_parts}
 use Rattle.const_hex_arch.proofs.lemmas.Spelling.{Spells-append, Spells-parts}
 use Rattle.const_hex_arch.proofs.lemmas.Steps.{digits_last}
-use Rattle.const_hex_arch.proofs.lemmas.Texts.{hex_text-nil, hex_text-append, length-hex_text}
+use Rattle.const_hex_arch.proofs.lemmas.Texts.{hex_text-nil, hex_text-one, hex_text-append, length-hex_text}
 
 -- the text of the first k bytes, and of the others
 hex_text-parts : (up : Bool) (k : ℕ) (bs : List ℕ) → k ≤ length bs
@@ -109,6 +109,13 @@ filled_step {up} {u} {new} {i} {end} r n m d e h f s =
       size = kept ∙ d.size;
       front = rw (bytes, d.front, s, e, take-add i n u, hex_text-append);
     }
+
+-- the digits of one byte more
+pub filled_one : {up : Bool} {u new : List ℕ} {i end : ℕ} (r : List ℕ) (m : ℕ) → IsFilled up u new i → i < length u
+    → end ≡ i + 1 → m ≡ 2 → r ≡ hex_digit up (get_or u i 0 / 16) ∷ hex_digit up (get_or u i 0 % 16) ∷ []
+    → IsFilled up u (put_mid (2 * i) m new r) end
+filled_one {up} {u} {new} {i} r m d h e f s =
+    filled_step r 1 m d e (omega arith) f (s ∙ sym (hex_text-one up u i h))
 
 -- fewer bytes are written than there are
 pub filled_less : {up : Bool} {u new : List ℕ} {i : ℕ} (e : ℕ) → IsFilled up u new i → e ≤ i → IsFilled up u new e
