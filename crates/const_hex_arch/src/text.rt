@@ -39,19 +39,10 @@ pub fn fill_text<K: Kernel>(input: &[u8], prefix: bool, upper: bool, output: &mu
     ensures ascii { IsAscii output.new }
 {
     let (front, digits) = output.split_at_mut(if prefix { 2 } else { 0 });
-    put_prefix(prefix, front);
-    K::fill(input, upper, digits);
-}
-
-/// Fills the output with `0x` if `prefix` is true. Otherwise the output must be empty.
-#[inline(always)]
-fn put_prefix(prefix: bool, output: &mut [u8])
-    requires { length output.old ≡ length (prefix_of prefix) }
-    ensures { output.new ≡ prefix_of prefix }
-{
     if prefix {
-        output.copy_from_slice(b"0x");
+        front.copy_from_slice(b"0x");
     }
+    K::fill(input, upper, digits);
 }
 
 /// Writes `0x` if `prefix` is true, and then two digits for each byte, by the kernel `K`. The

@@ -19,16 +19,10 @@ pub fn text_length(prefix: bool, count: usize) -> usize {
 #[inline(always)]
 pub fn fill_text<K: Kernel>(input: &[u8], prefix: bool, upper: bool, output: &mut [u8]) {
     let (front, digits) = output.split_at_mut(if prefix { 2 } else { 0 });
-    put_prefix(prefix, front);
-    K::fill(input, upper, digits);
-}
-
-/// Fills the output with `0x` if `prefix` is true. Otherwise the output must be empty.
-#[inline(always)]
-fn put_prefix(prefix: bool, output: &mut [u8]) {
     if prefix {
-        output.copy_from_slice(b"0x");
+        front.copy_from_slice(b"0x");
     }
+    K::fill(input, upper, digits);
 }
 
 /// Writes `0x` if `prefix` is true, and then two digits for each byte, by the kernel `K`. The
