@@ -2,8 +2,8 @@
 //!
 //! `c/asm/freeze` writes what `rt` makes of `fill`, `check` and `read`. They require that the lengths fit, which
 //! their callers have compared, and which registers hold their arguments is left to the compiler:
-//! `machine_code` proves their code with the arguments where `rust/src/kernel/machine_code.rs` passes them. Only to the
-//! exported functions, each of which calls one of them, does `rt` compile them at all.
+//! `machine_code` proves their code with the arguments where `rust/src/kernel/machine_code.rs` passes them.
+//! `rt` compiles them only because exported functions call them.
 #![tactic(auto)]
 
 ghost use Rattle.std.specs.Prelude.{◌≡◌, ◌↔◌, ◌*◌, IsTrue, false, length};

@@ -1,10 +1,10 @@
 // Made by rust/erase from crates/const_hex_c/src/lib.rt. Do not edit.
 //! The codec's functions for C.
 //!
-//! Each function that encodes, decodes or checks makes one call of `const_hex`, and has that call's
-//! clauses. The others are the size of a buffer, the message of an error, and the version. No
-//! function allocates, and none requires anything of its arguments. A slice is a pointer and a
-//! length; the pointer may be null if the length is 0.
+//! Each function that encodes, decodes or checks makes one call of `const_hex`. It has that call's
+//! clauses, and `const_hex_encode` also those for the NUL. The others are the size of a buffer, the
+//! message of an error, and the version. No function allocates, and none requires anything of its
+//! arguments. A slice is a pointer and a length; the pointer may be null if the length is 0.
 //!
 //! The header `c/const_hex.h` says the same for C. There an error may be NULL: `c/asm/dispatch.S` and
 //! `rust/capi` pass an error of their own to the functions that end in `_nonnull` here.

@@ -145,7 +145,7 @@ fn decode_ends<const H: usize, const D: usize>(text: &[u8], output: &mut [u8]) -
 {
     let mut bytes = [0; 16];
     let step = steps::load_ends::<D, 32>(text, b'0');
-    let are_digits = steps::decode_step::<16, Lanes16>(&step, &mut bytes, false);
+    let are_digits = steps::decode_step::<16, Lanes16>(&step, false, &mut bytes);
     if are_digits {
         let last = Simd::from_slice(&bytes[H..]);
         put::<H>(Simd::from_slice(&bytes), last, output.len() - H, output);

@@ -120,8 +120,8 @@ fn marks_of_two_steps<const N: usize, V: LaneOps<N>>(text: &[u8]) -> Simd<u8, N>
 #[tactic(auto, using(std::proofs::lemmas::Simd::put_chunk_whole))]
 pub(crate) fn decode_step<const N: usize, V: LaneOps<N>>(
     text: &[u8],
-    output: &mut [u8],
     row_copy: bool,
+    output: &mut [u8],
 ) -> bool
     requires text { length text.now ≡ 2 * N }
     requires output { length output.old ≡ N }
@@ -141,8 +141,8 @@ pub(crate) fn decode_step<const N: usize, V: LaneOps<N>>(
 #[tactic(auto, using(crate::proofs::lemmas::Spelling::spelled, crate::proofs::lemmas::Steps::parts, std::proofs::lemmas::Simd::put_chunk_whole))]
 pub(crate) fn decode_two_steps<const N: usize, V: LaneOps<N>>(
     text: &[u8],
-    output: &mut [u8],
     row_copy: bool,
+    output: &mut [u8],
 ) -> bool
     requires text { length text.now ≡ 4 * N }
     requires output { length output.old ≡ 2 * N }
@@ -183,8 +183,8 @@ fn decode_vector<const N: usize, V: LaneOps<N>>(text: &[u8], row_copy: bool) -> 
 #[tactic(auto, using(crate::proofs::lemmas::LaneBytes::in_two, std::proofs::lemmas::Simd::put_chunk_whole))]
 pub(crate) fn decode_digits_step<const N: usize, V: LaneOps<N>>(
     text: &[u8],
-    output: &mut [u8],
     row_copy: bool,
+    output: &mut [u8],
 )
     requires text { length text.now ≡ 2 * N }
     requires output { length output.old ≡ N }

@@ -76,9 +76,10 @@ pub(crate) fn check_in_steps<const N: usize, V: LaneOps<N>>(input: &[u8]) -> boo
 /// Decodes the input and returns true. Returns false if some character is invalid; then the front
 /// of the output may already be decoded. Two steps share one test. If it fails, single steps take
 /// over, so that the first of the two is decoded if it is valid. A step with an invalid character
-/// writes nothing. The remainder is covered by the last 16 bytes of the output, some of which are
-/// decoded twice. Fewer than 16 bytes are a remainder as a whole. If the remainder has an
-/// invalid character, its pairs before that one are decoded only if `PAIRS` is true.
+/// writes nothing. After the steps of `N` lanes, one of 16 is decoded if 16 bytes are left. The
+/// remainder is covered by the last 16 bytes of the output, some of which are decoded twice. Fewer
+/// than 16 bytes are a remainder as a whole. If the remainder has an invalid character, its pairs
+/// before that one are decoded only if `PAIRS` is true.
 #[inline(always)]
 pub(crate) fn decode_in_steps<const N: usize, const PAIRS: bool, V: LaneOps<N>>(
     input: &[u8],
@@ -94,8 +95,8 @@ pub(crate) fn decode_in_steps<const N: usize, const PAIRS: bool, V: LaneOps<N>>(
         let row_copy = lanes16::row_copy_for(output.len());
         if !steps::decode_two_steps::<N, V>(
             &input[2 * at..2 * end],
-            &mut output[at..end],
             row_copy,
+            &mut output[at..end],
         ) {
             break;
         }
@@ -103,7 +104,7 @@ pub(crate) fn decode_in_steps<const N: usize, const PAIRS: bool, V: LaneOps<N>>(
     }
     while output.len() - at >= N {
         let end = at + N;
-        if !steps::decode_step::<N, V>(&input[2 * at..2 * end], &mut output[at..end], false) {
+        if !steps::decode_step::<N, V>(&input[2 * at..2 * end], false, &mut output[at..end]) {
             return false;
         }
         at = end;
@@ -112,8 +113,8 @@ pub(crate) fn decode_in_steps<const N: usize, const PAIRS: bool, V: LaneOps<N>>(
         let end = at + 16;
         if !steps::decode_step::<16, Lanes16>(
             &input[2 * at..2 * end],
-            &mut output[at..end],
             false,
+            &mut output[at..end],
         ) {
             return false;
         }
@@ -123,7 +124,7 @@ pub(crate) fn decode_in_steps<const N: usize, const PAIRS: bool, V: LaneOps<N>>(
         return true;
     }
     let start = output.len() - 16;
-    steps::decode_step::<16, Lanes16>(&input[2 * start..], &mut output[start..], false)
+    steps::decode_step::<16, Lanes16>(&input[2 * start..], false, &mut output[start..])
         || (PAIRS && small_input::decode_pairs(&input[2 * at..], &mut output[at..]))
 }
 
@@ -139,20 +140,20 @@ pub(crate) fn decode_digits_in_steps<const N: usize, V: LaneOps<N>>(input: &[u8]
     while output.len() - at >= N {
         let end = at + N;
         let row_copy = lanes16::row_copy_for(output.len());
-        steps::decode_digits_step::<N, V>(&input[2 * at..2 * end], &mut output[at..end], row_copy);
+        steps::decode_digits_step::<N, V>(&input[2 * at..2 * end], row_copy, &mut output[at..end]);
         at = end;
     }
     if output.len() - at >= 16 {
         let end = at + 16;
         steps::decode_digits_step::<16, Lanes16>(
             &input[2 * at..2 * end],
-            &mut output[at..end],
             false,
+            &mut output[at..end],
         );
         at = end;
     }
     if at < output.len() {
         let start = output.len() - 16;
-        steps::decode_digits_step::<16, Lanes16>(&input[2 * start..], &mut output[start..], false);
+        steps::decode_digits_step::<16, Lanes16>(&input[2 * start..], false, &mut output[start..]);
     }
 }

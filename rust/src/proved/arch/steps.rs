@@ -83,8 +83,8 @@ fn marks_of_two_steps<const N: usize, V: LaneOps<N>>(text: &[u8]) -> Simd<u8, N>
 #[inline(always)]
 pub(crate) fn decode_step<const N: usize, V: LaneOps<N>>(
     text: &[u8],
-    output: &mut [u8],
     row_copy: bool,
+    output: &mut [u8],
 ) -> bool {
     let are_digits = check_two_steps::<N, V>(text);
     if are_digits {
@@ -97,8 +97,8 @@ pub(crate) fn decode_step<const N: usize, V: LaneOps<N>>(
 #[inline(always)]
 pub(crate) fn decode_two_steps<const N: usize, V: LaneOps<N>>(
     text: &[u8],
-    output: &mut [u8],
     row_copy: bool,
+    output: &mut [u8],
 ) -> bool {
     let are_digits = check_four_steps::<N, V>(text);
     if are_digits {
@@ -127,8 +127,8 @@ fn decode_vector<const N: usize, V: LaneOps<N>>(text: &[u8], row_copy: bool) -> 
 #[inline(always)]
 pub(crate) fn decode_digits_step<const N: usize, V: LaneOps<N>>(
     text: &[u8],
-    output: &mut [u8],
     row_copy: bool,
+    output: &mut [u8],
 ) {
     let first = Simd::from_slice(text);
     lanes::decode_digits::<N, V>(first, Simd::from_slice(&text[N..]), row_copy).copy_to_slice(
