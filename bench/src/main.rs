@@ -12,10 +12,11 @@ use std::process::{Command, ExitCode};
 use std::sync::Mutex;
 use std::{env, io, thread};
 
-/// The calls of the shorter run, and those that the longer run makes beyond them.
+/// The calls of the shorter run, and those that the longer run makes beyond them. The numbers for both runs have as
+/// many digits, so that the arguments take the same space.
 fn calls(size: usize) -> (usize, usize) {
     if size > 2048 {
-        (5, 20)
+        (10, 20)
     } else {
         (100, 400)
     }

@@ -108,7 +108,7 @@ fn decode_ends<const H: usize, const D: usize>(text: &[u8], output: &mut [u8]) -
 }
 
 /// Stores the first bytes, and the last bytes from their start. Together they fill the output. Where
-/// both overlap, the last bytes are kept.
+/// both overlap, the last bytes are kept. Slices would first be compared for an overlap.
 #[inline(always)]
 fn put<const H: usize>(first: Simd<u8, H>, last: Simd<u8, H>, start: usize, output: &mut [u8]) {
     first.copy_to_slice(output);
