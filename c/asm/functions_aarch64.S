@@ -106,37 +106,37 @@
 	hidden SYMBOL(const_hex_decode_exact_nonnull)
 	function SYMBOL(const_hex_decode_exact_nonnull)
 	sub sp, sp, #0x40
-	mov w9, #0x1000
+	mov w8, #0x1000
 	cmp x0, #0x0
 	stp x29, x30, [sp, #16]
-	csel x8, x9, xzr, eq
+	csel x9, x8, xzr, eq
 	cmp x2, #0x0
 	str x21, [sp, #32]
-	csel x9, x9, xzr, eq
+	csel x8, x8, xzr, eq
 	stp x20, x19, [sp, #48]
 	add x29, sp, #0x10
 	stp xzr, xzr, [sp]
 	tbnz w1, #0, 3f
-	add x19, x0, x8
-	subs x10, x1, #0x2
-	mov x8, x1
+	add x19, x0, x9
+	subs x9, x1, #0x2
+	mov x10, x1
 	mov x0, x19
 	b.cc 2f
-	ldrh w8, [x19]
+	ldrh w10, [x19]
 	mov w11, #0x7830
 	mov x0, x19
-	orr w8, w8, #0x2000
-	cmp w8, w11
-	mov x8, x1
+	orr w10, w10, #0x2000
+	cmp w10, w11
+	mov x10, x1
 	b.ne 2f
 	add x0, x19, #0x2
-	mov x8, x10
+	mov x10, x9
 2:
-	cmp x3, x8, lsr #1
+	cmp x3, x10, lsr #1
 	b.ne 5f
 	mov x20, x1
-	add x2, x2, x9
-	mov x1, x8
+	add x1, x2, x8
+	mov x2, x3
 	mov x21, x4
 	bl SYMBOL(const_hex_kernel_read)
 	cbz w0, 4f
@@ -197,33 +197,33 @@
 	function SYMBOL(const_hex_decode_nonnull)
 	sub sp, sp, #0x50
 	cmp x0, #0x0
-	mov w9, #0x1000
+	mov w8, #0x1000
 	stp x29, x30, [sp, #16]
-	csel x8, x9, xzr, eq
+	csel x9, x8, xzr, eq
 	cmp x2, #0x0
 	str x23, [sp, #32]
-	csel x9, x9, xzr, eq
+	csel x8, x8, xzr, eq
 	stp x22, x21, [sp, #48]
 	add x29, sp, #0x10
 	stp x20, x19, [sp, #64]
 	stp xzr, xzr, [sp]
 	tbnz w1, #0, 4f
-	add x19, x0, x8
-	subs x10, x1, #0x2
-	mov x8, x1
+	add x19, x0, x9
+	subs x9, x1, #0x2
+	mov x10, x1
 	mov x0, x19
 	b.cc 2f
-	ldrh w8, [x19]
+	ldrh w10, [x19]
 	mov w11, #0x7830
 	mov x0, x19
-	orr w8, w8, #0x2000
-	cmp w8, w11
-	mov x8, x1
+	orr w10, w10, #0x2000
+	cmp w10, w11
+	mov x10, x1
 	b.ne 2f
 	add x0, x19, #0x2
-	mov x8, x10
+	mov x10, x9
 2:
-	lsr x20, x8, #1
+	lsr x20, x10, #1
 	cmp x3, x20
 	b.cs 6f
 	str xzr, [x4]
@@ -249,9 +249,8 @@
 	ret
 6:
 	mov x21, x1
-	add x2, x2, x9
-	mov x1, x8
-	mov x3, x20
+	add x1, x2, x8
+	mov x2, x20
 	mov x23, x4
 	mov x22, x5
 	bl SYMBOL(const_hex_kernel_read)
@@ -378,8 +377,8 @@
 	mov x22, x2
 	bl const_hex_decoder_decode_after
 	mov x8, x22
-	tbz w0, #0, 21f
-	cbz x8, 22f
+	tbz w0, #0, 23f
+	cbz x8, 21f
 	and x9, x26, #0xfffffffffffffffe
 	cmp x8, x9
 	b.ne 15f
@@ -416,36 +415,35 @@
 	str x9, [x6, #8]
 	b 20f
 13:
-	mov x26, x2
+	mov x23, x2
 	mov x21, x0
-	and x1, x22, #0xfffffffffffffffe
-	add x2, x3, x8
+	add x1, x3, x8
 	mov x0, x19
-	mov x3, x20
+	mov x2, x20
 	mov x24, x5
 	mov x25, x6
-	and x23, x22, #0xfffffffffffffffe
 	bl SYMBOL(const_hex_kernel_read)
-	mov x8, x26
-	cbz w0, 21f
+	cbz w0, 22f
+	and x9, x22, #0xfffffffffffffffe
+	mov x8, x23
 	tbz w22, #0, 14f
-	ldrb w9, [x19, x23]
-	sub w10, w9, #0x41
-	sub w11, w9, #0x30
-	sub w9, w9, #0x61
-	and w10, w10, #0xff
+	ldrb w10, [x19, x9]
+	sub w11, w10, #0x41
+	sub w12, w10, #0x30
+	sub w10, w10, #0x61
 	and w11, w11, #0xff
-	and w9, w9, #0xff
+	and w12, w12, #0xff
+	and w10, w10, #0xff
+	add w11, w11, #0x4
 	add w10, w10, #0x4
-	add w9, w9, #0x4
+	cmp w11, w12
+	csel w11, w11, w12, cc
 	cmp w10, w11
 	csel w10, w10, w11, cc
-	cmp w9, w10
-	csel w9, w9, w10, cc
-	cmp w9, #0x9
-	b.hi 21f
+	cmp w10, #0x9
+	b.hi 23f
 14:
-	cmp x23, x22
+	cmp x9, x22
 	b.ne 16f
 15:
 	ldr x10, [x21]
@@ -476,6 +474,11 @@
 	add sp, sp, #0x60
 	ret
 21:
+	mov x20, xzr
+	b 18b
+22:
+	mov x8, x23
+23:
 	sub x2, x8, x22
 	mov x0, sp
 	mov x1, x21
@@ -487,23 +490,20 @@
 	ldr x9, [sp, #8]
 	str xzr, [x24]
 	cmp w8, #0x1
-	b.gt 23f
+	b.gt 24f
 	mov x6, x25
 	cbnz w8, 9b
 	mov w10, #0x1
 	mov x9, x8
 	b 12b
-22:
-	mov x20, xzr
-	b 18b
-23:
+24:
 	cmp w8, #0x2
 	mov x6, x25
-	b.ne 24f
+	b.ne 25f
 	mov w10, #0x3
 	mov w8, w11
 	b 12b
-24:
+25:
 	mov w8, wzr
 	mov x9, xzr
 	mov w10, #0x4
@@ -928,36 +928,35 @@
 /* const_hex::codec::decoder::decode_after */
 	function const_hex_decoder_decode_after
 	cbz x2, 3f
-	sub sp, sp, #0x40
-	stp x29, x30, [sp, #16]
-	add x29, sp, #0x10
+	stp x29, x30, [sp, #-64]!
+	mov x29, sp
 	ldrb w8, [x1]
 	stp x22, x21, [sp, #32]
-	mov x21, x1
-	mov w1, #0x2
 	stp x20, x19, [sp, #48]
-	mov x20, x3
 	mov x19, x2
-	sturb w0, [x29, #-4]
-	sub x0, x29, #0x4
-	mov x2, x3
-	mov w3, #0x1
-	mov x22, x4
-	sturb w8, [x29, #-3]
+	mov x22, x1
+	strb w0, [x29, #28]
+	add x0, x29, #0x1c
+	mov x1, x3
+	mov w2, #0x1
+	str x23, [sp, #16]
+	mov x21, x4
+	mov x20, x3
+	strb w8, [x29, #29]
 	bl SYMBOL(const_hex_kernel_read)
 	cbz w0, 2f
-	sub x3, x22, #0x1
-	add x21, x21, #0x1
-	add x2, x20, #0x1
-	lsl x22, x3, #1
+	sub x23, x21, #0x1
+	add x21, x22, #0x1
+	add x1, x20, #0x1
 	mov x0, x21
-	mov x1, x22
+	mov x2, x23
 	bl SYMBOL(const_hex_kernel_read)
 	cbz w0, 2f
-	sub x8, x22, x19
-	cmn x8, #0x2
+	lsl x8, x23, #1
+	sub x9, x8, x19
+	cmn x9, #0x2
 	b.ne 4f
-	ldrb w8, [x21, x22]
+	ldrb w8, [x21, x8]
 	sub w9, w8, #0x41
 	sub w10, w8, #0x30
 	sub w8, w8, #0x61
@@ -974,9 +973,9 @@
 	cset w0, cc
 2:
 	ldp x20, x19, [sp, #48]
+	ldr x23, [sp, #16]
 	ldp x22, x21, [sp, #32]
-	ldp x29, x30, [sp, #16]
-	add sp, sp, #0x40
+	ldp x29, x30, [sp], #64
 	ret
 3:
 	mov w0, #0x1
@@ -984,9 +983,9 @@
 4:
 	mov w0, #0x1
 	ldp x20, x19, [sp, #48]
+	ldr x23, [sp, #16]
 	ldp x22, x21, [sp, #32]
-	ldp x29, x30, [sp, #16]
-	add sp, sp, #0x40
+	ldp x29, x30, [sp], #64
 	ret
 	end const_hex_decoder_decode_after
 

@@ -121,42 +121,42 @@
 	sub    rsp,0x10
 	xor    eax,eax
 	test   rdi,rdi
-	sete   r9b
-	xor    r10d,r10d
-	test   rdx,rdx
 	sete   r11b
+	xor    r9d,r9d
+	test   rdx,rdx
+	sete   r10b
 	xorps  xmm0,xmm0
 	movaps XMMWORD PTR [rsp],xmm0
 	test   sil,0x1
 	jne    3f
-	mov    al,r9b
+	mov    al,r11b
 	shl    eax,0xc
 	add    rdi,rax
-	mov    rax,rsi
-	mov    r9,rdi
+	mov    r11,rsi
+	mov    rax,rdi
 	cmp    rsi,0x2
 	jb     2f
 	movzx  ebx,WORD PTR [rdi]
 	or     ebx,0x2000
-	mov    rax,rsi
-	mov    r9,rdi
+	mov    r11,rsi
+	mov    rax,rdi
 	cmp    ebx,0x7830
 	jne    2f
-	lea    rax,[rsi-0x2]
-	lea    r9,[rdi+0x2]
+	lea    r11,[rsi-0x2]
+	lea    rax,[rdi+0x2]
 2:
-	mov    rbx,rax
-	shr    rbx,1
-	cmp    rbx,rcx
+	shr    r11,1
+	cmp    r11,rcx
 	jne    6f
 	mov    r14,rdi
 	mov    rbx,rsi
 	mov    r15,r8
-	mov    r10b,r11b
-	shl    r10d,0xc
-	add    rdx,r10
-	mov    rdi,r9
-	mov    rsi,rax
+	mov    r9b,r10b
+	shl    r9d,0xc
+	add    rdx,r9
+	mov    rdi,rax
+	mov    rsi,rdx
+	mov    rdx,rcx
 	call   SYMBOL(const_hex_kernel_read)
 	test   al,al
 	je     4f
@@ -226,31 +226,30 @@
 	sub    rsp,0x18
 	xor    eax,eax
 	test   rdi,rdi
-	sete   r10b
-	xor    r11d,r11d
+	sete   bl
+	xor    r10d,r10d
 	test   rdx,rdx
-	sete   bpl
+	sete   r11b
 	xorps  xmm0,xmm0
 	movaps XMMWORD PTR [rsp],xmm0
 	test   sil,0x1
 	jne    4f
-	mov    al,r10b
+	mov    al,bl
 	shl    eax,0xc
 	add    rdi,rax
-	mov    rax,rsi
-	mov    r10,rdi
+	mov    rbx,rsi
+	mov    rax,rdi
 	cmp    rsi,0x2
 	jb     2f
-	movzx  ebx,WORD PTR [rdi]
-	or     ebx,0x2000
-	mov    rax,rsi
-	mov    r10,rdi
-	cmp    ebx,0x7830
+	movzx  ebp,WORD PTR [rdi]
+	or     ebp,0x2000
+	mov    rbx,rsi
+	mov    rax,rdi
+	cmp    ebp,0x7830
 	jne    2f
-	lea    rax,[rsi-0x2]
-	lea    r10,[rdi+0x2]
+	lea    rbx,[rsi-0x2]
+	lea    rax,[rdi+0x2]
 2:
-	mov    rbx,rax
 	shr    rbx,1
 	cmp    rcx,rbx
 	jae    7f
@@ -276,12 +275,12 @@
 	mov    r14,rsi
 	mov    r13,r8
 	mov    r12,r9
-	mov    r11b,bpl
-	shl    r11d,0xc
-	add    rdx,r11
-	mov    rdi,r10
-	mov    rsi,rax
-	mov    rcx,rbx
+	mov    r10b,r11b
+	shl    r10d,0xc
+	add    rdx,r10
+	mov    rdi,rax
+	mov    rsi,rdx
+	mov    rdx,rbx
 	call   SYMBOL(const_hex_kernel_read)
 	test   al,al
 	je     9f
@@ -433,7 +432,7 @@
 	je     20f
 	and    r13,0xfffffffffffffffe
 	cmp    rbp,r13
-	mov    rax,QWORD PTR [rsp+0x8]
+	mov    r13,QWORD PTR [rsp+0x8]
 	jne    7f
 	movzx  r15d,BYTE PTR [r12+rbp*1-0x1]
 	jmp    17f
@@ -454,47 +453,46 @@
 	mov    rbp,rdx
 	mov    r14,rdi
 	mov    QWORD PTR [rsp+0x8],r9
-	mov    r13,r15
-	and    r13,0xfffffffffffffffe
 	mov    r12,rsi
 	mov    rdi,rsi
-	mov    rsi,r13
-	mov    rdx,rcx
-	mov    rcx,rbx
+	mov    rsi,rcx
+	mov    rdx,rbx
 	call   SYMBOL(const_hex_kernel_read)
 	test   al,al
 	je     21f
+	mov    rax,r15
+	and    rax,0xfffffffffffffffe
 	test   r15b,0x1
-	mov    rax,r12
+	mov    rcx,r12
 	je     6f
-	movzx  ecx,BYTE PTR [rax+r13*1]
-	lea    edx,[rcx-0x30]
-	lea    esi,[rcx-0x41]
-	add    sil,0x4
-	movzx  esi,sil
-	mov    edi,0xff
-	cmovb  esi,edi
-	add    cl,0x9f
-	add    cl,0x4
-	movzx  ecx,cl
-	cmovb  ecx,edi
+	movzx  edx,BYTE PTR [rcx+rax*1]
+	lea    esi,[rdx-0x30]
+	lea    edi,[rdx-0x41]
+	add    dil,0x4
+	movzx  edi,dil
+	mov    r8d,0xff
+	cmovb  edi,r8d
+	add    dl,0x9f
+	add    dl,0x4
 	movzx  edx,dl
-	cmp    sil,dl
-	cmovae esi,edx
-	cmp    cl,sil
-	cmovb  esi,ecx
-	cmp    sil,0x9
+	cmovb  edx,r8d
+	movzx  esi,sil
+	cmp    dil,sil
+	cmovae edi,esi
+	cmp    dl,dil
+	cmovb  edi,edx
+	cmp    dil,0x9
 	ja     21f
 6:
-	cmp    r13,r15
+	cmp    rax,r15
 	jne    15f
-	mov    rax,QWORD PTR [rsp+0x8]
+	mov    r13,QWORD PTR [rsp+0x8]
 7:
 	add    rbp,QWORD PTR [r14]
-	mov    rcx,0xffffffffffffffff
-	cmovae rcx,rbp
-	mov    QWORD PTR [r14],rcx
-	xor    ecx,ecx
+	mov    rax,0xffffffffffffffff
+	cmovae rax,rbp
+	mov    QWORD PTR [r14],rax
+	xor    eax,eax
 	jmp    18f
 8:
 	mov    r15,rdx
@@ -517,19 +515,19 @@
 	xor    eax,eax
 	jmp    19f
 15:
-	movzx  r15d,BYTE PTR [rax+r15*1-0x1]
+	movzx  r15d,BYTE PTR [rcx+r15*1-0x1]
 16:
-	mov    rax,QWORD PTR [rsp+0x8]
+	mov    r13,QWORD PTR [rsp+0x8]
 17:
 	add    rbp,QWORD PTR [r14]
-	mov    rcx,0xffffffffffffffff
-	cmovae rcx,rbp
-	mov    QWORD PTR [r14],rcx
+	mov    rax,0xffffffffffffffff
+	cmovae rax,rbp
+	mov    QWORD PTR [r14],rax
 	mov    BYTE PTR [r14+0x8],r15b
-	mov    cl,0x1
+	mov    al,0x1
 18:
-	mov    BYTE PTR [r14+0x9],cl
-	mov    QWORD PTR [rax],rbx
+	mov    BYTE PTR [r14+0x9],al
+	mov    QWORD PTR [r13+0x0],rbx
 	mov    al,0x1
 19:
 	add    rsp,0x28
@@ -1004,13 +1002,12 @@
 
 /* const_hex::codec::decoder::decode_after */
 	function const_hex_decoder_decode_after
-	push   rbp
 	push   r15
 	push   r14
 	push   r13
 	push   r12
 	push   rbx
-	push   rax
+	sub    rsp,0x10
 	mov    bl,0x1
 	test   rdx,rdx
 	je     3f
@@ -1019,31 +1016,28 @@
 	mov    r15,rdx
 	mov    r14,rsi
 	movzx  eax,BYTE PTR [rsi]
-	mov    BYTE PTR [rsp+0x6],dil
-	mov    BYTE PTR [rsp+0x7],al
-	lea    rdi,[rsp+0x6]
-	mov    esi,0x2
-	mov    ecx,0x1
-	mov    rdx,r13
+	mov    BYTE PTR [rsp+0xe],dil
+	mov    BYTE PTR [rsp+0xf],al
+	lea    rdi,[rsp+0xe]
+	mov    edx,0x1
+	mov    rsi,rcx
 	call   SYMBOL(const_hex_kernel_read)
 	test   al,al
 	je     2f
+	lea    rdx,[r12-0x1]
 	inc    r13
 	inc    r14
-	lea    rbp,[r12*2-0x2]
-	dec    r12
 	mov    rdi,r14
-	mov    rsi,rbp
-	mov    rdx,r13
-	mov    rcx,r12
+	mov    rsi,r13
 	call   SYMBOL(const_hex_kernel_read)
 	test   al,al
 	je     2f
-	mov    rax,rbp
-	sub    rax,r15
-	cmp    rax,0xfffffffffffffffe
+	lea    rax,[r12*2-0x2]
+	mov    rcx,rax
+	sub    rcx,r15
+	cmp    rcx,0xfffffffffffffffe
 	jne    3f
-	movzx  eax,BYTE PTR [r14+rbp*1]
+	movzx  eax,BYTE PTR [r14+rax*1]
 	lea    ecx,[rax-0x30]
 	lea    edx,[rax-0x41]
 	add    dl,0x4
@@ -1066,13 +1060,12 @@
 	xor    ebx,ebx
 3:
 	mov    eax,ebx
-	add    rsp,0x8
+	add    rsp,0x10
 	pop    rbx
 	pop    r12
 	pop    r13
 	pop    r14
 	pop    r15
-	pop    rbp
 	ret
 	end const_hex_decoder_decode_after
 

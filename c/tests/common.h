@@ -30,7 +30,7 @@ static const struct build *build = BUILDS;
 #else
 typedef bool check_function(const char *text, size_t text_length);
 typedef void fill_function(const char *bytes, size_t bytes_length, unsigned is_upper, char *text);
-typedef bool read_function(const char *text, size_t text_length, char *bytes, size_t bytes_size);
+typedef bool read_function(const char *text, char *bytes, size_t bytes_size);
 check_function __real_const_hex_kernel_check, const_hex_kernel_check_v2, const_hex_kernel_check_v3;
 fill_function __real_const_hex_kernel_fill, const_hex_kernel_fill_v2, const_hex_kernel_fill_v3;
 read_function __real_const_hex_kernel_read, const_hex_kernel_read_v2, const_hex_kernel_read_v3;
@@ -56,8 +56,8 @@ bool __wrap_const_hex_kernel_check(const char *text, size_t text_length) { retur
 void __wrap_const_hex_kernel_fill(const char *bytes, size_t bytes_length, unsigned is_upper, char *text) {
     build->fill(bytes, bytes_length, is_upper, text);
 }
-bool __wrap_const_hex_kernel_read(const char *text, size_t text_length, char *bytes, size_t bytes_size) {
-    return build->read(text, text_length, bytes, bytes_size);
+bool __wrap_const_hex_kernel_read(const char *text, char *bytes, size_t bytes_size) {
+    return build->read(text, bytes, bytes_size);
 }
 #endif
 

@@ -85,9 +85,9 @@ def _written(state, address, lane):
 def read(state):
     """Whether all characters are digits. Then all of them are decoded, and otherwise perhaps some, before the first
     invalid one."""
-    text, length, data, count = state.arguments(4)
-    _must_be_public(state, text, length, data, count)
-    state.must(z3.And(z3.ULT(count, 1 << 62), length == 2 * count), "a length")
+    text, data, count = state.arguments(3)
+    _must_be_public(state, text, data, count)
+    state.must(z3.ULT(count, 1 << 62), "a length")
     other, at = _at_any(state, count)
     if other:
         pair = other.load(simple(text + 2 * at), 2)
@@ -95,7 +95,7 @@ def read(state):
             other = other.with_digits(_offset(other, "input", text), 2 * at + 2)
         if other := other and other.when(z3.And(*map(is_digit, pair)), other.at):
             _written(other, simple(data + at), [simple(value(pair[0]) * 16 + value(pair[1]))])
-    for way, result in _judged(state, text, length):
+    for way, result in _judged(state, text, simple(2 * count)):
         if result and other:
             way.writes.append((_offset(way, "output", data), count))
         yield way, result

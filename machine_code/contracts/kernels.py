@@ -85,10 +85,10 @@ class Check(Kernel):
 
 
 class Read(Kernel):
-    """read(text, 2n, bytes, n): whether all characters are digits. Then the bytes are what the text decodes to."""
+    """read(text, bytes, n): whether all 2n characters are digits. Then the bytes are what the text decodes to."""
 
     function = "read"
-    arguments = base("input"), Kernel.input_size, base("output"), N
+    arguments = base("input"), base("output"), N
 
     def store(self, state, offset, lane):
         """Only what digits decode to is written that have no invalid character before them."""

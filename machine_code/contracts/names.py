@@ -22,6 +22,6 @@ FUNCTIONS = {
 KERNELS = {
     "kernel_check": "text text_length",
     "kernel_fill": "bytes bytes_length upper text",
-    "kernel_read": "text text_length bytes bytes_size",
+    "kernel_read": "text bytes bytes_size",
 }
 WITH_ERROR = {name for name, function in FUNCTIONS.items() if function.error_may_be_null}

@@ -40,14 +40,14 @@ FILL = """
 """
 READ = """
     {start}
-    1: test rcx, rcx; je 2f
-    movzx eax, byte ptr [rdi]; movzx esi, byte ptr [rdi+1]; {character}
+    1: test rdx, rdx; je 2f
+    movzx eax, byte ptr [rdi]; movzx ecx, byte ptr [rdi+1]; {character}
     lea r10d, [rax-0x30]; cmp r10b, 10; setb r8b; or al, 0x20; sub al, 0x57; lea r11d, [rax-10]
     cmp r11b, 6; setb r9b; or r9b, r8b; je 3f; test r8b, r8b; cmovne eax, r10d
-    lea r10d, [rsi-0x30]; cmp r10b, 10; setb r8b; or sil, 0x20; sub sil, 0x57; lea r11d, [rsi-10]
-    cmp r11b, 6; setb r9b; or r9b, r8b; je 3f; test r8b, r8b; cmovne esi, r10d
-    shl eax, 4; or eax, esi; {store}
-    add rdi, 2; add rdx, 1; add rcx, -1; {round}
+    lea r10d, [rcx-0x30]; cmp r10b, 10; setb r8b; or cl, 0x20; sub cl, 0x57; lea r11d, [rcx-10]
+    cmp r11b, 6; setb r9b; or r9b, r8b; je 3f; test r8b, r8b; cmovne ecx, r10d
+    shl eax, 4; or eax, ecx; {store}
+    add rdi, 2; add rsi, 1; add rdx, -1; {round}
     jmp 1b
     2: mov eax, 1; {end}
     ret
@@ -84,7 +84,7 @@ WASM = "wasm"
 def program(level, call, **changes):
     """The object of a small kernel with what stands at its places."""
     body = ((ON_AARCH64 if level == "aarch64" else PROGRAMS[call]) + AFTER).format_map(
-        dict.fromkeys(("start", "character", "round", "end", "helper"), "") | {"store": "mov [rdx], al"} | changes)
+        dict.fromkeys(("start", "character", "round", "end", "helper"), "") | {"store": "mov [rsi], al"} | changes)
     syntax = "" if level == "aarch64" else ".intel_syntax noprefix\n"
     name = f"const_hex_1_0_0_{call}" + (f"_{level}" if level != "aarch64" else "")
     return assembled(f'{syntax}.section .text.{name}, "ax"\n.globl {name}\n{name}:\n{body}', COMPILERS[level])

@@ -41,7 +41,7 @@ WRONG = [
      "neither true nor false"),
     ("one of two copies of a factor", "aarch64", "read", "0x01, 0x10", "0x01, 0x11", "a wrong byte at", "any text",
      "const_hex_1_0_0_constant_2"),
-    ("63 bytes are decoded as 64", "aarch64", "read", "cmp x3, #0x40", "cmp x3, #0x3f", OUTSIDE),
+    ("63 bytes are decoded as 64", "aarch64", "read", "cmp x2, #0x40", "cmp x2, #0x3f", OUTSIDE),
     # Functions for C
     ("unknown flags have a size", C, "encoded_size", "", "cmp esi,9; jne 1f; xor eax,eax; ret; 1:", "another size"),
     ("a size that is too small", C, "encode", "cmp r11,rcx; jae 2b", "cmp r11,rcx", OUTSIDE),
@@ -50,7 +50,7 @@ WRONG = [
     ("a kernel writes over the prefix", C, "encode", "lea rcx,[rax+0x2]", "mov rcx,rax", "beside the digits",
      "flags 2"),
     ("a kernel that decodes in place of one that encodes", C, "encode", CALL_FILL,
-     f"mov rdx,rcx; mov rcx,rsi; shr rcx,1; {CALL_READ}", "a length"),
+     f"mov rdx,rsi; shr rdx,1; mov rsi,rcx; {CALL_READ}", "may be odd or even"),
     ("too little stack for a kernel", C, "check_raw", CALL_CHECK, f"sub rsp,1840; {CALL_CHECK}; add rsp,1840", STACK),
     ("a kernel skips a byte", C, "check_raw", CALL_CHECK, f"test rsi,rsi; je 1f; inc rdi; dec rsi; 1: {CALL_CHECK}",
      PASSES),
@@ -68,25 +68,25 @@ WRONG = [
     ("what a kernel returns is not tested", C, "decode_exact", "test al,al; je 4f", "", PASSES),
     ("the other bits of what a kernel returns", C, "decode_exact", "test al,al; je 4f", "test eax,eax; je 4f",
      f"{PASSES}|{SECRET}"),
-    ("a kernel writes to an input", C, "decode_exact", CALL_READ, f"mov rdx,rdi; {CALL_READ}", "to what is no output"),
+    ("a kernel writes to an input", C, "decode_exact", CALL_READ, f"mov rsi,rdi; {CALL_READ}", "to what is no output"),
     ("a place after a kernel is called", C, "decode_exact", CALL_READ, f"{CALL_CHECK}+0x1000",
      "beyond the section of its symbol"),
-    ("a kernel decodes to fewer bytes", C, "decode_exact", CALL_READ, f"dec rcx; {CALL_READ}", "a length"),
+    ("a kernel decodes to fewer bytes", C, "decode_exact", CALL_READ, f"dec rdx; {CALL_READ}", "a length"),
     ("what a kernel has left after an invalid character is read", C, "decode_exact", CALL_READ,
-     f"push rdx; push rdx; {CALL_READ}; pop rdx; pop rdx; cmp al,0; jne 1f; mov cl,[rdx]; 1:",
+     f"push rsi; push rsi; {CALL_READ}; pop rsi; pop rsi; cmp al,0; jne 1f; mov cl,[rsi]; 1:",
      f"{UNWRITTEN}|{OUTSIDE}"),
     ("a register that a kernel changes", C, "decode", "mov QWORD PTR [r13+0x0],rbx", "mov QWORD PTR [r13+0x0],rdx",
      "written is wrong at 0"),
     ("the decoder forgets an error", C, FAIL, "PTR [rsi+0x9],0x2", "PTR [rsi+0x9],0x0", "decoder is wrong at 9"),
     ("positions of another decoder", C, FAIL, "", "mov r11d,r8d; shr r11d,16; test r11d,r11d; je 1f; "
      "cmp QWORD PTR [rsi],2; jne 1f; inc rdx; 1:", "is wrong at"),
-    ("a kernel that decodes before the byte of the waiting digit", C, "decoder_update", "lea rdi,[rsp+0x6] | "
-     f"mov rcx,r12; {CALL_READ}", "cmp r12,4; jb 8f; lea rdi,[r14+1]; lea rsi,[r12*2-2]; "
-     f"lea rdx,[r13+1]; lea rcx,[r12-1]; {CALL_READ}; test al,al; je 2f; 8: lea rdi,[rsp+0x6] | "
-     f"mov rcx,r12; cmp r12,3; jae 8f; {CALL_READ}; 8:", "before it is known", "every decoder and chunk",
+    ("a kernel that decodes before the byte of the waiting digit", C, "decoder_update", "lea rdi,[rsp+0xe] | "
+     f"mov rsi,r13; {CALL_READ}", "cmp r12,4; jb 8f; lea rdi,[r14+1]; lea rsi,[r13+1]; "
+     f"lea rdx,[r12-1]; {CALL_READ}; test al,al; je 2f; 8: mov rcx,r13; lea rdi,[rsp+0xe] | "
+     f"mov rsi,r13; cmp r12,4; jae 8f; {CALL_READ}; 8:", "before it is known", "every decoder and chunk",
      "const_hex_decoder_decode_after"),
-    ("two digits less are decoded", C, "decoder_update", "mov r13,r15; and r13,0xfffffffffffffffe",
-     "mov r13,r15; and r13,0xfffffffffffffffc", "a length|error is wrong at 4"),
+    ("two digits less are decoded", C, "decoder_update", f"mov rdx,rbx; {CALL_READ}",
+     f"mov rdx,rbx; and rdx,-2; {CALL_READ}", PASSES),
     ("a letter of a message", C, "error_message", "0x67, 0x69, 0x74, 0x73", "0x66, 0x69, 0x74, 0x73",
      "another byte of the text at 16", "every error", "const_hex_constant_6"),
     ("a digit of a position", C, "error_message", "or dil,0x30", "or dil,0x10", "another byte"),

@@ -607,20 +607,20 @@
 	hidden const_hex_1_0_0_read
 	function const_hex_1_0_0_read
 	stp x29, x30, [sp, #-16]!
-	subs x8, x3, #0x10
+	subs x8, x2, #0x10
 	mov x29, sp
 	b.cs 2f
 	bl const_hex_1_0_0_small_input_decode_small
 	ldp x29, x30, [sp], #16
 	ret
 2:
-	cmp x3, #0x40
+	cmp x2, #0x40
 	adrp_label x9, const_hex_1_0_0_constant_1
 	mov x10, xzr
 	b.cc 4f
-	and x11, x3, #0x10
+	and x11, x2, #0x10
 	add x12, x0, #0x40
-	mov x13, x3
+	mov x13, x2
 3:
 	movi v0.16b, #0xd0
 	movi v1.16b, #0x8f
@@ -691,7 +691,7 @@
 	add_label x14, x14, const_hex_1_0_0_constant_2
 	sub x13, x13, #0x40
 	ldr q16, [x14, x11]
-	add x14, x2, x10
+	add x14, x1, x10
 	cmp x13, #0x3f
 	add x10, x10, #0x40
 	add x12, x12, #0x80
@@ -711,7 +711,7 @@
 	stp q0, q3, [x14, #32]
 	b.hi 3b
 4:
-	sub x11, x3, x10
+	sub x11, x2, x10
 	cmp x11, #0x20
 	b.cc 6f
 	add x12, x0, x10, lsl #1
@@ -759,7 +759,7 @@
 	mov w13, #0x1001
 	sub x11, x11, #0x20
 	dup v4.8h, w13
-	add x13, x2, x10
+	add x13, x1, x10
 	cmp x11, #0x1f
 	add x10, x10, #0x20
 	mul v3.8h, v3.8h, v4.8h
@@ -806,10 +806,10 @@
 	mul v1.8h, v1.8h, v2.8h
 	mul v0.8h, v0.8h, v2.8h
 	uzp2 v0.16b, v0.16b, v1.16b
-	str q0, [x2, x10]
+	str q0, [x1, x10]
 	mov x10, x11
 7:
-	cmp x10, x3
+	cmp x10, x2
 	b.eq 12f
 	add x10, x0, x8, lsl #1
 	movi v0.16b, #0x8f
@@ -848,7 +848,7 @@
 	mul v1.8h, v1.8h, v2.8h
 	mul v0.8h, v0.8h, v2.8h
 	uzp2 v0.16b, v0.16b, v1.16b
-	str q0, [x2, x8]
+	str q0, [x1, x8]
 12:
 	mov w0, #0x1
 	ldp x29, x30, [sp], #16
@@ -857,13 +857,13 @@
 
 /* const_hex_arch::arch::small_input::decode_small */
 	function const_hex_1_0_0_small_input_decode_small
-	cmp x3, #0x8
+	cmp x2, #0x8
 	b.cc 2f
+	add x8, x0, x2, lsl #1
 	movi v0.16b, #0x8f
-	add x8, x0, x1
 	ldr q1, [x0]
-	ldur q2, [x8, #-16]
 	movi v3.16b, #0xd0
+	ldur q2, [x8, #-16]
 	adrp_label x8, const_hex_1_0_0_constant_1
 	ldr_label q5, x8, const_hex_1_0_0_constant_1
 	and v4.16b, v1.16b, v0.16b
@@ -891,13 +891,13 @@
 	mov w0, wzr
 	ret
 2:
-	cmp x3, #0x4
+	cmp x2, #0x4
 	b.cc 3f
-	add x8, x0, x1
+	add x8, x0, x2, lsl #1
 	ldr d0, [x0]
 	movi v1.16b, #0x8f
-	sub x8, x8, #0x8
 	movi v2.16b, #0xd0
+	sub x8, x8, #0x8
 	ld1 {v0.d}[1], [x8]
 	adrp_label x8, const_hex_1_0_0_constant_1
 	ldr_label q3, x8, const_hex_1_0_0_constant_1
@@ -920,12 +920,13 @@
 	mov w0, wzr
 	ret
 3:
-	cmp x3, #0x2
+	cmp x2, #0x2
 	b.cc 5f
 	movi v0.16b, #0x30
+	lsl x8, x2, #1
 	movi v1.16b, #0x8f
 	movi v2.16b, #0xd0
-	ld1 {v0.s}[0], [x0], x1
+	ld1 {v0.s}[0], [x0], x8
 	sub x8, x0, #0x4
 	ld1 {v0.s}[1], [x8]
 	adrp_label x8, const_hex_1_0_0_constant_1
@@ -952,22 +953,22 @@
 	mov w8, #0x1001
 	mov w0, #0x1
 	dup v2.8h, w8
-	add x8, x2, x3
+	add x8, x1, x2
 	mul v0.8h, v0.8h, v2.8h
 	mul v1.8h, v1.8h, v2.8h
 	shrn v0.8b, v0.8h, #8
 	shrn v1.8b, v1.8h, #8
-	str d0, [x2]
+	str d0, [x1]
 	stur d1, [x8, #-8]
 	ret
 5:
-	cbz x3, 9f
+	cbz x2, 9f
 	movi v0.16b, #0x30
+	ldrh w8, [x0]
 	movi v1.16b, #0x8f
 	movi v2.16b, #0xd0
-	ld1 {v0.h}[0], [x0], x1
-	sub x8, x0, #0x2
-	ld1 {v0.h}[1], [x8]
+	mov v0.h[0], w8
+	mov v0.h[1], w8
 	adrp_label x8, const_hex_1_0_0_constant_1
 	ldr_label q3, x8, const_hex_1_0_0_constant_1
 	and v1.16b, v0.16b, v1.16b
@@ -992,12 +993,12 @@
 	mov w8, #0x1001
 	mov w0, #0x1
 	dup v1.8h, w8
-	add x8, x2, x3
+	add x8, x1, x2
 	mul v0.8h, v0.8h, v1.8h
 	ushr v1.8h, v0.8h, #8
 	shrn v0.8b, v0.8h, #8
 	dup v1.2d, v1.d[1]
-	str s0, [x2]
+	str s0, [x1]
 	xtn v1.8b, v1.8h
 	stur s1, [x8, #-4]
 	ret
@@ -1005,15 +1006,15 @@
 	mov w8, #0x1001
 	mov w0, #0x1
 	dup v1.8h, w8
-	add x8, x2, x3
+	add x8, x1, x2
 	mul v0.8h, v0.8h, v1.8h
 	ushr v1.8h, v0.8h, #8
 	shrn v0.8b, v0.8h, #8
 	mov h2, v1.h[1]
 	mov b3, v0.b[3]
 	mov b0, v0.b[2]
-	str b1, [x2]
-	stur b2, [x2, #1]
+	str b1, [x1]
+	stur b2, [x1, #1]
 	stur b3, [x8, #-1]
 	stur b0, [x8, #-2]
 	ret
@@ -1021,7 +1022,7 @@
 	umov w8, v0.h[1]
 	add w8, w8, w8, lsl #12
 	lsr w8, w8, #8
-	strb w8, [x2]
+	strb w8, [x1]
 9:
 	mov w0, #0x1
 	ret

@@ -510,26 +510,26 @@
 /* const_hex_rust::read */
 	hidden const_hex_1_0_0_read_v2
 	function const_hex_1_0_0_read_v2
-	cmp    rcx,0x10
+	cmp    rdx,0x10
 	jae    2f
 	push   rax
 	call   const_hex_1_0_0_small_input_decode_small_v2
 	add    rsp,0x8
 	ret
 2:
-	cmp    rcx,0x40
+	cmp    rdx,0x40
 	jb     6f
-	mov    eax,ecx
+	mov    eax,edx
 	and    eax,0x10
-	xor    esi,esi
-	mov    r8,rcx
+	xor    ecx,ecx
+	mov    r8,rdx
 	.byte 0x66, 0x66, 0x2e, 0xf, 0x1f, 0x84, 0x0, 0x0, 0x0, 0x0, 0x0  /* data16 cs nop WORD PTR [rax+rax*1+0x0] */
 3:
 	movdqa xmm5,XMMWORD PTR [rip + const_hex_1_0_0_constant_1_v2]
-	movdqu xmm6,XMMWORD PTR [rdi+rsi*2]
-	movdqu xmm4,XMMWORD PTR [rdi+rsi*2+0x10]
-	movdqu xmm9,XMMWORD PTR [rdi+rsi*2+0x20]
-	movdqu xmm7,XMMWORD PTR [rdi+rsi*2+0x30]
+	movdqu xmm6,XMMWORD PTR [rdi+rcx*2]
+	movdqu xmm4,XMMWORD PTR [rdi+rcx*2+0x10]
+	movdqu xmm9,XMMWORD PTR [rdi+rcx*2+0x20]
+	movdqu xmm7,XMMWORD PTR [rdi+rcx*2+0x30]
 	movdqa xmm1,XMMWORD PTR [rip + const_hex_1_0_0_constant_2_v2]
 	movdqa xmm0,xmm1
 	pshufb xmm0,xmm6
@@ -553,8 +553,8 @@
 	por    xmm9,xmm6
 	psubb  xmm7,xmm8
 	por    xmm7,xmm4
-	movdqu xmm11,XMMWORD PTR [rdi+rsi*2+0x50]
-	movdqu xmm12,XMMWORD PTR [rdi+rsi*2+0x40]
+	movdqu xmm11,XMMWORD PTR [rdi+rcx*2+0x50]
+	movdqu xmm12,XMMWORD PTR [rdi+rcx*2+0x40]
 	movdqa xmm4,xmm1
 	pshufb xmm4,xmm12
 	paddb  xmm12,xmm5
@@ -565,11 +565,11 @@
 	pminub xmm6,xmm11
 	psubb  xmm11,xmm6
 	psubb  xmm12,xmm4
-	movdqu xmm13,XMMWORD PTR [rdi+rsi*2+0x60]
+	movdqu xmm13,XMMWORD PTR [rdi+rcx*2+0x60]
 	movdqa xmm10,xmm1
 	pshufb xmm10,xmm13
 	paddb  xmm13,xmm5
-	movdqu xmm14,XMMWORD PTR [rdi+rsi*2+0x70]
+	movdqu xmm14,XMMWORD PTR [rdi+rcx*2+0x70]
 	paddb  xmm5,xmm14
 	pshufb xmm1,xmm14
 	pminub xmm1,xmm5
@@ -605,26 +605,26 @@
 	psrlw  xmm6,0x8
 	psrlw  xmm4,0x8
 	packuswb xmm4,xmm6
-	movdqu XMMWORD PTR [rdx+rsi*1+0x10],xmm2
-	movdqu XMMWORD PTR [rdx+rsi*1],xmm0
-	movdqu XMMWORD PTR [rdx+rsi*1+0x30],xmm10
-	movdqu XMMWORD PTR [rdx+rsi*1+0x20],xmm4
-	add    rsi,0x40
+	movdqu XMMWORD PTR [rsi+rcx*1+0x10],xmm2
+	movdqu XMMWORD PTR [rsi+rcx*1],xmm0
+	movdqu XMMWORD PTR [rsi+rcx*1+0x30],xmm10
+	movdqu XMMWORD PTR [rsi+rcx*1+0x20],xmm4
+	add    rcx,0x40
 	add    r8,0xffffffffffffffc0
 	cmp    r8,0x3f
 	ja     3b
 4:
-	mov    rax,rcx
-	sub    rax,rsi
+	mov    rax,rdx
+	sub    rax,rcx
 	cmp    rax,0x20
 	jb     7f
 	.byte 0x66, 0x66, 0x66, 0x2e, 0xf, 0x1f, 0x84, 0x0, 0x0, 0x0, 0x0, 0x0  /* data16 data16 cs nop WORD PTR [rax+rax*1+0x0] */
 5:
 	movdqa xmm2,XMMWORD PTR [rip + const_hex_1_0_0_constant_1_v2]
-	movdqu xmm7,XMMWORD PTR [rdi+rsi*2]
-	movdqu xmm6,XMMWORD PTR [rdi+rsi*2+0x10]
-	movdqu xmm5,XMMWORD PTR [rdi+rsi*2+0x20]
-	movdqu xmm8,XMMWORD PTR [rdi+rsi*2+0x30]
+	movdqu xmm7,XMMWORD PTR [rdi+rcx*2]
+	movdqu xmm6,XMMWORD PTR [rdi+rcx*2+0x10]
+	movdqu xmm5,XMMWORD PTR [rdi+rcx*2+0x20]
+	movdqu xmm8,XMMWORD PTR [rdi+rcx*2+0x30]
 	movdqa xmm0,XMMWORD PTR [rip + const_hex_1_0_0_constant_2_v2]
 	movdqa xmm1,xmm0
 	pshufb xmm1,xmm7
@@ -668,24 +668,24 @@
 	psrlw  xmm3,0x8
 	psrlw  xmm2,0x8
 	packuswb xmm3,xmm2
-	movdqu XMMWORD PTR [rdx+rsi*1+0x10],xmm0
-	movdqu XMMWORD PTR [rdx+rsi*1],xmm3
-	add    rsi,0x20
+	movdqu XMMWORD PTR [rsi+rcx*1+0x10],xmm0
+	movdqu XMMWORD PTR [rsi+rcx*1],xmm3
+	add    rcx,0x20
 	add    rax,0xffffffffffffffe0
 	cmp    rax,0x1f
 	ja     5b
 	jmp    7f
 6:
-	xor    esi,esi
-	mov    rax,rcx
-	sub    rax,rsi
+	xor    ecx,ecx
+	mov    rax,rdx
+	sub    rax,rcx
 	cmp    rax,0x20
 	jae    5b
 7:
 	cmp    rax,0x10
 	jb     8f
-	movdqu xmm2,XMMWORD PTR [rdi+rsi*2]
-	movdqu xmm3,XMMWORD PTR [rdi+rsi*2+0x10]
+	movdqu xmm2,XMMWORD PTR [rdi+rcx*2]
+	movdqu xmm3,XMMWORD PTR [rdi+rcx*2+0x10]
 	movdqa xmm4,XMMWORD PTR [rip + const_hex_1_0_0_constant_1_v2]
 	movdqa xmm0,XMMWORD PTR [rip + const_hex_1_0_0_constant_2_v2]
 	movdqa xmm1,xmm0
@@ -709,14 +709,14 @@
 	psrlw  xmm1,0x8
 	psrlw  xmm2,0x8
 	packuswb xmm2,xmm1
-	movdqu XMMWORD PTR [rdx+rsi*1],xmm2
-	or     rsi,0x10
+	movdqu XMMWORD PTR [rsi+rcx*1],xmm2
+	or     rcx,0x10
 8:
 	mov    al,0x1
-	cmp    rsi,rcx
+	cmp    rcx,rdx
 	je     13f
-	movdqu xmm2,XMMWORD PTR [rdi+rcx*2-0x20]
-	movdqu xmm3,XMMWORD PTR [rdi+rcx*2-0x10]
+	movdqu xmm2,XMMWORD PTR [rdi+rdx*2-0x20]
+	movdqu xmm3,XMMWORD PTR [rdi+rdx*2-0x10]
 	movdqa xmm4,XMMWORD PTR [rip + const_hex_1_0_0_constant_1_v2]
 	movdqa xmm0,XMMWORD PTR [rip + const_hex_1_0_0_constant_2_v2]
 	movdqa xmm1,xmm0
@@ -744,17 +744,17 @@
 	psrlw  xmm1,0x8
 	psrlw  xmm2,0x8
 	packuswb xmm2,xmm1
-	movdqu XMMWORD PTR [rdx+rcx*1-0x10],xmm2
+	movdqu XMMWORD PTR [rsi+rdx*1-0x10],xmm2
 13:
 	ret
 	end const_hex_1_0_0_read_v2
 
 /* const_hex_arch::arch::small_input::decode_small */
 	function const_hex_1_0_0_small_input_decode_small_v2
-	cmp    rcx,0x8
+	cmp    rdx,0x8
 	jb     2f
 	movdqu xmm2,XMMWORD PTR [rdi]
-	movdqu xmm3,XMMWORD PTR [rdi+rsi*1-0x10]
+	movdqu xmm3,XMMWORD PTR [rdi+rdx*2-0x10]
 	movdqa xmm4,XMMWORD PTR [rip + const_hex_1_0_0_constant_1_v2]
 	movdqa xmm0,XMMWORD PTR [rip + const_hex_1_0_0_constant_2_v2]
 	movdqa xmm1,xmm0
@@ -772,9 +772,9 @@
 	xor    eax,eax
 	ret
 2:
-	cmp    rcx,0x4
+	cmp    rdx,0x4
 	jb     3f
-	movq   xmm0,QWORD PTR [rdi+rsi*1-0x8]
+	movq   xmm0,QWORD PTR [rdi+rdx*2-0x8]
 	movq   xmm1,QWORD PTR [rdi]
 	punpcklqdq xmm1,xmm0
 	movdqa xmm2,XMMWORD PTR [rip + const_hex_1_0_0_constant_1_v2]
@@ -788,10 +788,10 @@
 	xor    eax,eax
 	ret
 3:
-	cmp    rcx,0x2
+	cmp    rdx,0x2
 	jb     5f
 	movd   xmm1,DWORD PTR [rdi]
-	pinsrd xmm1,DWORD PTR [rdi+rsi*1-0x4],0x1
+	pinsrd xmm1,DWORD PTR [rdi+rdx*2-0x4],0x1
 	mov    eax,0x30303030
 	pinsrd xmm1,eax,0x2
 	pinsrd xmm1,eax,0x3
@@ -815,17 +815,17 @@
 	psrlw  xmm1,0x8
 	psrlw  xmm2,0x8
 	packuswb xmm2,xmm1
-	movq   QWORD PTR [rdx],xmm2
-	pextrq QWORD PTR [rdx+rcx*1-0x8],xmm2,0x1
+	movq   QWORD PTR [rsi],xmm2
+	pextrq QWORD PTR [rsi+rdx*1-0x8],xmm2,0x1
 	mov    al,0x1
 	ret
 5:
 	mov    al,0x1
-	test   rcx,rcx
+	test   rdx,rdx
 	je     9f
 	movzx  ecx,WORD PTR [rdi]
 	movd   xmm1,ecx
-	pinsrw xmm1,WORD PTR [rdi+rsi*1-0x2],0x1
+	pinsrw xmm1,ecx,0x1
 	mov    ecx,0x3030
 	pinsrw xmm1,ecx,0x2
 	pinsrw xmm1,ecx,0x3
@@ -849,8 +849,8 @@
 	paddw  xmm1,xmm0
 	psrlw  xmm1,0x8
 	packuswb xmm1,xmm1
-	movd   DWORD PTR [rdx],xmm1
-	pextrd DWORD PTR [rdx+rcx*1-0x4],xmm1,0x1
+	movd   DWORD PTR [rsi],xmm1
+	pextrd DWORD PTR [rsi+rdx*1-0x4],xmm1,0x1
 	mov    al,0x1
 	ret
 7:
@@ -860,18 +860,16 @@
 	pxor   xmm0,xmm0
 	psrlw  xmm1,0x8
 	packuswb xmm1,xmm0
-	pextrw WORD PTR [rdx],xmm1,0x0
-	pextrw WORD PTR [rdx+rcx*1-0x2],xmm1,0x1
+	pextrw WORD PTR [rsi],xmm1,0x0
+	pextrw WORD PTR [rsi+rdx*1-0x2],xmm1,0x1
 	mov    al,0x1
 	ret
 8:
-	push   rbx
 	pextrw ecx,xmm0,0x1
-	mov    ebx,ecx
-	shl    ebx,0xc
-	add    ebx,ecx
-	mov    BYTE PTR [rdx],bh
-	pop    rbx
+	mov    edx,ecx
+	shl    edx,0xc
+	add    edx,ecx
+	mov    BYTE PTR [rsi],dh
 9:
 	ret
 	end const_hex_1_0_0_small_input_decode_small_v2

@@ -368,26 +368,26 @@
 /* const_hex_rust::read */
 	hidden const_hex_1_0_0_read_v3
 	function const_hex_1_0_0_read_v3
-	cmp    rcx,0x10
+	cmp    rdx,0x10
 	jae    2f
 	push   rax
 	call   const_hex_1_0_0_small_input_decode_small_v3
 	add    rsp,0x8
 	ret
 2:
-	cmp    rcx,0x40
+	cmp    rdx,0x40
 	jb     6f
-	mov    eax,ecx
+	mov    eax,edx
 	and    eax,0x10
-	xor    esi,esi
-	mov    r8,rcx
+	xor    ecx,ecx
+	mov    r8,rdx
 	.byte 0x66, 0x66, 0x2e, 0xf, 0x1f, 0x84, 0x0, 0x0, 0x0, 0x0, 0x0  /* data16 cs nop WORD PTR [rax+rax*1+0x0] */
 3:
 	vpbroadcastd ymm3,DWORD PTR [rip + const_hex_1_0_0_constant_1_v3]
-	vmovdqu ymm0,YMMWORD PTR [rdi+rsi*2]
-	vmovdqu ymm1,YMMWORD PTR [rdi+rsi*2+0x20]
-	vmovdqu ymm2,YMMWORD PTR [rdi+rsi*2+0x40]
-	vmovdqu ymm4,YMMWORD PTR [rdi+rsi*2+0x60]
+	vmovdqu ymm0,YMMWORD PTR [rdi+rcx*2]
+	vmovdqu ymm1,YMMWORD PTR [rdi+rcx*2+0x20]
+	vmovdqu ymm2,YMMWORD PTR [rdi+rcx*2+0x40]
+	vmovdqu ymm4,YMMWORD PTR [rdi+rcx*2+0x60]
 	vpaddb ymm5,ymm0,ymm3
 	vbroadcasti128 ymm6,XMMWORD PTR [rip + const_hex_1_0_0_constant_2_v3]
 	vpshufb ymm0,ymm6,ymm0
@@ -425,21 +425,21 @@
 	vpsrlw ymm1,ymm1,0x8
 	vpackuswb ymm1,ymm1,ymm2
 	vpermq ymm1,ymm1,0xd8
-	vmovdqu YMMWORD PTR [rdx+rsi*1],ymm0
-	vmovdqu YMMWORD PTR [rdx+rsi*1+0x20],ymm1
-	add    rsi,0x40
+	vmovdqu YMMWORD PTR [rsi+rcx*1],ymm0
+	vmovdqu YMMWORD PTR [rsi+rcx*1+0x20],ymm1
+	add    rcx,0x40
 	add    r8,0xffffffffffffffc0
 	cmp    r8,0x3f
 	ja     3b
 4:
-	mov    rax,rcx
-	sub    rax,rsi
+	mov    rax,rdx
+	sub    rax,rcx
 	cmp    rax,0x20
 	jb     7f
 	.byte 0xf, 0x1f, 0x44, 0x0, 0x0  /* nop    DWORD PTR [rax+rax*1+0x0] */
 5:
-	vmovdqu ymm0,YMMWORD PTR [rdi+rsi*2]
-	vmovdqu ymm1,YMMWORD PTR [rdi+rsi*2+0x20]
+	vmovdqu ymm0,YMMWORD PTR [rdi+rcx*2]
+	vmovdqu ymm1,YMMWORD PTR [rdi+rcx*2+0x20]
 	vpbroadcastd ymm2,DWORD PTR [rip + const_hex_1_0_0_constant_1_v3]
 	vpaddb ymm3,ymm0,ymm2
 	vbroadcasti128 ymm4,XMMWORD PTR [rip + const_hex_1_0_0_constant_2_v3]
@@ -462,23 +462,23 @@
 	vpsrlw ymm0,ymm0,0x8
 	vpackuswb ymm0,ymm0,ymm1
 	vpermq ymm0,ymm0,0xd8
-	vmovdqu YMMWORD PTR [rdx+rsi*1],ymm0
-	add    rsi,0x20
+	vmovdqu YMMWORD PTR [rsi+rcx*1],ymm0
+	add    rcx,0x20
 	add    rax,0xffffffffffffffe0
 	cmp    rax,0x1f
 	ja     5b
 	jmp    7f
 6:
-	xor    esi,esi
-	mov    rax,rcx
-	sub    rax,rsi
+	xor    ecx,ecx
+	mov    rax,rdx
+	sub    rax,rcx
 	cmp    rax,0x20
 	jae    5b
 7:
 	cmp    rax,0x10
 	jb     8f
-	vmovdqu xmm0,XMMWORD PTR [rdi+rsi*2]
-	vmovdqu xmm1,XMMWORD PTR [rdi+rsi*2+0x10]
+	vmovdqu xmm0,XMMWORD PTR [rdi+rcx*2]
+	vmovdqu xmm1,XMMWORD PTR [rdi+rcx*2+0x10]
 	vpbroadcastd xmm2,DWORD PTR [rip + const_hex_1_0_0_constant_1_v3]
 	vpaddb xmm3,xmm0,xmm2
 	vmovdqa xmm4,XMMWORD PTR [rip + const_hex_1_0_0_constant_2_v3]
@@ -498,14 +498,14 @@
 	vpsrlw ymm0,ymm0,0x8
 	vextracti128 xmm1,ymm0,0x1
 	vpackuswb xmm0,xmm0,xmm1
-	vmovdqu XMMWORD PTR [rdx+rsi*1],xmm0
-	or     rsi,0x10
+	vmovdqu XMMWORD PTR [rsi+rcx*1],xmm0
+	or     rcx,0x10
 8:
 	mov    al,0x1
-	cmp    rsi,rcx
+	cmp    rcx,rdx
 	je     13f
-	vmovdqu xmm0,XMMWORD PTR [rdi+rcx*2-0x20]
-	vmovdqu xmm1,XMMWORD PTR [rdi+rcx*2-0x10]
+	vmovdqu xmm0,XMMWORD PTR [rdi+rdx*2-0x20]
+	vmovdqu xmm1,XMMWORD PTR [rdi+rdx*2-0x10]
 	vpbroadcastd xmm2,DWORD PTR [rip + const_hex_1_0_0_constant_1_v3]
 	vpaddb xmm3,xmm0,xmm2
 	vmovdqa xmm4,XMMWORD PTR [rip + const_hex_1_0_0_constant_2_v3]
@@ -530,7 +530,7 @@
 	vpsrlw ymm0,ymm0,0x8
 	vextracti128 xmm1,ymm0,0x1
 	vpackuswb xmm0,xmm0,xmm1
-	vmovdqu XMMWORD PTR [rdx+rcx*1-0x10],xmm0
+	vmovdqu XMMWORD PTR [rsi+rdx*1-0x10],xmm0
 13:
 	vzeroupper
 	ret
@@ -538,10 +538,10 @@
 
 /* const_hex_arch::arch::small_input::decode_small */
 	function const_hex_1_0_0_small_input_decode_small_v3
-	cmp    rcx,0x8
+	cmp    rdx,0x8
 	jb     2f
 	vmovdqu xmm0,XMMWORD PTR [rdi]
-	vmovdqu xmm1,XMMWORD PTR [rdi+rsi*1-0x10]
+	vmovdqu xmm1,XMMWORD PTR [rdi+rdx*2-0x10]
 	vpbroadcastd xmm2,DWORD PTR [rip + const_hex_1_0_0_constant_1_v3]
 	vpaddb xmm3,xmm0,xmm2
 	vmovdqa xmm4,XMMWORD PTR [rip + const_hex_1_0_0_constant_2_v3]
@@ -559,9 +559,9 @@
 	vzeroupper
 	ret
 2:
-	cmp    rcx,0x4
+	cmp    rdx,0x4
 	jb     3f
-	vmovq  xmm0,QWORD PTR [rdi+rsi*1-0x8]
+	vmovq  xmm0,QWORD PTR [rdi+rdx*2-0x8]
 	vmovq  xmm1,QWORD PTR [rdi]
 	vpunpcklqdq xmm0,xmm1,xmm0
 	vpaddb xmm1,xmm0,XMMWORD PTR [rip + const_hex_1_0_0_constant_6_v3]
@@ -574,10 +574,10 @@
 	xor    eax,eax
 	ret
 3:
-	cmp    rcx,0x2
+	cmp    rdx,0x2
 	jb     5f
 	vmovd  xmm0,DWORD PTR [rdi]
-	vpinsrd xmm0,xmm0,DWORD PTR [rdi+rsi*1-0x4],0x1
+	vpinsrd xmm0,xmm0,DWORD PTR [rdi+rdx*2-0x4],0x1
 	mov    eax,0x30303030
 	vpinsrd xmm0,xmm0,eax,0x2
 	vpinsrd xmm0,xmm0,eax,0x3
@@ -598,18 +598,18 @@
 	vpsrlw ymm0,ymm0,0x8
 	vextracti128 xmm1,ymm0,0x1
 	vpackuswb xmm0,xmm0,xmm1
-	vmovq  QWORD PTR [rdx],xmm0
-	vpextrq QWORD PTR [rdx+rcx*1-0x8],xmm0,0x1
+	vmovq  QWORD PTR [rsi],xmm0
+	vpextrq QWORD PTR [rsi+rdx*1-0x8],xmm0,0x1
 	mov    al,0x1
 	vzeroupper
 	ret
 5:
 	mov    al,0x1
-	test   rcx,rcx
+	test   rdx,rdx
 	je     9f
 	movzx  ecx,WORD PTR [rdi]
 	vmovd  xmm0,ecx
-	vpinsrw xmm0,xmm0,WORD PTR [rdi+rsi*1-0x2],0x1
+	vpinsrw xmm0,xmm0,ecx,0x1
 	mov    ecx,0x3030
 	vpinsrw xmm0,xmm0,ecx,0x2
 	vpinsrw xmm0,xmm0,ecx,0x3
@@ -630,8 +630,8 @@
 	vpsllw xmm1,xmm0,0xc
 	vpaddw xmm0,xmm0,xmm1
 	vpshufb xmm0,xmm0,XMMWORD PTR [rip + const_hex_1_0_0_constant_8_v3]
-	vmovd  DWORD PTR [rdx],xmm0
-	vpextrd DWORD PTR [rdx+rcx*1-0x4],xmm0,0x1
+	vmovd  DWORD PTR [rsi],xmm0
+	vpextrd DWORD PTR [rsi+rdx*1-0x4],xmm0,0x1
 	mov    al,0x1
 	ret
 7:
@@ -640,19 +640,17 @@
 	vpsrlw ymm0,ymm0,0x8
 	vextracti128 xmm1,ymm0,0x1
 	vpackuswb xmm0,xmm0,xmm1
-	vpextrw WORD PTR [rdx],xmm0,0x0
-	vpextrw WORD PTR [rdx+rcx*1-0x2],xmm0,0x1
+	vpextrw WORD PTR [rsi],xmm0,0x0
+	vpextrw WORD PTR [rsi+rdx*1-0x2],xmm0,0x1
 	mov    al,0x1
 	vzeroupper
 	ret
 8:
-	push   rbx
 	vpextrw ecx,xmm0,0x1
-	mov    ebx,ecx
-	shl    ebx,0xc
-	add    ebx,ecx
-	mov    BYTE PTR [rdx],bh
-	pop    rbx
+	mov    edx,ecx
+	shl    edx,0xc
+	add    edx,ecx
+	mov    BYTE PTR [rsi],dh
 9:
 	ret
 	end const_hex_1_0_0_small_input_decode_small_v3

@@ -104,9 +104,9 @@ functions! {
     /// Decodes the text to the bytes, and returns true. Returns false if some character is not a digit. Then bytes
     /// before it may be written, and no others.
     ///
-    /// Safety: the text has so many bytes, twice as many as `count`, and `bytes` may be written for `count` bytes.
-    /// These need not be initialized, and are if the result is true.
-    read(text: *const u8, length: usize, bytes: *mut u8, count: usize) -> bool,
+    /// Safety: the text has two digits for each of so many bytes, for which `bytes` may be written. These need not be
+    /// initialized, and are if the result is true.
+    read(text: *const u8, bytes: *mut u8, length: usize) -> bool,
         const_hex_1_0_0_read_v2, const_hex_1_0_0_read_v3, const_hex_1_0_0_read;
 }
 

@@ -29,12 +29,11 @@ impl Kernel for Native {
 
     #[inline]
     fn decode_checked(input: &[u8], output: &mut [u8]) -> bool {
-        let digits = output.len() << 1;
         // Callers have compared the same numbers, so the compiler removes this test.
-        assert!(input.len() == digits);
+        assert!(input.len() == output.len() << 1);
         let (text, bytes) = (input.as_ptr(), output.as_mut_ptr());
         // SAFETY: the input has two bytes for each byte of the output.
-        unsafe { machine_code::read(text, digits, bytes, output.len()) }
+        unsafe { machine_code::read(text, bytes, output.len()) }
     }
 
     #[inline]

@@ -26,7 +26,7 @@ pub fn decode_append(digits: &[u8], bytes: &mut alloc::vec::Vec<u8>) -> bool {
     // of it is written.
     unsafe {
         let space = bytes.as_mut_ptr().add(bytes.len());
-        let is_valid = unchecked::read(digits.as_ptr(), 2 * count, space, count);
+        let is_valid = unchecked::read(digits.as_ptr(), space, count);
         if is_valid {
             bytes.set_len(bytes.len() + count);
         }

@@ -30,11 +30,11 @@ pub unsafe fn check(text: *const u8, length: usize) -> bool {
 }
 
 #[inline(always)]
-pub unsafe fn read(text: *const u8, _: usize, bytes: *mut u8, count: usize) -> bool {
+pub unsafe fn read(text: *const u8, bytes: *mut u8, length: usize) -> bool {
     let mut block = [0; BLOCK];
     let mut at = 0;
-    while at < count {
-        let size = BLOCK.min(count - at);
+    while at < length {
+        let size = BLOCK.min(length - at);
         let decoded = &mut block[..size];
         // SAFETY: the caller promises space for so many bytes, and two bytes of the text for each.
         unsafe {

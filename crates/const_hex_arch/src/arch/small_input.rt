@@ -132,7 +132,7 @@ pub(crate) fn decode_pairs(text: &[u8], output: &mut [u8]) -> bool
 /// Decodes a text to `H` to `2 * H` bytes and returns true. If some byte is not a digit, returns
 /// false, and the output is unchanged. `D` is `2 * H`, the number of digits of `H` bytes.
 #[inline(always)]
-#[tactic(auto, using(crate::proofs::lemmas::Standard::through, crate::proofs::lemmas::Ends::digits_ends))]
+#[tactic(auto, using(crate::proofs::lemmas::Standard::through, crate::proofs::lemmas::Ends::digits_ends, std::proofs::lemmas::List::take_all))]
 fn decode_ends<const H: usize, const D: usize>(text: &[u8], output: &mut [u8]) -> bool
     requires half { H ≤ 8 }
     requires digits { D ≡ 2 * H }
@@ -144,7 +144,8 @@ fn decode_ends<const H: usize, const D: usize>(text: &[u8], output: &mut [u8]) -
     ensures unchanged { result ≡ false → output.new ≡ output.old }
 {
     let mut bytes = [0; 16];
-    let step = steps::load_ends::<D, 32>(text, b'0');
+    // Not by the text's length: so a function that is not inlined needs no register for it.
+    let step = steps::load_ends::<D, 32>(&text[..2 * output.len()], b'0');
     let are_digits = steps::decode_step::<16, Lanes16>(&step, false, &mut bytes);
     if are_digits {
         let last = Simd::from_slice(&bytes[H..]);

@@ -98,7 +98,8 @@ pub(crate) fn decode_pairs(text: &[u8], output: &mut [u8]) -> bool {
 #[inline(always)]
 fn decode_ends<const H: usize, const D: usize>(text: &[u8], output: &mut [u8]) -> bool {
     let mut bytes = [0; 16];
-    let step = steps::load_ends::<D, 32>(text, b'0');
+    // Not by the text's length: so a function that is not inlined needs no register for it.
+    let step = steps::load_ends::<D, 32>(&text[..2 * output.len()], b'0');
     let are_digits = steps::decode_step::<16, Lanes16>(&step, false, &mut bytes);
     if are_digits {
         let last = Simd::from_slice(&bytes[H..]);
