@@ -16,13 +16,13 @@ macro_rules! sums {
 #[test]
 fn the_assembly_is_unchanged() {
     for (file, found, wanted) in sums! {
-        "aarch64.s" 0xc1c8_2fa8_7871_8e1b
+        "aarch64.s" 0xcada_2cce_6012_123c
         "coff.s" 0x5b84_25b7_b0d1_360b
         "elf.s" 0xd057_d416_4c97_a972
         "end.s" 0x98e7_fc1e_20c1_9e86
         "mach_o.s" 0x8d5a_52d3_2515_a02d
-        "x86_64_v2.s" 0x366a_f953_2591_8d3c
-        "x86_64_v3.s" 0x982d_bae8_351f_b84c
+        "x86_64_v2.s" 0x2066_dbae_6979_fcdd
+        "x86_64_v3.s" 0x6a0a_664a_844d_9068
     } {
         assert_eq!(found, wanted, "{file}: {found:#x}");
     }

@@ -8,7 +8,7 @@ ghost use Rattle.const_hex.specs.Texts.{hex_text, AllDigits, Spells, Partial};
 
 use const_hex::{FixedKernel, Kernel};
 
-/// Calls one function for each text.
+/// The kernel whose methods each call a function here, with the whole text.
 pub(crate) struct Called;
 
 impl Kernel for Called {

@@ -90,10 +90,11 @@ macro_rules! functions {
 }
 
 functions! {
-    /// Fills the text with the digits of the bytes, in uppercase if `upper` is 1, and in lowercase if it is 0.
+    /// Fills the text with the digits of the bytes, in uppercase if `upper` is 1, and in lowercase if it is 0. It is
+    /// no `bool`, of which an ABI may leave the upper bits open.
     ///
-    /// Safety: there are so many bytes, and `text` may be written for two bytes for each. These need not be
-    /// initialized, and are afterwards.
+    /// Safety: there are so many bytes, `upper` is 0 or 1, and `text` may be written for two bytes for each byte.
+    /// These need not be initialized, and are afterwards.
     fill(bytes: *const u8, length: usize, upper: u32, text: *mut u8),
         const_hex_1_0_0_fill_v2, const_hex_1_0_0_fill_v3, const_hex_1_0_0_fill;
     /// Returns whether every byte of the text is a digit.
@@ -104,7 +105,7 @@ functions! {
     /// Decodes the text to the bytes, and returns true. Returns false if some character is not a digit. Then bytes
     /// before it may be written, and no others.
     ///
-    /// Safety: the text has two digits for each of so many bytes, for which `bytes` may be written. These need not be
+    /// Safety: the text has two bytes for each of so many, and `bytes` may be written for these. They need not be
     /// initialized, and are if the result is true.
     read(text: *const u8, bytes: *mut u8, length: usize) -> bool,
         const_hex_1_0_0_read_v2, const_hex_1_0_0_read_v3, const_hex_1_0_0_read;

@@ -3,8 +3,8 @@
 use super::machine_code;
 use crate::proved::Kernel;
 
-/// The kernel by machine code. Callers in `proved` are proved to pass lengths that fit; they are tested all the same. A
-/// shift doubles a length, since a debug build would test a product for an overflow. There is none: a slice has at most
+/// The kernel by machine code. It tests that lengths fit, also those of callers in `proved`, where this is proved. A shift
+/// doubles a length, since a debug build would test a product for an overflow. There is none: a slice has at most
 /// `isize::MAX` bytes.
 pub struct Native;
 
@@ -29,7 +29,7 @@ impl Kernel for Native {
 
     #[inline]
     fn decode_checked(input: &[u8], output: &mut [u8]) -> bool {
-        // Callers have compared the same numbers, so the compiler removes this test.
+        // Where callers have compared the same numbers, the compiler removes this test.
         assert!(input.len() == output.len() << 1);
         let (text, bytes) = (input.as_ptr(), output.as_mut_ptr());
         // SAFETY: the input has two bytes for each byte of the output.

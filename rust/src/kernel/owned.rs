@@ -22,8 +22,8 @@ pub fn encode_append(input: &[u8], prefix: bool, upper: bool, text: &mut alloc::
 pub fn decode_append(digits: &[u8], bytes: &mut alloc::vec::Vec<u8>) -> bool {
     let count = digits.len() / 2;
     bytes.reserve(count);
-    // SAFETY: there are twice as many digits as `count`, for which the vector has space. If the result is true, all
-    // of it is written.
+    // SAFETY: there are at least two bytes of text for each of `count` bytes, for which the vector has space. If the
+    // result is true, all of these are written.
     unsafe {
         let space = bytes.as_mut_ptr().add(bytes.len());
         let is_valid = unchecked::read(digits.as_ptr(), space, count);

@@ -1,10 +1,11 @@
-//! The kernel of the proved source, and the functions of `machine_code` by it.
+//! The functions of `machine_code` by the kernel of the proved source. As there, the output need not be initialized,
+//! so it is no slice.
 
 use super::Portable;
 use crate::proved::Kernel;
 use core::{ptr, slice};
 
-/// How many bytes the kernel takes at once where the output may not be initialized.
+/// How many bytes the kernel takes at once.
 const BLOCK: usize = Portable::PIECE;
 
 #[inline(always)]

@@ -43,10 +43,10 @@ fn fill_ends<const H: usize, const D: usize>(bytes: &[u8], upper: bool, output: 
     let mut text = [0; 32];
     let ends = steps::load_ends::<H, 16>(bytes, 0);
     steps::fill_step::<16, Lanes16>(&ends, upper, upper, &mut text);
+    // Two parts of the array, which LLVM keeps in registers.
+    let (first, last) = (Simd::from_slice(&text), Simd::from_slice(&text[D..]));
     // Not by the output's length: so a function that is not inlined needs no register for it.
-    let start = 2 * bytes.len() - D;
-    let last = Simd::from_slice(&text[D..]);
-    put::<D>(Simd::from_slice(&text), last, start, output);
+    put::<D>(first, last, 2 * bytes.len() - D, output);
 }
 
 /// Whether every byte of a text of at most 16 bytes is a digit.
