@@ -37,39 +37,41 @@ impl Input {
     /// A case that calls `run` on the bytes and on a buffer for the text.
     fn encoding<T>(
         &self,
-        (call, library): (&'static str, &'static str),
+        names: (&'static str, &'static str),
         run: impl Fn(&[u8], &mut [u8]) -> T + Copy + 'static,
     ) -> Case {
-        let (bytes, text) = (self.bytes.clone(), vec![0; self.text.len()]);
-        Case::new(call, library, move || {
-            let (bytes, mut text) = (bytes.clone(), text.clone());
-            move || {
-                black_box(run(black_box(&bytes), black_box(&mut text)));
-            }
-        })
+        case(names, &self.bytes, self.text.len(), run)
     }
 
     /// A case that calls `run` on a text and on a buffer for the bytes.
     fn decoding<T>(
         &self,
-        (call, library): (&'static str, &'static str),
+        names: (&'static str, &'static str),
         run: impl Fn(&[u8], &mut [u8]) -> T + Copy + 'static,
     ) -> Case {
-        let is_invalid = call.ends_with("_invalid");
-        let text = if is_invalid {
+        let text = if names.0.ends_with("_invalid") {
             &self.invalid
         } else {
             &self.text
-        }
-        .clone();
-        let bytes = vec![0; self.bytes.len()];
-        Case::new(call, library, move || {
-            let (text, mut bytes) = (text.clone(), bytes.clone());
-            move || {
-                black_box(run(black_box(&text), black_box(&mut bytes)));
-            }
-        })
+        };
+        case(names, text, self.bytes.len(), run)
     }
+}
+
+/// A case that calls `run` on a copy of the input and on a buffer of so many bytes.
+fn case<T>(
+    (call, library): (&'static str, &'static str),
+    input: &[u8],
+    size: usize,
+    run: impl Fn(&[u8], &mut [u8]) -> T + Copy + 'static,
+) -> Case {
+    let (input, output) = (input.to_vec(), vec![0; size]);
+    Case::new(call, library, move || {
+        let (input, mut output) = (input.clone(), output.clone());
+        move || {
+            black_box(run(black_box(&input), black_box(&mut output)));
+        }
+    })
 }
 
 /// The calls of a crate that has the names of `hex`. `encode_hex` is that of its trait `ToHex`.

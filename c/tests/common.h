@@ -29,7 +29,7 @@ static const struct build {
 static const struct build *build = BUILDS;
 #else
 typedef bool check_function(const char *text, size_t text_length);
-typedef void fill_function(const char *bytes, size_t bytes_length, unsigned is_upper, char *text);
+typedef void fill_function(const char *bytes, size_t bytes_length, unsigned upper, char *text);
 typedef bool read_function(const char *text, char *bytes, size_t bytes_size);
 check_function __real_const_hex_kernel_check, const_hex_kernel_check_v2, const_hex_kernel_check_v3;
 fill_function __real_const_hex_kernel_fill, const_hex_kernel_fill_v2, const_hex_kernel_fill_v3;
@@ -53,8 +53,8 @@ check_function __wrap_const_hex_kernel_check;
 fill_function __wrap_const_hex_kernel_fill;
 read_function __wrap_const_hex_kernel_read;
 bool __wrap_const_hex_kernel_check(const char *text, size_t text_length) { return build->check(text, text_length); }
-void __wrap_const_hex_kernel_fill(const char *bytes, size_t bytes_length, unsigned is_upper, char *text) {
-    build->fill(bytes, bytes_length, is_upper, text);
+void __wrap_const_hex_kernel_fill(const char *bytes, size_t bytes_length, unsigned upper, char *text) {
+    build->fill(bytes, bytes_length, upper, text);
 }
 bool __wrap_const_hex_kernel_read(const char *text, char *bytes, size_t bytes_size) {
     return build->read(text, bytes, bytes_size);

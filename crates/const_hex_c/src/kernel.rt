@@ -8,7 +8,7 @@ ghost use Rattle.const_hex.specs.Texts.{hex_text, AllDigits, Spells, Partial};
 
 use const_hex::{FixedKernel, Kernel};
 
-/// The kernel whose methods each call a function here, with the whole text.
+/// Its `fill`, `check` and `decode_checked` are each one call of a function below.
 pub(crate) struct Called;
 
 impl Kernel for Called {

@@ -105,8 +105,8 @@ functions! {
     /// Decodes the text to the bytes, and returns true. Returns false if some character is not a digit. Then bytes
     /// before it may be written, and no others.
     ///
-    /// Safety: the text has two bytes for each of so many, and `bytes` may be written for these. They need not be
-    /// initialized, and are if the result is true.
+    /// Safety: `bytes` may be written for so many bytes, and the text has two bytes for each of them. What is written
+    /// need not be initialized, and is afterwards if the result is true.
     read(text: *const u8, bytes: *mut u8, length: usize) -> bool,
         const_hex_1_0_0_read_v2, const_hex_1_0_0_read_v3, const_hex_1_0_0_read;
 }
