@@ -6,6 +6,7 @@ mod rows;
 mod sinks;
 mod tables;
 mod uses;
+mod vectors;
 mod write_sink;
 
 use const_hex_testing::Testing;

@@ -1,5 +1,5 @@
 -- The program: its modes, what it returns for an input, and its errors.
-use Rattle.std.specs.Prelude.{ℕ, List, codes, ◌≡◌, ⊤, ◌<◌, ◌≤◌, true, false, [], ◌∷◌, ◌++◌, length, Result, Ok, Err, Option, Some, if◌then◌else◌}
+use Rattle.std.specs.Prelude.{ℕ, List, codes, ◌≡◌, ◌⊎◌, ⊤, ◌<◌, ◌≤◌, true, false, [], ◌∷◌, ◌++◌, length, Result, Ok, Err, Option, Some, if◌then◌else◌}
 use Rattle.consthex.specs.declared.mode.Mode.{Mode}
 use Rattle.consthex.specs.declared.mode.Mode.TheVariants.{Encode, EncodeUpper, EncodePrefixed, EncodeUpperPrefixed, Decode, Check}
 use Rattle.std.specs.Io.BufRead.{strip_last}
@@ -9,8 +9,9 @@ use Rattle.const_hex.specs.Results.{IsEven, Reads, Checks}
 use Rattle.const_hex.specs.declared.error.FromHexError.{FromHexError}
 use Rattle.consthex.specs.declared.error.RunError.{RunError}
 use Rattle.consthex.specs.declared.error.RunError.TheVariants.{Text, ReadFailed, WriteFailed, TooLong, NoMemory}
-use Rattle.std.specs.Io.KnownBytes.{Consumes, IsAtEnd}
+use Rattle.std.specs.Io.KnownBytes.{Appends, Consumes, IsAtEnd, Keeps}
 use Rattle.const_hex.specs.Types.{is_no_memory}
+use Rattle.const_hex.specs.Writers.{WritesBeginning}
 
 -- ---- the word of each mode
 
@@ -83,6 +84,15 @@ ReadsAll had left x = Consumes had left x × IsAtEnd left
 -- all that the reader had was read, and r is the mode's result for it
 abbrev pub Answers : Mode → Option (List ℕ) → Option (List ℕ) → Result (List ℕ) RunError → Type 0
 Answers m had left r = (x : List ℕ) × ReadsAll had left x × Answer m x r
+
+-- what a run in the mode did that ends with the exit status s: with 0 its result for all of the input was written, with 1
+-- that is an error of the text, and with 3 at most a beginning of the result was written; otherwise nothing was
+abbrev pub Ends : Mode → ℕ → Option (List ℕ) → Option (List ℕ) → Option (List ℕ) → Option (List ℕ) → Type 0
+Ends m s had left old new =
+    (s ≡ 0 → (bs : List ℕ) × Answers m had left (Ok bs) × Appends old new bs)
+    × (s ≡ 1 → (e : FromHexError) × Answers m had left (Err (Text e)) × Keeps old new)
+    × (s ≡ 3 → Keeps old new ⊎ ((bs : List ℕ) × Answers m had left (Ok bs) × WritesBeginning old new bs))
+    × (s ≡ 4 → Keeps old new)
 
 -- ---- the line and the exit status of an error
 

@@ -1,12 +1,8 @@
 //! The whole program, from its arguments to its exit status.
 
-ghost use Rattle.std.specs.Prelude.{◌≡◌, ◌≢◌, ◌≤◌, ◌⊎◌, List, ℕ, Ok, Err};
-ghost use Rattle.std.specs.Io.KnownBytes.{Appends, Keeps};
+ghost use Rattle.std.specs.Prelude.{◌≡◌, ◌≢◌, ◌≤◌, ◌∷◌, [], map, string_bytes};
 ghost use Rattle.std.specs.Process.{exit_status};
-ghost use Rattle.const_hex.specs.declared.error.FromHexError.{FromHexError};
-ghost use Rattle.const_hex.specs.Writers.{WritesBeginning};
-ghost use Rattle.consthex.specs.Program.{status_of, Answers};
-ghost use Rattle.consthex.specs.declared.error.RunError.TheVariants.{Text};
+ghost use Rattle.consthex.specs.Program.{status_of, word_of, Ends};
 ghost use Rattle.consthex.specs.declared.mode.Mode.{Mode};
 
 use crate::arguments::read_arguments;
@@ -31,29 +27,46 @@ pub fn program<R: Read, W: Write>(
     input: &mut R,
     output: &mut W,
 ) -> ExitCode
-    // The reader was read to its end, and a mode's result for all of it was written.
-    ensures done { exit_status result ≡ 0 → (m : Mode) × (bs : List ℕ)
-        × Answers m (R.remaining input.old) (R.remaining input.new) (Ok bs)
-        × Appends (W.contents output.old) (W.contents output.new) bs }
-    // The reader was read to its end, and a mode returns an error for all of it as a text.
-    ensures invalid { exit_status result ≡ 1 → (m : Mode) × (e : FromHexError)
-        × Answers m (R.remaining input.old) (R.remaining input.new) (Err (Text e)) }
+    // The mode is that of the arguments: see `program_with`. No clause can see those of a host.
+    ensures ran { exit_status result ≢ 2 → (m : Mode) × Ends m (exit_status result) (R.remaining input.old)
+        (R.remaining input.new) (W.contents output.old) (W.contents output.new) }
     // Nothing was read or written.
     ensures misused { exit_status result ≡ 2
         → (input.new ≡ input.old) × (output.new ≡ output.old) }
-    ensures nothing_written { exit_status result ≢ 0 → exit_status result ≢ 3
-        → Keeps (W.contents output.old) (W.contents output.new) }
-    // Nothing was written, or a beginning of a mode's result for all that the reader had.
-    ensures failed { exit_status result ≡ 3
-        → Keeps (W.contents output.old) (W.contents output.new) ⊎ ((m : Mode) × (bs : List ℕ)
-        × Answers m (R.remaining input.old) (R.remaining input.new) (Ok bs)
-        × WritesBeginning (W.contents output.old) (W.contents output.new) bs) }
     ensures statuses { exit_status result ≤ 4 }
 {
     let Ok(arguments) = read_arguments(rt) else {
         return report(rt, RunError::NoMemory);
     };
-    match mode_of(&arguments) {
+    program_with(rt, &arguments, input, output)
+}
+
+/// Does what [`program`] does, for these arguments.
+///
+/// ```rust
+/// let arguments = [String::from_str(rt.alloc(), "decode")?];
+/// let mut output = Vec::new(rt.alloc());
+/// let code = program_with(&rt, &arguments, &mut b"6b69\n".as_slice(), &mut output);
+/// assert_eq!(rt; (code, output.as_slice()), (ExitCode::SUCCESS, b"ki".as_slice()));
+/// ```
+pub fn program_with<R: Read, W: Write>(
+    rt: &(impl Eprint + AllocGlobal),
+    arguments: &[String],
+    input: &mut R,
+    output: &mut W,
+) -> ExitCode
+    // The one argument names the mode.
+    ensures ran { exit_status result ≢ 2 → (m : Mode) × (map string_bytes arguments.now ≡ word_of m ∷ [])
+        × Ends m (exit_status result) (R.remaining input.old) (R.remaining input.new)
+        (W.contents output.old) (W.contents output.new) }
+    ensures usage { exit_status result ≡ 2
+        → (m : Mode) → map string_bytes arguments.now ≢ word_of m ∷ [] }
+    // Nothing was read or written.
+    ensures misused { exit_status result ≡ 2
+        → (input.new ≡ input.old) × (output.new ≡ output.old) }
+    ensures statuses { exit_status result ≤ 4 }
+{
+    match mode_of(arguments) {
         Some(mode) => match run(rt.alloc(), mode, input, output) {
             Ok(()) => ExitCode::SUCCESS,
             Err(error) => report(rt, error),

@@ -1,11 +1,11 @@
 //! A whole run over any reader and writer.
 
-ghost use Rattle.std.specs.Prelude.{◌≡◌, ◌≢◌, ◌≤◌, ◌<◌, ◌+◌, List, ℕ, length, take, vec_len, OnOk, OnErr, IfOk, Ok, Err};
+ghost use Rattle.std.specs.Prelude.{◌≡◌, ◌≢◌, ◌≤◌, ◌<◌, ◌+◌, List, ℕ, length, take, vec_len, OnOk, OnErr, IfOk, IfErr, Ok, Err};
 ghost use Rattle.std.specs.Io.KnownBytes.{Appends, Consumes, Keeps};
 ghost use Rattle.const_hex.specs.declared.error.FromHexError.{FromHexError};
 ghost use Rattle.const_hex.specs.Writers.{WritesBeginning};
-ghost use Rattle.consthex.specs.Program.{limit, ReadsAll, Answers};
-ghost use Rattle.consthex.specs.declared.error.RunError.TheVariants.{Text, WriteFailed, TooLong};
+ghost use Rattle.consthex.specs.Program.{limit, ReadsAll, Answer, Answers};
+ghost use Rattle.consthex.specs.declared.error.RunError.TheVariants.{NoMemory, Text, WriteFailed, TooLong};
 
 use crate::answers::{LIMIT, answer};
 use crate::error::RunError;
@@ -53,7 +53,36 @@ pub fn run<R: Read, W: Write>(
         → Keeps (W.contents output.old) (W.contents output.new)) }
 {
     let bytes = read_all(alloc, input)?;
-    let answered = answer(alloc, mode, &bytes)?;
+    run_bytes(alloc, mode, &bytes, output)
+}
+
+/// Does for bytes in memory what [`run`] does for a reader: writes what the mode returns for them, and flushes.
+/// As no read can fail, the outcome depends on the bytes, the memory and the writer alone: it never is
+/// [`RunError::ReadFailed`].
+///
+/// ```rust
+/// let mut output = Vec::new(rt.alloc());
+/// run_bytes(rt.alloc(), Mode::Check, b"0x6b\n", &mut output)?;
+/// assert_eq!(rt; output.as_slice(), b"ok\n".as_slice());
+/// ```
+pub fn run_bytes<W: Write>(
+    alloc: Global,
+    mode: Mode,
+    input: &[u8],
+    output: &mut W,
+) -> Result<(), RunError>
+    // The result was written.
+    ensures ok { OnOk result ((bs : List ℕ) × Answer mode input.now (Ok bs)
+        × Appends (W.contents output.old) (W.contents output.new) bs) }
+    // Unless memory or the writer fails, an error is the result of the mode.
+    ensures err { IfErr result (λ e. e ≢ NoMemory → e ≢ WriteFailed → Answer mode input.now (Err e)) }
+    // A beginning of the result was written.
+    ensures write_failed { result ≡ Err WriteFailed → (bs : List ℕ) × Answer mode input.now (Ok bs)
+        × WritesBeginning (W.contents output.old) (W.contents output.new) bs }
+    ensures nothing_written { OnErr result (result ≢ Err WriteFailed
+        → Keeps (W.contents output.old) (W.contents output.new)) }
+{
+    let answered = answer(alloc, mode, input)?;
     write_all(&answered, output)
 }
 

@@ -75,6 +75,8 @@ const LONG_WORD: &[u8] = &[b'e'; 5000];
 
 const DECODE: &[&[u8]] = &[b"consthex", b"decode"];
 
+const CHECK: &[&[u8]] = &[b"consthex", b"check"];
+
 const ENCODE: &[&[u8]] = &[b"consthex", b"encode"];
 
 const ENCODE_UPPER_PREFIXED: &[&[u8]] = &[b"consthex", b"encode-upper-prefixed"];
@@ -110,32 +112,128 @@ fn ends<R: Read>(
     same!(rt, "standard error", Shown(host.arguments); printed.is_empty(), (status == 0));
 }
 
-// The name of the program does not matter.
+/// Arguments, an input, what is written, the status, and the line on standard error.
+type Run<'a> = (&'a [&'a [u8]], &'a [u8], &'a [u8], u8, &'a str);
+
+// The name of the program does not matter. A newline is removed once, and only at the end of a text.
+const RUNS: [Run<'_>; 26] = [
+    (ENCODE, b"kiwi", b"6b697769\n", 0, ""),
+    (
+        &[b"\xff\xfe/consthex", b"encode"],
+        b"kiwi",
+        b"6b697769\n",
+        0,
+        "",
+    ),
+    (&[b"", b"encode"], b"", b"\n", 0, ""),
+    (&[LONG_NAME, b"encode"], b"\n", b"0a\n", 0, ""),
+    (&[b"check", b"encode"], b"kiwi", b"6b697769\n", 0, ""),
+    (
+        &[b"consthex", b"encode-upper"],
+        b"kiwi",
+        b"6B697769\n",
+        0,
+        "",
+    ),
+    (
+        &[b"consthex", b"encode-prefixed"],
+        b"kiwi",
+        b"0x6b697769\n",
+        0,
+        "",
+    ),
+    (ENCODE_UPPER_PREFIXED, b"kiwi", b"0x6B697769\n", 0, ""),
+    (
+        DECODE,
+        b"48656c6c6f20776f726c6421\n",
+        b"Hello world!",
+        0,
+        "",
+    ),
+    (DECODE, b"0X6B697769", b"kiwi", 0, ""),
+    (DECODE, b"", b"", 0, ""),
+    (DECODE, b"\n", b"", 0, ""),
+    (CHECK, b"0X6B", b"ok\n", 0, ""),
+    (DECODE, b"0x1\n", b"", 1, "odd number of digits"),
+    (CHECK, b"0x1\n", b"", 1, "odd number of digits"),
+    (DECODE, b"6b\n\n", b"", 1, "odd number of digits"),
+    (DECODE, b"123", b"", 1, "odd number of digits"),
+    (CHECK, b"123\n", b"", 1, "odd number of digits"),
+    (DECODE, b"zz", b"", 1, "invalid character 'z' at position 0"),
+    (CHECK, b"zz", b"", 1, "invalid character 'z' at position 0"),
+    (
+        DECODE,
+        b"0xzz\n",
+        b"",
+        1,
+        "invalid character 'z' at position 2",
+    ),
+    (
+        CHECK,
+        b"0xzz\n",
+        b"",
+        1,
+        "invalid character 'z' at position 2",
+    ),
+    (
+        DECODE,
+        b"0x0x\n",
+        b"",
+        1,
+        "invalid character 'x' at position 3",
+    ),
+    (
+        DECODE,
+        b"6b\r\n6b",
+        b"",
+        1,
+        "invalid character '\\r' at position 2",
+    ),
+    (
+        DECODE,
+        b"6b\n\n\n",
+        b"",
+        1,
+        "invalid character '\\n' at position 2",
+    ),
+    (
+        CHECK,
+        b"6b\xff0",
+        b"",
+        1,
+        "invalid character '\u{ff}' at position 2",
+    ),
+];
+
 #[test]
-fn words_that_name_a_mode(rt: HostRuntime) {
-    let rows: [(&[&[u8]], &[u8], &[u8]); 10] = [
-        (&[b"consthex", b"encode"], b"kiwi", b"6b697769\n"),
-        (&[b"\xff\xfe/consthex", b"encode"], b"kiwi", b"6b697769\n"),
-        (&[b"", b"encode"], b"kiwi", b"6b697769\n"),
-        (&[LONG_NAME, b"encode"], b"kiwi", b"6b697769\n"),
-        (&[b"check", b"encode"], b"kiwi", b"6b697769\n"),
-        (&[b"consthex", b"encode-upper"], b"kiwi", b"6B697769\n"),
-        (&[b"consthex", b"encode-prefixed"], b"kiwi", b"0x6b697769\n"),
-        (ENCODE_UPPER_PREFIXED, b"kiwi", b"0x6B697769\n"),
-        (&[b"consthex", b"decode"], b"6b697769\n", b"kiwi"),
-        (&[b"consthex", b"check"], b"6b697769\n", b"ok\n"),
-    ];
-    for (arguments, input, answer) in rows {
-        let (mut input, mut output) = (input, Target::new(rt.alloc(), 1, InjectedFault::Nothing));
-        ends(
-            &rt,
-            Host::new(arguments, true),
-            &mut input,
-            &mut output,
-            (0, ""),
-        );
-        same_bytes!(&rt, "program", Shown(arguments); output.taken, answer);
+fn whole_runs(rt: HostRuntime) {
+    for run in RUNS {
+        runs(&rt, run);
     }
+}
+
+// The bytes 0 to 64.
+const TEXT: &[u8] = b"000102030405060708090a0b0c0d0e0f101112131415161718191a1b1c1d1e1f\
+                      202122232425262728292a2b2c2d2e2f303132333435363738393a3b3c3d3e3f40";
+
+// The bytes below each count are written as the front of `TEXT`, and read from it.
+#[test]
+fn lengths_round_the_lanes(rt: HostRuntime) {
+    for count in [15u8, 16, 17, 31, 32, 33, 47, 48, 49, 63, 64, 65] {
+        let bytes: Vec<u8> = (0..count).collect(rt.alloc()).expect(&rt, "memory");
+        let digits = TEXT.get(..2 * usize::from(count)).unwrap_or(b"");
+        let text = [digits, b"\n"].concat(rt.alloc()).expect(&rt, "memory");
+        runs(&rt, (ENCODE, &bytes, &text, 0, ""));
+        runs(&rt, (DECODE, &text, &bytes, 0, ""));
+    }
+}
+
+/// The program does all that.
+fn runs(rt: &impl Testing, (arguments, input, written, status, line): Run<'_>) {
+    let (mut rest, mut output) = (input, Target::new(rt.alloc(), 1, InjectedFault::Nothing));
+    let host = Host::new(arguments, true);
+    ends(rt, host, &mut rest, &mut output, (status, line));
+    same_bytes!(rt, "program", (Shown(arguments), Text(input)); output.taken, written);
 }
 
 // The program reads and writes nothing. It makes no difference if standard error fails.
@@ -167,7 +265,7 @@ fn words_that_name_none(rt: HostRuntime) {
     }
 }
 
-// A text that is rejected, a failed read, and too long an input.
+// A text that is rejected, where standard error fails; a failed read; and too long an input.
 #[test]
 fn statuses_and_lines(rt: HostRuntime) {
     let mut output = Target::new(rt.alloc(), 1, InjectedFault::Nothing);

@@ -1,11 +1,15 @@
-//! Runs of the program: worked inputs, messages, the limit, and devices that fail.
+//! Runs of the program: worked inputs, the limit, and devices that fail.
+
+ghost use Rattle.std.specs.Prelude.{◌≡◌, codes, string_bytes, IfOk};
+ghost use Rattle.const_hex.specs.declared.error.FromHexError.TheVariants.{OddLength};
+ghost use Rattle.consthex.specs.declared.error.RunError.TheVariants.{NoMemory, Text};
 
 use crate::error::RunError;
 use crate::mode::Mode;
 use crate::runs::run;
 use const_hex::FromHexError::OddLength;
-use const_hex_testing::texts::invalid;
-use const_hex_testing::{Endless, InjectedFault, Source, Target, Testing, Text, same, same_bytes};
+use const_hex_testing::{Endless, InjectedFault, Source, Target, Testing, same, same_bytes};
+use std::alloc::{AllocError, Global};
 use std::io::{self, ErrorKind, Read};
 
 /// A mode, an input, and the result.
@@ -33,40 +37,26 @@ const ANSWERS: [Answered<'_>; 19] = [
     (Mode::Check, b"\n", b"ok\n"),
 ];
 
+// The other lines are those of whole runs.
 #[test]
-fn prints_each_error(rt: HostRuntime) {
-    let rows = [
-        (RunError::Text(OddLength), 1, "odd number of digits"),
-        (
-            RunError::Text(invalid(b'z', 0)),
-            1,
-            "invalid character 'z' at position 0",
-        ),
-        (
-            RunError::Text(invalid(b'\r', 2)),
-            1,
-            "invalid character '\\r' at position 2",
-        ),
-        (
-            RunError::Text(invalid(b'\n', 2)),
-            1,
-            "invalid character '\\n' at position 2",
-        ),
-        (
-            RunError::Text(invalid(b'\xff', 2)),
-            1,
-            "invalid character 'ÿ' at position 2",
-        ),
-        (RunError::ReadFailed, 3, "read failed"),
-        (RunError::WriteFailed, 3, "write failed"),
-        (RunError::TooLong, 3, "input too long"),
-        (RunError::NoMemory, 4, "out of memory"),
-    ];
-    for (error, status, line) in rows {
-        same!(&rt, "status", error; error.status(), status);
-        let text = error.to_string(rt.alloc()).expect(&rt, "memory");
+fn prints_errors(rt: HostRuntime) {
+    same!(&rt; RunError::NoMemory.status(), 4);
+    for (error, line) in [
+        (RunError::NoMemory, "out of memory"),
+        (RunError::Text(OddLength), "odd number of digits"),
+    ] {
+        let text = line_of(rt.alloc(), error).expect(&rt, "memory");
         same_bytes!(&rt, "message", line; text, line);
     }
+}
+
+/// What an error prints, as its contract says: the message of the text's error, too.
+fn line_of(alloc: Global, error: RunError) -> Result<String, AllocError>
+    ensures memory { error ≡ NoMemory → IfOk result (λ s. string_bytes s ≡ codes "out of memory") }
+    ensures text { error ≡ Text OddLength
+        → IfOk result (λ s. string_bytes s ≡ codes "odd number of digits") }
+{
+    error.to_string(alloc)
 }
 
 #[test]
@@ -136,7 +126,10 @@ fn answers_and_names_a_failed_write(rt: HostRuntime) {
 
 /// A run with that fault.
 fn writes(rt: &impl Testing, (mode, input, answer): Answered<'_>, fault: InjectedFault) {
-    let (row, failed) = ((mode, Text(input), fault), Err(RunError::WriteFailed));
+    let (row, failed) = (
+        (mode, const_hex_testing::Text(input), fault),
+        Err(RunError::WriteFailed),
+    );
     let (outcome, taken, calls) = match fault {
         InjectedFault::Nothing => (Ok(()), answer.len(), (answer.len(), 1)),
         InjectedFault::Flush(_) => (failed, answer.len(), (answer.len(), 1)),

@@ -1,22 +1,16 @@
-use Rattle.std.proofs.Common.{rules}
 use Rattle.std.proofs.lemmas.Result.{on_ok_weaker}
 use Rattle.consthex.proofs.runs.run.Goals as goal
 
-pub returns-in_err-answered-clause-nothing_written : goal.returns-in_err-answered-clause-nothing_written
-returns-in_err-answered-clause-nothing_written g c = search rules
-
 pub returns-clause-ok : goal.returns-clause-ok
 returns-clause-ok g c =
-    let made = rw c.deref.ensures.value at c.in_ok-answered.ensures.ok in
-    on_ok_weaker c.write_all.result (λ all. (
-      c.in_ok-answered.answered.items,
-      (c.in_ok-bytes.bytes.items, c.in_ok-bytes.ensures.ok, made),
-      rw c.deref-2.ensures.value at all,
+    on_ok_weaker c.run_bytes.result (λ done. (
+      done.0,
+      (c.in_ok-bytes.bytes.items, c.in_ok-bytes.ensures.ok, rw c.deref.ensures.value at done.1),
+      done.2,
     ))
-    c.write_all.ensures.ok
+    c.run_bytes.ensures.ok
 
 pub returns-clause-write_failed : goal.returns-clause-write_failed
 returns-clause-write_failed g c = λ e.
-    let made = rw c.deref.ensures.value at c.in_ok-answered.ensures.ok in
-    let begun = rw (e, c.deref-2.ensures.value) at c.write_all.ensures.begun in
-    (c.in_ok-answered.answered.items, (c.in_ok-bytes.bytes.items, c.in_ok-bytes.ensures.ok, made), begun)
+    let failed = c.run_bytes.ensures.write_failed e in
+    (failed.0, (c.in_ok-bytes.bytes.items, c.in_ok-bytes.ensures.ok, rw c.deref.ensures.value at failed.1), failed.2)
