@@ -1,8 +1,7 @@
 //! Kernels, which encode bytes as digits and decode digits to bytes.
 
-ghost use Rattle.std.specs.Prelude.{◌≡◌, Bool, ◌*◌, ◌≤◌, ◌↔◌, IsTrue, true, false, length};
-ghost use Rattle.std.specs.Str.{IsAscii};
-ghost use Rattle.const_hex_arch.specs.Outputs.{HasSpace, Writes};
+ghost use Rattle.std.specs.Prelude.{◌≡◌, Bool, ℕ, ◌*◌, ◌↔◌, IsTrue, true, false, length};
+ghost use Rattle.const_hex_arch.specs.Outputs.{HasSpace, WritesPieces, piece_bytes};
 ghost use Rattle.const_hex_arch.specs.Texts.{hex_text, AllDigits, Spells, Partial};
 
 pub mod check_first;
@@ -45,8 +44,11 @@ pub trait Kernel {
     /// their output unchanged.
     const USE_CHECK_FN: bool;
 
-    /// How many bytes of text one piece of [`encode`](Kernel::encode) has: a divisor of 64. With
-    /// another number, the pieces of each 64 bytes end with a shorter one.
+    /// The constant of the same name, for contracts.
+    ghost PIECE: { ℕ };
+
+    /// How many bytes [`encode`](Kernel::encode) encodes for each piece that it writes: 1 to 32. Less
+    /// or more counts as 1 or as 32.
     const PIECE: usize;
 
     /// Fills the output with two digits for each byte, in order. The output must have exactly the
@@ -61,8 +63,8 @@ pub trait Kernel {
         requires { length output.old ≡ 2 * length input.now }
         ensures { output.new ≡ hex_text upper input.now };
 
-    /// Writes two digits for each byte, in order, in pieces of [`PIECE`](Kernel::PIECE) bytes, of
-    /// which the last may be shorter. No piece is longer than 64 bytes. The output must have space
+    /// Writes two digits for each byte, in order. Each piece has the digits of
+    /// [`PIECE`](Kernel::PIECE) bytes, except that the last may have fewer. The output must have space
     /// for the text.
     ///
     /// ```rust
@@ -73,15 +75,16 @@ pub trait Kernel {
     #[inline]
     fn encode<O: Output>(input: &[u8], upper: bool, output: &mut O)
         requires { HasSpace (O.space output.old) (2 * length input.now) }
-        ensures { Writes O.step output.old (hex_text upper input.now) output.new }
+        ensures { WritesPieces (2 * piece_bytes PIECE) O.step output.old (hex_text upper input.now)
+            output.new }
     {
         let mut rest = input;
         while rest.len() > 0 {
-            let (bytes, after) = rest.split_at(rest.len().min(32));
+            let (bytes, after) = rest.split_at(rest.len().min(Self::PIECE.clamp(1, 32)));
             let mut text = [0; 64];
-            let digits = &mut text[..2 * bytes.len()];
-            Self::fill(bytes, upper, digits);
-            write_in_pieces(digits, Self::PIECE, output);
+            let piece = &mut text[..2 * bytes.len()];
+            Self::fill(bytes, upper, piece);
+            output.write(piece);
             rest = after;
         }
     }
@@ -142,21 +145,4 @@ pub trait Kernel {
         requires size { length input.now ≡ 2 * length output.old }
         requires digits { AllDigits input.now }
         ensures { Spells input.now output.new };
-}
-
-/// Writes a text of at most 64 bytes in pieces of the given size, or of 1 byte if that is 0. The last
-/// piece may be shorter.
-#[inline(always)]
-fn write_in_pieces<O: Output>(text: &[u8], size: usize, output: &mut O)
-    requires most { length text.now ≤ 64 }
-    requires ascii { IsAscii text.now }
-    requires space { HasSpace (O.space output.old) (length text.now) }
-    ensures { Writes O.step output.old text.now output.new }
-{
-    let mut rest = text;
-    while rest.len() > 0 {
-        let (piece, after) = rest.split_at(rest.len().min(size.max(1)));
-        output.write(piece);
-        rest = after;
-    }
 }

@@ -16,7 +16,9 @@ impl Kernel for Called {
 
     const USE_CHECK_FN: bool = false;
 
-    const PIECE: usize = 64;
+    ghost PIECE = { 32 };
+
+    const PIECE: usize = 32;
 
     #[inline(always)]
     fn fill(input: &[u8], upper: bool, output: &mut [u8]) {

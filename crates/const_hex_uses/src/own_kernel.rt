@@ -28,7 +28,9 @@ impl Kernel for BySize {
 
     const USE_CHECK_FN: bool = false;
 
-    const PIECE: usize = 64;
+    ghost PIECE = { 32 };
+
+    const PIECE: usize = 32;
 
     fn fill(input: &[u8], upper: bool, output: &mut [u8]) {
         if input.len() < 16 {

@@ -30,26 +30,26 @@ pub trait Kernel {
     /// their output unchanged.
     const USE_CHECK_FN: bool;
 
-    /// How many bytes of text one piece of [`encode`](Kernel::encode) has: a divisor of 64. With
-    /// another number, the pieces of each 64 bytes end with a shorter one.
+    /// How many bytes [`encode`](Kernel::encode) encodes for each piece that it writes: 1 to 32. Less
+    /// or more counts as 1 or as 32.
     const PIECE: usize;
 
     /// Fills the output with two digits for each byte, in order. The output must have exactly the
     /// length of that text.
     fn fill(input: &[u8], upper: bool, output: &mut [u8]);
 
-    /// Writes two digits for each byte, in order, in pieces of [`PIECE`](Kernel::PIECE) bytes, of
-    /// which the last may be shorter. No piece is longer than 64 bytes. The output must have space
+    /// Writes two digits for each byte, in order. Each piece has the digits of
+    /// [`PIECE`](Kernel::PIECE) bytes, except that the last may have fewer. The output must have space
     /// for the text.
     #[inline]
     fn encode<O: Output>(input: &[u8], upper: bool, output: &mut O) {
         let mut rest = input;
         while rest.len() > 0 {
-            let (bytes, after) = rest.split_at(rest.len().min(32));
+            let (bytes, after) = rest.split_at(rest.len().min(Self::PIECE.clamp(1, 32)));
             let mut text = [0; 64];
-            let digits = &mut text[..2 * bytes.len()];
-            Self::fill(bytes, upper, digits);
-            write_in_pieces(digits, Self::PIECE, output);
+            let piece = &mut text[..2 * bytes.len()];
+            Self::fill(bytes, upper, piece);
+            output.write(piece);
             rest = after;
         }
     }
@@ -73,16 +73,4 @@ pub trait Kernel {
     /// Decodes the input into the output. The input must have two bytes for each byte of the
     /// output, and only digits.
     fn decode_unchecked(input: &[u8], output: &mut [u8]);
-}
-
-/// Writes a text of at most 64 bytes in pieces of the given size, or of 1 byte if that is 0. The last
-/// piece may be shorter.
-#[inline(always)]
-fn write_in_pieces<O: Output>(text: &[u8], size: usize, output: &mut O) {
-    let mut rest = text;
-    while rest.len() > 0 {
-        let (piece, after) = rest.split_at(rest.len().min(size.max(1)));
-        output.write(piece);
-        rest = after;
-    }
 }

@@ -55,8 +55,8 @@ pub use self::formatting::text::*;
 //    1  and writes a text to memory that is not cleared
 //    1  before it reads a chunk
 //   50  deleted: attribute
-//  226  deleted: contract
-//  202  deleted: ghost item
+//  225  deleted: contract
+//  206  deleted: ghost item
 //    4  deleted: model
 //    1  each value may be dropped
 //    5  kernels that no target uses are left out, and callers that nothing exports

@@ -7,8 +7,8 @@ use Rattle.std.proofs.lemmas.List.Elements.{All-take, All-drop}
 use Rattle.std.proofs.lemmas.Slice.{take-put_mid, drop-put_mid}
 use borrow.Rule.Slice.PartMut.{put_mid}
 use Rattle.const_hex_arch.specs.Texts.{IsDigit, AllDigits, Spells, Partial}
-use Rattle.const_hex_arch.specs.Outputs.{HasSpace, less_space, Writes}
-use Rattle.const_hex_arch.proofs.lemmas.Runs.{Writes_space, Writes-none, Writes-append}
+use Rattle.const_hex_arch.specs.Outputs.{HasSpace, less_space, WritesPieces}
+use Rattle.const_hex_arch.proofs.lemmas.Runs.{HasSpace-less, one_piece}
 use Rattle.const_hex_arch.proofs.lemmas.DigitTexts.{digits_append, digits_parts}
 use Rattle.const_hex_arch.proofs.lemmas.LeftOutputs.{none_decoded, Partial-after}
 use Rattle.const_hex_arch.proofs.lemmas.Spelling.{Spells-append, Spells-parts, Spells-digits}
@@ -33,14 +33,6 @@ digits_last u i e h d = (
   λ whole. rw take_rest (All-drop IsDigit e u whole),
 )
 
--- ---- the front of a text is written, and there is space for the rest
-pub record IsWritten {S : Type 0} (step : S → List ℕ → S → Type 0) (space : S → Option ℕ) (text : List ℕ) (old new : S)
-    (rest : List ℕ) : Type 0 where
-  pub front : List ℕ
-  pub whole : front ++ rest ≡ text
-  pub written : Writes step old front new
-  pub has_space : HasSpace (space new) (length rest)
-
 -- a part of ASCII text
 pub part_ascii : (u front rest part after : List ℕ) → front ++ rest ≡ u → part ++ after ≡ rest → IsAscii u
     → IsAscii part
@@ -48,26 +40,26 @@ part_ascii u front rest part after e p h k =
     let at : slice_index (front ++ (part ++ after)) (length front + k) < 128 = rw (p, e) (h (length front + k)) in
     grind (arith, common_steps, at)
 
-module _ {S : Type 0} {step : S → List ℕ → S → Type 0} {space : S → Option ℕ}
-    (shrinks : (s : S) (piece : List ℕ) (t : S) → step s piece t → space t ≡ less_space (space s) (length piece))
-    {text : List ℕ} {old : S} where
-  pub none_written : HasSpace (space old) (length text) → IsWritten step space text old old text
-  none_written h = record { front = []; whole = refl; written = Writes-none step old; has_space = h }
+-- ---- a text is written but for the rest: with the rest in pieces of n bytes it is, and there is space for the rest
+pub record IsWritten {S : Type 0} (n : ℕ) (step : S → List ℕ → S → Type 0) (space : S → Option ℕ) (text : List ℕ)
+    (old new : S) (rest : List ℕ) : Type 0 where
+  pub onward : (t : S) → WritesPieces n step new rest t → WritesPieces n step old text t
+  pub has_space : HasSpace (space new) (length rest)
+  pub ascii : IsAscii rest
 
-  -- one part more
-  pub written_part : {mid new : S} {all : List ℕ} (part rest : List ℕ) → IsWritten step space text old mid all
-      → part ++ rest ≡ all
-      → Writes step mid part new → IsWritten step space text old new rest
-  written_part {mid} {new} {all} part rest d e w =
-      let needed : length all ≡ length part + length rest = rw (← e) (length-append part rest) in record {
-        front = d.front ++ part;
-        whole = rw (append_assoc, e) d.whole;
-        written = Writes-append step _ _ _ _ _ d.written w;
-        has_space = Writes_space step space shrinks mid part new (length rest) w (rw needed at d.has_space);
-      }
-
-  pub all_written : {new : S} → IsWritten step space text old new [] → Writes step old text new
-  all_written d = rw (← d.whole, append-nil) d.written
+-- a piece that begins the rest is written
+pub piece_written : {S : Type 0} {n : ℕ} {step : S → List ℕ → S → Type 0} {space : S → Option ℕ} {text all : List ℕ}
+    {old mid new : S} (piece rest : List ℕ)
+    → ((s : S) (p : List ℕ) (t : S) → step s p t → space t ≡ less_space (space s) (length p))
+    → IsWritten n step space text old mid all → piece ++ rest ≡ all → step mid piece new
+    → 1 ≤ n → 1 ≤ length piece → length piece ≤ n → (length piece < n → rest ≡ [])
+    → IsWritten n step space text old new rest
+piece_written {S} {n} {step} {space} {text} {all} {old} {mid} {new} piece rest shrinks d e h some long short last =
+    let needed : length all ≡ length piece + length rest = rw (← e) (length-append piece rest) in record {
+      onward = λ t w. d.onward t (rw e at (one_piece step n mid piece new rest t h some long short last w));
+      has_space = rw (shrinks mid piece new h) (HasSpace-less (space mid) (length piece) (length rest) (rw needed at d.has_space));
+      ascii = part_ascii all piece rest rest [] e (append-nil rest) d.ascii;
+    }
 
 -- ---- the first bytes of an output hold what the first pairs of a text decode to, and the rest of the
 -- output is unchanged

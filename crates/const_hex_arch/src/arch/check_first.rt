@@ -25,6 +25,8 @@ impl<K: Kernel> Kernel for CheckFirst<K> {
 
     const USE_CHECK_FN: bool = true;
 
+    ghost PIECE = { K.PIECE };
+
     const PIECE: usize = K::PIECE;
 
     #[inline(always)]

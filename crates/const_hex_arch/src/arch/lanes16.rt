@@ -156,7 +156,9 @@ impl Kernel for Lanes16 {
 
     const USE_CHECK_FN: bool = false;
 
-    const PIECE: usize = 32;
+    ghost PIECE = { 16 };
+
+    const PIECE: usize = 16;
 
     #[inline(always)]
     fn fill(input: &[u8], upper: bool, output: &mut [u8]) {

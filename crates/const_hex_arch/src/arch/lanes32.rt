@@ -102,7 +102,9 @@ impl Kernel for Lanes32 {
 
     const USE_CHECK_FN: bool = false;
 
-    const PIECE: usize = 64;
+    ghost PIECE = { 32 };
+
+    const PIECE: usize = 32;
 
     #[inline(always)]
     fn fill(input: &[u8], upper: bool, output: &mut [u8]) {

@@ -20,6 +20,8 @@ impl Kernel for Plain {
 
     const USE_CHECK_FN: bool = false;
 
+    ghost PIECE = { 1 };
+
     const PIECE: usize = 1;
 
     #[inline(always)]
@@ -79,6 +81,8 @@ impl Kernel for Compact {
     ghost USE_CHECK_FN = { false };
 
     const USE_CHECK_FN: bool = false;
+
+    ghost PIECE = { 1 };
 
     const PIECE: usize = 1;
 

@@ -1,6 +1,7 @@
-use Rattle.std.proofs.Common.{◌*◌, length}
+use Rattle.std.proofs.Common.{◌*◌, length, arith}
+use Rattle.const_hex_arch.specs.Outputs.{piece_bytes}
 use Rattle.const_hex_arch.specs.Texts.{prefix_of}
-use Rattle.const_hex_arch.proofs.lemmas.Runs.{Writes-append, Writes_space}
+use Rattle.const_hex_arch.proofs.lemmas.Runs.{Writes-append, Writes_space, kernel_pieces}
 use Rattle.const_hex_arch.proofs.lemmas.Texts.{length-full_text}
 use Rattle.const_hex_arch.proofs.text.encode_full.Goals as goal
 
@@ -11,4 +12,7 @@ encode-requires g c =
     (2 * length c.args.input.now) c.write_prefix.ensures (rw sized at c.requires)
 
 pub returns : goal.returns
-returns g c = Writes-append g.O.Output.step _ (prefix_of c.args.prefix) _ _ _ c.write_prefix.ensures c.encode.ensures
+returns g c =
+    let size = piece_bytes g.K.Kernel.PIECE in
+    Writes-append g.O.Output.step _ (prefix_of c.args.prefix) _ _ _ c.write_prefix.ensures
+    (kernel_pieces g.O.Output.step (2 * size) _ _ _ (omega arith) (omega arith) c.encode.ensures)

@@ -1,9 +1,0 @@
-use Rattle.std.proofs.Common.{length}
-use Rattle.const_hex_arch.proofs.lemmas.Steps.{IsWritten}
-use Rattle.const_hex_arch.proofs.arch.write_in_pieces.Given as goal
-
-abbrev pub invariant-loop-rest : goal.invariant-loop-rest
-invariant-loop-rest g l = IsWritten g.O.Output.step g.O.Output.space l.text l.initial.output l.output l.rest
-
-abbrev pub decreases-loop-rest : goal.decreases-loop-rest
-decreases-loop-rest g l = length l.rest
