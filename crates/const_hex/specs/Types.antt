@@ -77,11 +77,14 @@ ReadsThrough {W} {V} target is_memory answers t (Err e) =
 
 -- ---- a JSON value that is read into a type
 
--- the results for a JSON string: the type's results for its bytes, with an error inside `Hex`
-abbrev pub ReadsInside : {V E : Type 0} → (List ℕ → Result V E → Type 0) → List ℕ → Result V (JsonError E) → Type 0
-ReadsInside answers t (Ok v) = answers t (Ok v)
-ReadsInside answers t (Err NotText) = ⊥
-ReadsInside answers t (Err (Hex e)) = answers t (Err e)
+-- the results for a JSON value, which may be a string with the text t: the type's results for t, with an error inside
+-- `Hex`; and `NotText` for every other value
+abbrev pub ReadsInside : {V E : Type 0} → (List ℕ → Result V E → Type 0) → Option (List ℕ) → Result V (JsonError E)
+    → Type 0
+ReadsInside answers None r = r ≡ Err NotText
+ReadsInside answers (Some t) (Ok v) = answers t (Ok v)
+ReadsInside answers (Some t) (Err NotText) = ⊥
+ReadsInside answers (Some t) (Err (Hex e)) = answers t (Err e)
 
 -- what the error for a JSON value prints, if it is known what the error for the text prints
 abbrev pub json_message : {E : Type 0} → (E → Option (List ℕ)) → JsonError E → Option (List ℕ)

@@ -1,5 +1,5 @@
 -- What formatters, sinks and writers hold after a write.
-use Rattle.std.specs.Prelude.{◌≡◌, ℕ, Bool, false, List, true, [], take, Option, is_some}
+use Rattle.std.specs.Prelude.{◌≡◌, ◌≢◌, ℕ, Bool, false, List, true, [], take, Option, is_some, IfSome}
 use Rattle.std.specs.Borrow.{GName}
 use Rattle.std.specs.Fmt.{IsFlush, HasWrittenStyled}
 use Rattle.std.specs.declared.fmt.Formatter.{Formatter}
@@ -7,7 +7,9 @@ use Rattle.const_hex_arch.specs.Texts.{full_text}
 use Rattle.const_hex.specs.declared.formatting.sink.FormatterSink.{FormatterSink}
 use Rattle.const_hex.specs.declared.formatting.text.Display.{Display}
 use Rattle.std.specs.Io.KnownBytes.{Appends}
+use Rattle.std.specs.IoError.{error_kind}
 use Rattle.std.specs.declared.io.Error.{Error}
+use Rattle.std.specs.declared.io.ErrorKind.TheVariants.{Interrupted}
 use Rattle.const_hex.specs.declared.write_sink.WriteSink.{WriteSink}
 use Rattle.std.specs.List.{concat}
 use Rattle.const_hex_arch.specs.Sinks.{reported_after}
@@ -63,13 +65,14 @@ first_error s = s.error
 abbrev pub has_failed : {W : Type 0} → WriteSink W → Bool
 has_failed s = is_some s.error
 
--- the same writer has written the text if it did not fail, and a beginning of the text if it failed;
--- for an empty text nothing changes
+-- the same writer has written the text if it did not fail, and a beginning of the text if it failed, by
+-- an error other than that of an interrupted call; for an empty text nothing changes
 pub record WriteStep {W : Type 0} (contents : W → Option (List ℕ)) (s : WriteSink W) (text : List ℕ)
     (t : WriteSink W) : Type 0 where
   pub same_writer : writer_name t ≡ writer_name s
   pub accepted : has_failed t ≡ false → Appends (contents (sink_writer s)) (contents (sink_writer t)) text
   pub refused : has_failed t ≡ true → WritesBeginning (contents (sink_writer s)) (contents (sink_writer t)) text
+  pub retried : has_failed s ≡ false → IfSome (first_error t) (λ e. error_kind e ≢ Interrupted)
   pub nothing : text ≡ [] → t ≡ s
 
 -- ---- text that is written to a sink

@@ -3,13 +3,12 @@
 //! [`serialize`] writes `0x` before the digits, as the byte strings of JSON-RPC have it, and
 //! [`no_prefix`] writes the digits alone. [`deserialize`] reads both.
 
-ghost use Rattle.std.specs.Prelude.{◌≡◌, ◌↔◌, true, false, Err, None, IfOk, IfSome};
+ghost use Rattle.std.specs.Prelude.{◌≡◌, true, false, IfOk};
 ghost use Rattle.serde_json.specs.Data.{string};
 ghost use Rattle.serde_json.specs.Find.{as_str};
 ghost use Rattle.serde_json.specs.View.{view};
 ghost use Rattle.const_hex_arch.specs.Texts.{full_text};
 ghost use Rattle.const_hex.specs.Types.{ReadsInside};
-ghost use Rattle.const_hex.specs.declared.serde.error.JsonError.TheVariants.{NotText};
 
 mod error;
 mod inner;
@@ -61,8 +60,7 @@ pub fn serialize_upper(alloc: Global, bytes: &[u8]) -> Result<Value, AllocError>
 /// assert_eq!(rt; const_hex::deserialize::<[u8; 4]>(rt.alloc(), &value), Ok(*b"kiwi"));
 /// ```
 pub fn deserialize<T: FromHex>(alloc: Global, value: &Value) -> Result<T, JsonError<T::Error>>
-    ensures not_text { (result ≡ Err NotText) ↔ (as_str (view value.now) ≡ None) }
-    ensures text { IfSome (as_str (view value.now)) (λ t. ReadsInside T.answers t result) }
+    ensures { ReadsInside T.answers (as_str (view value.now)) result }
 {
     match value.as_str() {
         None => Err(JsonError::NotText),

@@ -1,13 +1,13 @@
 //! A file or a socket that receives text.
 
-ghost use Rattle.std.specs.Prelude.{◌∷◌, ◌++◌, [], true, false, OnOk, OnErr};
+ghost use Rattle.std.specs.Prelude.{◌≢◌, ◌∷◌, ◌++◌, [], true, false, OnOk, OnErr, IfErr};
+ghost use Rattle.std.specs.IoError.{error_kind};
 ghost use Rattle.std.specs.Io.KnownBytes.{Appends};
 ghost use Rattle.const_hex.specs.Texts.{full_text};
 ghost use Rattle.const_hex.specs.Writers.{WritesBeginning};
 
 use const_hex::WriteSink;
-use std::io;
-use std::io::Write;
+use std::io::{self, ErrorKind, Write};
 
 /// Writes the text of some bytes. Returns the writer's error if it fails.
 ///
@@ -21,6 +21,8 @@ pub fn write_text<W: Write>(bytes: &[u8], writer: &mut W) -> io::Result<()>
         (Appends (W.contents writer.old) (W.contents writer.new) (full_text true false bytes.now)) }
     ensures err { OnErr result (WritesBeginning (W.contents writer.old) (W.contents writer.new)
         (full_text true false bytes.now)) }
+    // A call that a signal interrupts is made again.
+    ensures retried { IfErr result (λ e. error_kind e ≢ ErrorKind.Interrupted) }
 {
     let mut sink = WriteSink::new(writer);
     let _ = sink.write_hex::<false, true>(bytes);

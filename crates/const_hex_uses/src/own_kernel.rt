@@ -1,9 +1,9 @@
 //! A kernel of your own, under the codec.
 
 ghost use Rattle.std.specs.Prelude.{◌≡◌, ◌≢◌, ◌*◌, ◌≤◌, List, ℕ, false, length, string_bytes, IfOk, IfErr, Ok, Err};
-ghost use Rattle.std.specs.List.{All, FoldsTo, concat};
+ghost use Rattle.std.specs.List.{FoldsTo, concat};
 ghost use Rattle.const_hex.specs.Results.{Reads};
-ghost use Rattle.const_hex.specs.Outputs.{HasSpace};
+ghost use Rattle.const_hex.specs.Outputs.{ArePieces, HasSpace};
 ghost use Rattle.const_hex.specs.Texts.{hex_text};
 ghost use Rattle.const_hex.specs.declared.error.FromHexError.TheVariants.{NoMemory};
 
@@ -88,8 +88,8 @@ pub fn decoded(alloc: Global, text: &[u8]) -> Result<Vec<u8>, FromHexError>
     decode_with::<CheckFirst<BySize>>(alloc, text)
 }
 
-/// Writes the text of bytes to any output, in pieces of 1 to 64 bytes. So an output may give an empty
-/// piece a meaning of its own, such as the end of a message.
+/// Writes the text of bytes to any output, in pieces of 64 bytes, of which the last may be shorter, but
+/// not empty. So an output may give a shorter piece a meaning of its own, such as the end of a message.
 ///
 /// ```rust
 /// let mut text = [0; 8];
@@ -99,8 +99,7 @@ pub fn decoded(alloc: Global, text: &[u8]) -> Result<Vec<u8>, FromHexError>
 pub fn write_pieces<O: Output>(bytes: &[u8], output: &mut O)
     requires { HasSpace (O.space output.old) (2 * length bytes.now) }
     ensures { (pieces : List (List ℕ)) × FoldsTo O.step output.old pieces output.new
-        × (concat pieces ≡ hex_text false bytes.now)
-        × All (λ piece. (1 ≤ length piece) × (length piece ≤ 64)) pieces }
+        × (concat pieces ≡ hex_text false bytes.now) × ArePieces 64 pieces }
 {
     BySize::encode(bytes, false, output);
 }

@@ -1,6 +1,7 @@
 //! A text that someone is typing.
 
-ghost use Rattle.std.specs.Prelude.{ℕ, ◌≡◌, ◌≢◌, ◌/◌, ◌<◌, ◌↔◌, length, take, IfOk, IfErr, Ok, Err};
+ghost use Rattle.std.specs.Prelude.{ℕ, ◌≡◌, ◌≢◌, ◌/◌, ◌<◌, ◌↔◌, length, take, IfOk, IfErr, IfSome, Some, Ok, Err};
+ghost use Rattle.const_hex.specs.Decoding.{error_of};
 ghost use Rattle.const_hex.specs.Results.{IsOdd, Reads, NamesFirstBad, body_of};
 ghost use Rattle.const_hex.specs.Texts.{AllDigits};
 ghost use Rattle.const_hex.specs.declared.error.FromHexError.{FromHexError};
@@ -37,25 +38,25 @@ pub fn decode_typed(text: &[u8], output: &mut [u8]) -> Result<usize, FromHexErro
     }
 }
 
-/// Checks a text in two chunks. An error that the first has stays that of the text.
+/// Checks two more chunks of a text. An error that it has already, or that the first chunk has, stays
+/// that of the text, and nothing changes any more.
 ///
 /// ```rust
+/// let mut decoder = Decoder::new();
 /// let error = Err(FromHexError::InvalidHexCharacter { c: 'z', index: 1 });
-/// assert_eq!(rt; check_chunks(b"6z", b"69"), (error, error, error));
+/// assert_eq!(rt; check_chunks(&mut decoder, b"6z", b"69"), (error, error));
 /// ```
 pub fn check_chunks(
+    decoder: &mut Decoder,
     first: &[u8],
     second: &[u8],
-) -> (
-    Result<(), FromHexError>,
-    Result<(), FromHexError>,
-    Result<(), FromHexError>,
-)
-    ensures { (e : FromHexError) → result.0 ≡ Err e → (result.1 ≡ Err e) × (result.2 ≡ Err e) }
+) -> (Result<(), FromHexError>, Result<(), FromHexError>)
+    ensures before { IfSome (error_of decoder.old)
+        (λ e. (result.0 ≡ Err e) × (result.1 ≡ Err e) × (decoder.new ≡ decoder.old)) }
+    ensures first { IfErr result.0 (λ e. (result.1 ≡ Err e) × (error_of decoder.new ≡ Some e)) }
 {
-    let mut decoder = Decoder::new();
-    let (begun, ended) = (decoder.check(first), decoder.check(second));
-    (begun, ended, decoder.finish())
+    let begun = decoder.check(first);
+    (begun, decoder.check(second))
 }
 
 /// Decodes a text in two chunks. After an error for a character in the first, nothing more is written.

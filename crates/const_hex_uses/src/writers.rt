@@ -1,11 +1,12 @@
 //! Callers that write a value as text, and whose contracts say which text.
 
-ghost use Rattle.std.specs.Prelude.{◌≡◌, ◌++◌, true, false, string_bytes, Err, IfOk, OnErr, OnOk};
+ghost use Rattle.std.specs.Prelude.{◌≡◌, ◌≤◌, ◌<◌, ◌*◌, ◌++◌, ◌↔◌, ℕ, true, false, length, drop, string_bytes, Err, IfOk, IsOk, OnErr, OnOk};
+ghost use Rattle.std.specs.Str.{IsAscii};
 ghost use Rattle.const_hex.specs.Buffers.{buffer_text};
 ghost use Rattle.const_hex.specs.Texts.{full_text, hex_text};
 ghost use Rattle.const_hex.specs.declared.error.FromHexError.TheVariants.{InvalidStringLength};
 
-use const_hex::{Buffer, FromHexError, ToHexExt, encode, encode_to_slice};
+use const_hex::{Buffer, FromHexError, Output, SliceOutput, ToHexExt, encode, encode_to_slice};
 use std::alloc::{AllocError, Global};
 
 /// The text of a wallet's address: `0x` and 40 digits.
@@ -55,9 +56,26 @@ pub fn joined_text(alloc: Global, first: &[u8], second: &[u8]) -> Result<String,
 /// assert_eq!(rt; fill_field(&mut field, b"ki"), Err(FromHexError::InvalidStringLength));
 /// ```
 pub fn fill_field(field: &mut [u8], name: &[u8]) -> Result<(), FromHexError>
+    ensures fits { IsOk result ↔ (length field.old ≡ 2 * length name.now) }
     ensures text { OnOk result (field.new ≡ hex_text false name.now) }
     ensures error { OnErr result (result ≡ Err InvalidStringLength) }
     ensures kept { OnErr result (field.new ≡ field.old) }
 {
     encode_to_slice(name, field)
+}
+
+/// Puts a label at the start of a field, and leaves the rest of the field as it is.
+///
+/// ```rust
+/// let mut field = *b"........";
+/// put_label(&mut field, b"key=");
+/// assert_eq!(rt; &field, b"key=....");
+/// ```
+pub fn put_label(field: &mut [u8], label: &[u8])
+    requires ascii { IsAscii label.now }
+    requires fits { length label.now ≤ length field.old }
+    ensures { field.new ≡ label.now ++ drop (length label.now) field.old }
+{
+    let mut output = SliceOutput::new(field);
+    output.write(label);
 }

@@ -1,6 +1,6 @@
 //! A value of a fixed number of bytes, its text and its JSON string.
 
-ghost use Rattle.std.specs.Prelude.{◌≡◌, ◌↔◌, ℕ, List, Bool, length, true, false, Some, None, Ok, Err, IfOk, IfSome, IsOk, IsTrue, MatchResult};
+ghost use Rattle.std.specs.Prelude.{◌≡◌, ◌↔◌, ℕ, List, Bool, length, true, false, Some, Ok, Err, IfOk, IsOk, IsTrue, MatchResult};
 ghost use Rattle.serde_json.specs.Data.{string};
 ghost use Rattle.serde_json.specs.Find.{as_str};
 ghost use Rattle.serde_json.specs.View.{view};
@@ -8,7 +8,6 @@ ghost use Rattle.const_hex.specs.Results.{AreBytes, ReadsSized, is_text_of, body
 ghost use Rattle.const_hex.specs.Types.{ReadsInside, IsCount};
 ghost use Rattle.const_hex.specs.Texts.{full_text};
 ghost use Rattle.const_hex.specs.TypeLaws.{ReadsAs-faithful, ReadsSized-faithful};
-ghost use Rattle.const_hex.specs.declared.serde.error.JsonError.TheVariants.{NotText};
 ghost use Rattle.hash_hex.specs.Fixed.{fixed_bytes, ReadsFixed};
 ghost use Rattle.hash_hex.specs.declared.fixed.FixedBytes.{FixedBytes};
 
@@ -84,8 +83,7 @@ impl<const N: usize> FixedBytes<N> {
         alloc: Global,
         value: &Value,
     ) -> Result<FixedBytes<N>, JsonError<FromHexError>>
-        ensures not_text { (result ≡ Err NotText) ↔ (as_str (view value.now) ≡ None) }
-        ensures text { IfSome (as_str (view value.now)) (λ t. ReadsInside (ReadsFixed N) t result) }
+        ensures { ReadsInside (ReadsFixed N) (as_str (view value.now)) result }
     {
         deserialize(alloc, value)
     }

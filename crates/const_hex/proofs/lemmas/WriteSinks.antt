@@ -7,7 +7,10 @@ use Rattle.std.proofs.lemmas.List.{append_assoc, drop_all, take_min, take_rest, 
 use Rattle.std.proofs.lemmas.List.Folds.{concat-append}
 use Rattle.std.specs.Io.KnownBytes.{Appends}
 use Rattle.std.specs.List.{concat}
-use Rattle.std.specs.Prelude.{min}
+use Rattle.std.specs.Prelude.{min, Some, None, is_some, IfSome, ◌≢◌}
+use Rattle.std.specs.IoError.{error_kind}
+use Rattle.std.specs.declared.io.Error.{Error}
+use Rattle.std.specs.declared.io.ErrorKind.TheVariants.{Interrupted}
 use Rattle.const_hex_arch.specs.Sinks.{Offers, Streams}
 use Rattle.const_hex.specs.Writers.{WriteStep, sink_writer, has_failed}
 use Rattle.const_hex.specs.declared.write_sink.WriteSink.{WriteSink}
@@ -33,6 +36,11 @@ both_empty : (a b : List ℕ) → a ++ b ≡ [] → (a ≡ []) × (b ≡ [])
 both_empty [] b e = (refl, e)
 both_empty (x ∷ a) b e = cc e
 
+-- there is no error
+no_error : (e : Option Error) → is_some e ≡ false → IfSome e (λ x. error_kind x ≢ Interrupted)
+no_error None h = tt
+no_error (Some e) h = cc h
+
 module _ {W : Type 0} (contents : W → Option (List ℕ)) where
   -- a text that follows another is written, unless the first failed and nothing more was tried
   joined : (s : WriteSink W) (a : List ℕ) (m : WriteSink W) (b : List ℕ) (t : WriteSink W)
@@ -51,6 +59,10 @@ module _ {W : Type 0} (contents : W → Option (List ℕ)) where
           let r = k.refused u in
           (length a + r.0, rw (take-append-add a b r.0) (Appends-trans _ _ _ a (take r.0 b) (h.accepted before) r.1))
     ];
+    retried = λ u. elim (cases_Bool (has_failed m)) [
+      | inl first ↦ rw (stays first) (h.retried u)
+      | inr before ↦ k.retried before
+    ];
     nothing = λ e. let none = both_empty a b e in k.nothing none.1 ∙ h.nothing none.0;
   }
 
@@ -68,6 +80,7 @@ module _ {W : Type 0} (contents : W → Option (List ℕ)) where
     same_writer = cc;
     accepted = λ u. rw (none u, h) (Appends-nil (contents (sink_writer t)));
     refused = λ _. (0, rw h (Appends-nil (contents (sink_writer t))));
+    retried = λ u. no_error t.error (rw h at u);
     nothing = λ _. sym h;
   }
   passed s (p ∷ ps) t left (e, (m, h, k)) none =

@@ -1,6 +1,6 @@
 //! One call of each function of `const_hex_uses`, whose contract says the rest.
 
-use const_hex::{FromHex, FromHexError, JsonError, PieceSink, SliceOutput};
+use const_hex::{Decoder, FromHex, FromHexError, JsonError, PieceSink, SliceOutput};
 use const_hex_testing::texts::invalid;
 use const_hex_testing::{Testing, Text, same, same_bytes, same_read};
 use const_hex_uses::constants::{transfer, wrapped_ether};
@@ -13,7 +13,7 @@ use const_hex_uses::readers::{
 use const_hex_uses::sinks::{packets, refused_key, send_json};
 use const_hex_uses::store::{find, put};
 use const_hex_uses::streams::{check_chunks, decode_chunks, decode_typed, decode_where_it_fits};
-use const_hex_uses::writers::{address_text, array_text, fill_field, joined_text};
+use const_hex_uses::writers::{address_text, array_text, fill_field, joined_text, put_label};
 use serde_json::json;
 use std::alloc::AllocError;
 use std::boxed::BoxedSlice;
@@ -32,6 +32,8 @@ fn texts(rt: HostRuntime) {
     same!(&rt; fill_field(&mut field, b"ki"), Ok(()));
     same!(&rt; fill_field(&mut field, b"kiwi"), Err(FromHexError::InvalidStringLength));
     same_bytes!(&rt, "fill_field", "ki"; field, "6b69");
+    put_label(&mut field, b"k=");
+    same_bytes!(&rt, "put_label", "k="; field, "k=69");
 }
 
 #[test]
@@ -112,7 +114,7 @@ fn salts_and_typed_texts(rt: HostRuntime) {
         same!(&rt, "decode_typed", Text(text); decode_typed(text, &mut [0; 2]), want);
     }
     let bad = invalid(b'z', 1);
-    same!(&rt; check_chunks(b"6z", b"69"), (Err(bad), Err(bad), Err(bad)));
+    same!(&rt; check_chunks(&mut Decoder::new(), b"6z", b"69"), (Err(bad), Err(bad)));
     let (mut small, mut large) = ([7; 1], [7; 2]);
     same!(&rt; decode_chunks(b"6z", b"69", &mut small, &mut large), (Err(bad), Err(bad)));
     same!(&rt; decode_where_it_fits(b"6b69", &mut small, &mut large), (Err(FromHexError::InvalidStringLength), Ok(2)));
