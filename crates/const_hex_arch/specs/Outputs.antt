@@ -1,5 +1,5 @@
 -- What an output takes: pieces of text, the space that they leave, and a write to each kind of output.
-use Rattle.std.specs.Prelude.{◌≡◌, ℕ, ◌-◌, max, min, ◌≤◌, List, length, Option, Some, None, unwrap_or, ◌+◌, ◌++◌, take, drop, ◌<◌, [], ◌∷◌, ◌⊎◌}
+use Rattle.std.specs.Prelude.{◌≡◌, ℕ, ◌-◌, ◌*◌, ◌/◌, nat_lt, if◌then◌else◌, min, ◌≤◌, List, length, Option, Some, None, unwrap_or, ◌+◌, ◌++◌, take, drop, ◌<◌, [], ◌∷◌, ◌⊎◌}
 use Rattle.std.specs.List.{FoldsTo, concat, All}
 use Rattle.std.specs.Borrow.{GName}
 use Rattle.const_hex_arch.specs.declared.output.slice.SliceOutput.{SliceOutput}
@@ -19,9 +19,9 @@ less_space None n = None
 abbrev pub IsKernelPiece : List ℕ → Type 0
 IsKernelPiece piece = (1 ≤ length piece) × (length piece ≤ 64)
 
--- how many bytes a kernel encodes for each piece, if it names n: at least 1, and at most 32
-abbrev pub piece_bytes : ℕ → ℕ
-piece_bytes n = max 1 (min n 32)
+-- how many bytes a kernel's pieces have, if it names n: 1, or an even number up to 64
+abbrev pub piece_size : ℕ → ℕ
+piece_size n = if nat_lt n 2 then 1 else 2 * min 32 (n / 2)
 
 -- each piece has n bytes, except that the last may have fewer, but not none
 abbrev pub ArePieces : ℕ → List (List ℕ) → Type 0

@@ -28,9 +28,9 @@ impl Kernel for BySize {
 
     const USE_CHECK_FN: bool = false;
 
-    ghost PIECE = { 32 };
+    ghost PIECE = { 64 };
 
-    const PIECE: usize = 32;
+    const PIECE: usize = 64;
 
     fn fill(input: &[u8], upper: bool, output: &mut [u8]) {
         if input.len() < 16 {

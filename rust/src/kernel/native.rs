@@ -11,7 +11,7 @@ pub struct Native;
 impl Kernel for Native {
     const USE_CHECK_FN: bool = false;
 
-    const PIECE: usize = 32;
+    const PIECE: usize = 64;
 
     #[inline]
     fn fill(input: &[u8], upper: bool, output: &mut [u8]) {

@@ -6,7 +6,7 @@ use crate::proved::Kernel;
 use core::{ptr, slice};
 
 /// How many bytes the kernel takes at once.
-const BLOCK: usize = 2 * Portable::PIECE;
+const BLOCK: usize = Portable::PIECE;
 
 #[inline(always)]
 pub unsafe fn fill(bytes: *const u8, length: usize, upper: u32, text: *mut u8) {

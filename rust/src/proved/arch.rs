@@ -30,26 +30,30 @@ pub trait Kernel {
     /// their output unchanged.
     const USE_CHECK_FN: bool;
 
-    /// How many bytes [`encode`](Kernel::encode) encodes for each piece that it writes: 1 to 32. Less
-    /// or more counts as 1 or as 32.
+    /// How many bytes of text each piece of [`encode`](Kernel::encode) has: 1, or an even number up to
+    /// 64. Of another number, the next smaller one of these counts, and 1 for 0.
     const PIECE: usize;
 
     /// Fills the output with two digits for each byte, in order. The output must have exactly the
     /// length of that text.
     fn fill(input: &[u8], upper: bool, output: &mut [u8]);
 
-    /// Writes two digits for each byte, in order. Each piece has the digits of
-    /// [`PIECE`](Kernel::PIECE) bytes, except that the last may have fewer. The output must have space
-    /// for the text.
+    /// Writes two digits for each byte, in order, in pieces of [`PIECE`](Kernel::PIECE) bytes, of
+    /// which the last may be shorter. The output must have space for the text.
     #[inline]
     fn encode<O: Output>(input: &[u8], upper: bool, output: &mut O) {
         let mut rest = input;
         while rest.len() > 0 {
-            let (bytes, after) = rest.split_at(rest.len().min(Self::PIECE.clamp(1, 32)));
+            let (bytes, after) = rest.split_at(rest.len().min((Self::PIECE / 2).clamp(1, 32)));
             let mut text = [0; 64];
             let piece = &mut text[..2 * bytes.len()];
             Self::fill(bytes, upper, piece);
-            output.write(piece);
+            if Self::PIECE < 2 {
+                output.write_byte(piece[0]);
+                output.write_byte(piece[1]);
+            } else {
+                output.write(piece);
+            }
             rest = after;
         }
     }

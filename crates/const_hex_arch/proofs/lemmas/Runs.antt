@@ -5,7 +5,7 @@ use Rattle.std.specs.List.{All, FoldsTo, concat}
 use Rattle.std.proofs.lemmas.List.{append-nil}
 use Rattle.std.proofs.lemmas.List.Elements.{All-nil, All-cons, All-append}
 use Rattle.std.proofs.lemmas.List.Folds.{concat-append}
-use Rattle.const_hex_arch.specs.Outputs.{Gathers, piece_of, HasSpace, less_space, IsKernelPiece, ArePieces, Writes, WritesPieces}
+use Rattle.const_hex_arch.specs.Outputs.{Gathers, piece_of, HasSpace, less_space, IsKernelPiece, ArePieces, Writes, WritesPieces, piece_size}
 pub use Rattle.const_hex_arch.specs.Laws.{less_space-add, run_shrinks}
 
 -- what is left of the space after m bytes
@@ -68,16 +68,21 @@ first_size n piece [] some long short last s = (long, short)
 first_size n piece (q ∷ []) some long short last s = let none = no_first q [] in grind (arith, none)
 first_size n piece (q ∷ r ∷ ps) some long short last s = let none = no_first q (r ∷ ps) in grind (arith, none)
 
-module _ {S : Type 0} (step : S → List ℕ → S → Type 0) (n : ℕ) where
-  pub kernel_pieces : (s : S) (text : List ℕ) (t : S) → 1 ≤ n → n ≤ 64 → WritesPieces n step s text t
-      → Writes step s text t
-  kernel_pieces s text t some most w = record {
-    pieces = w.pieces;
-    run = w.run;
-    whole = w.whole;
-    sizes = kernel_sizes n most w.pieces some w.sizes;
-  }
+-- a kernel's pieces have 1 to 64 bytes
+pub piece_size_within : (n : ℕ) → (1 ≤ piece_size n) × (piece_size n ≤ 64)
+piece_size_within n = grind arith
 
+pub kernel_pieces : {S : Type 0} (step : S → List ℕ → S → Type 0) (n : ℕ) (s : S) (text : List ℕ) (t : S)
+    → WritesPieces (piece_size n) step s text t → Writes step s text t
+kernel_pieces step n s text t w =
+    let within = piece_size_within n in record {
+      pieces = w.pieces;
+      run = w.run;
+      whole = w.whole;
+      sizes = kernel_sizes (piece_size n) within.1 w.pieces within.0 w.sizes;
+    }
+
+module _ {S : Type 0} (step : S → List ℕ → S → Type 0) (n : ℕ) where
   pub no_pieces : (s : S) → WritesPieces n step s [] s
   no_pieces s = record { pieces = []; run = refl; whole = refl; sizes = tt }
 

@@ -1,5 +1,5 @@
 -- Texts that are worked through in steps, and the remainder by another call.
-use Rattle.std.proofs.Common.{◌≡◌, ℕ, ◌+◌, ◌-◌, ◌*◌, ◌<◌, ◌≤◌, ◌↔◌, List, [], ◌++◌, length, take, drop, slice_index, refl, ap, ◌∙◌, arith, take-add, take-append-drop, drop-drop, length-take, length-append, Option}
+use Rattle.std.proofs.Common.{◌≡◌, ℕ, ◌+◌, ◌-◌, ◌*◌, ◌<◌, ◌≤◌, ◌↔◌, List, [], ◌∷◌, ◌++◌, length, take, drop, slice_index, slice_index_or, refl, ap, ◌∙◌, arith, take-add, take-append-drop, drop-drop, length-take, length-append, Option}
 use Rattle.std.specs.Str.{IsAscii}
 use Rattle.std.proofs.lemmas.Grind.{common_steps}
 use Rattle.std.proofs.lemmas.List.{append-nil, append_assoc, take_at, drop_at, take_rest}
@@ -60,6 +60,13 @@ piece_written {S} {n} {step} {space} {text} {all} {old} {mid} {new} piece rest s
       has_space = rw (shrinks mid piece new h) (HasSpace-less (space mid) (length piece) (length rest) (rw needed at d.has_space));
       ascii = part_ascii all piece rest rest [] e (append-nil rest) d.ascii;
     }
+
+-- two bytes
+pub two_bytes : (u : List ℕ) → length u ≡ 2 → u ≡ slice_index_or u 0 0 ∷ slice_index_or u 1 0 ∷ []
+two_bytes [] h = cc h
+two_bytes (a ∷ []) h = absurd (omega (arith, h))
+two_bytes (a ∷ b ∷ []) h = refl
+two_bytes (a ∷ b ∷ c ∷ u) h = absurd (omega (arith, h))
 
 -- ---- the first bytes of an output hold what the first pairs of a text decode to, and the rest of the
 -- output is unchanged

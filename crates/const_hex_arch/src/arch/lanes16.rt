@@ -156,9 +156,9 @@ impl Kernel for Lanes16 {
 
     const USE_CHECK_FN: bool = false;
 
-    ghost PIECE = { 16 };
+    ghost PIECE = { 32 };
 
-    const PIECE: usize = 16;
+    const PIECE: usize = 32;
 
     #[inline(always)]
     fn fill(input: &[u8], upper: bool, output: &mut [u8]) {

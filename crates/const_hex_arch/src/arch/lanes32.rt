@@ -102,9 +102,9 @@ impl Kernel for Lanes32 {
 
     const USE_CHECK_FN: bool = false;
 
-    ghost PIECE = { 32 };
+    ghost PIECE = { 64 };
 
-    const PIECE: usize = 32;
+    const PIECE: usize = 64;
 
     #[inline(always)]
     fn fill(input: &[u8], upper: bool, output: &mut [u8]) {

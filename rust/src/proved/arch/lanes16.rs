@@ -100,7 +100,7 @@ pub struct Lanes16;
 impl Kernel for Lanes16 {
     const USE_CHECK_FN: bool = false;
 
-    const PIECE: usize = 16;
+    const PIECE: usize = 32;
 
     #[inline(always)]
     fn fill(input: &[u8], upper: bool, output: &mut [u8]) {

@@ -1,5 +1,4 @@
-use Rattle.std.proofs.Common.{◌*◌, length, arith}
-use Rattle.const_hex_arch.specs.Outputs.{piece_bytes}
+use Rattle.std.proofs.Common.{◌*◌, length}
 use Rattle.const_hex_arch.specs.Texts.{prefix_of}
 use Rattle.const_hex_arch.proofs.lemmas.Runs.{Writes-append, Writes_space, kernel_pieces}
 use Rattle.const_hex_arch.proofs.lemmas.Texts.{length-full_text}
@@ -13,6 +12,5 @@ encode-requires g c =
 
 pub returns : goal.returns
 returns g c =
-    let size = piece_bytes g.K.Kernel.PIECE in
     Writes-append g.O.Output.step _ (prefix_of c.args.prefix) _ _ _ c.write_prefix.ensures
-    (kernel_pieces g.O.Output.step (2 * size) _ _ _ (omega arith) (omega arith) c.encode.ensures)
+    (kernel_pieces g.O.Output.step g.K.Kernel.PIECE _ _ _ c.encode.ensures)

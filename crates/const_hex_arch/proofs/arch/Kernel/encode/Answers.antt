@@ -1,9 +1,11 @@
-use Rattle.std.proofs.Common.{◌≡◌, ◌≤◌, ◌<◌, ℕ, Bool, List, [], ◌++◌, length, take, drop, sym, ap, ◌∙◌, refl, arith}
+use Rattle.std.proofs.Common.{◌≡◌, ◌≤◌, ◌<◌, ℕ, Bool, List, [], ◌∷◌, ◌++◌, length, take, drop, slice_index_or, sym, ap, ◌∙◌, refl, arith}
+use Rattle.std.specs.Str.{IsAscii}
 use Rattle.std.proofs.lemmas.List.{nil_from_length}
-use Rattle.const_hex_arch.specs.Outputs.{piece_bytes}
+use Rattle.std.specs.Prelude.{Option}
+use Rattle.const_hex_arch.specs.Outputs.{less_space, piece_size}
 use Rattle.const_hex_arch.specs.Texts.{hex_text}
 use Rattle.const_hex_arch.proofs.lemmas.Runs.{HasSpace-fewer, no_pieces}
-use Rattle.const_hex_arch.proofs.lemmas.Steps.{part_ascii, piece_written, parts}
+use Rattle.const_hex_arch.proofs.lemmas.Steps.{IsWritten, part_ascii, piece_written, two_bytes, parts}
 use Rattle.const_hex_arch.proofs.lemmas.Texts.{IsAscii-hex_text, hex_text-append, hex_text-nil, length-hex_text}
 use Rattle.const_hex_arch.proofs.arch.Kernel.encode.Goals as goal
 
@@ -19,11 +21,25 @@ cut : (up : Bool) (n : ℕ) (u front back : List ℕ) → front ≡ take n u →
     → hex_text up front ++ hex_text up back ≡ hex_text up u
 cut up n u front back f b = sym (hex_text-append up front back) ∙ ap (hex_text up) (parts n f b)
 
+front_ascii : (up : Bool) (n : ℕ) (u front back : List ℕ) → front ≡ take n u → back ≡ drop n u
+    → IsAscii (hex_text up u) → IsAscii (hex_text up front)
+front_ascii up n u front back f b h =
+    part_ascii (hex_text up u) [] (hex_text up u) (hex_text up front) (hex_text up back) refl (cut up n u front back f b) h
+
 pub write-requires-clause-ascii : goal.write-requires-clause-ascii
 write-requires-clause-ascii g c =
     let halves = c.split_at.ensures in
-    rw c.fill.ensures
-    (part_ascii _ [] _ _ _ refl (cut c.args.upper _ _ _ _ halves.front halves.back) c.loop-rest.invariant.ascii)
+    rw c.fill.ensures (front_ascii _ _ _ _ _ halves.front halves.back c.loop-rest.invariant.ascii)
+
+pub write_byte-requires-clause-ascii : goal.write_byte-requires-clause-ascii
+write_byte-requires-clause-ascii g c =
+    let halves = c.split_at.ensures in
+    rw c.fill.ensures (front_ascii _ _ _ _ _ halves.front halves.back c.loop-rest.invariant.ascii 0)
+
+pub write_byte-requires-then-PIECE-lt2-clause-ascii : goal.write_byte-requires-then-PIECE-lt2-clause-ascii
+write_byte-requires-then-PIECE-lt2-clause-ascii g c =
+    let halves = c.split_at.ensures in
+    rw c.fill.ensures (front_ascii _ _ _ _ _ halves.front halves.back c.loop-rest.invariant.ascii 1)
 
 pub write-requires-clause-fits : goal.write-requires-clause-fits
 write-requires-clause-fits g c =
@@ -32,16 +48,58 @@ write-requires-clause-fits g c =
     HasSpace-fewer (g.O.Output.space c.loop-rest.output) _ _
     (omega (arith, part, length-hex_text up c.loop-rest.rest.now)) c.loop-rest.invariant.has_space
 
+pub write_byte-requires-clause-fits : goal.write_byte-requires-clause-fits
+write_byte-requires-clause-fits g c =
+    HasSpace-fewer (g.O.Output.space c.loop-rest.output) _ _
+    (omega (arith, length-hex_text c.args.upper c.loop-rest.rest.now)) c.loop-rest.invariant.has_space
+
+-- the first of two digits is written
+first_digit : {S : Type 0} {n : ℕ} {step : S → List ℕ → S → Type 0} {space : S → Option ℕ} {text all pair : List ℕ}
+    {old mid new : S} (a b : ℕ) (rest : List ℕ)
+    → ((s : S) (p : List ℕ) (t : S) → step s p t → space t ≡ less_space (space s) (length p))
+    → IsWritten n step space text old mid all → pair ++ rest ≡ all → pair ≡ a ∷ b ∷ [] → step mid (a ∷ []) new
+    → n ≡ 1 → IsWritten n step space text old new (b ∷ rest)
+first_digit a b rest shrinks d whole two h one =
+    piece_written (a ∷ []) (b ∷ rest) shrinks d (rw two at whole) h (omega (arith, one)) (omega arith) (omega (arith, one))
+    (λ less. absurd (omega (arith, one, less)))
+
+pub write_byte-requires-then-PIECE-lt2-clause-fits : goal.write_byte-requires-then-PIECE-lt2-clause-fits
+write_byte-requires-then-PIECE-lt2-clause-fits g c =
+    let up = c.args.upper in
+    let halves = c.split_at.ensures in
+    let small = rw c.PIECE-in-loop-rest.ensures at c.if-PIECE-lt2.true in
+    let most = rw c.PIECE.ensures at c.clamp.ensures in
+    let part = ap length c.fill.ensures ∙ length-hex_text up c.split_at.result.0.now in
+    let two = two_bytes c.fill.new.output (grind (arith, part, most, small)) in
+    let first = first_digit _ _ _ g.met.O.Output.shrinks c.loop-rest.invariant
+    (cut up _ _ _ _ halves.front halves.back) (sym c.fill.ensures ∙ two) c.write_byte.ensures (grind (arith, small)) in
+    HasSpace-fewer (g.O.Output.space c.write_byte.new.self) _ _ (omega arith) first.has_space
+
+pub loop-rest-preserved-then-PIECE-lt2 : goal.loop-rest-preserved-then-PIECE-lt2
+loop-rest-preserved-then-PIECE-lt2 g c =
+    let up = c.args.upper in
+    let halves = c.split_at.ensures in
+    let small = rw c.PIECE-in-loop-rest.ensures at c.if-PIECE-lt2.true in
+    let most = rw c.PIECE.ensures at c.clamp.ensures in
+    let part = ap length c.fill.ensures ∙ length-hex_text up c.split_at.result.0.now in
+    let two = two_bytes c.fill.new.output (grind (arith, part, most, small)) in
+    let one : piece_size g.Self.Kernel.PIECE ≡ 1 = grind (arith, small) in
+    let first = first_digit _ _ _ g.met.O.Output.shrinks c.loop-rest.invariant
+    (cut up _ _ _ _ halves.front halves.back) (sym c.fill.ensures ∙ two) c.write_byte.ensures one in
+    piece_written _ _ g.met.O.Output.shrinks first refl c.write_byte-then-PIECE-lt2.ensures (omega (arith, one))
+    (omega arith) (omega (arith, one)) (λ less. absurd (omega (arith, one, less)))
+
 pub loop-rest-preserved : goal.loop-rest-preserved
 loop-rest-preserved g c =
     let up = c.args.upper in
     let halves = c.split_at.ensures in
     let part = length-hex_text up c.split_at.result.0.now in
-    let most : c.clamp.result ≡ piece_bytes g.Self.Kernel.PIECE = rw c.PIECE.ensures at c.clamp.ensures in
+    let most = rw c.PIECE.ensures at c.clamp.ensures in
+    let long = rw c.PIECE-in-loop-rest.ensures at c.if-PIECE-lt2.false in
     piece_written (hex_text up c.split_at.result.0.now) _ g.met.O.Output.shrinks c.loop-rest.invariant
-    (cut up _ _ _ _ halves.front halves.back) (rw c.fill.ensures at c.write.ensures) (omega arith)
-    (omega (arith, part, most)) (omega (arith, part, most))
-    (λ less. let none = nil_from_length c.split_at.result.1.now (omega (arith, part, most)) in rw (none, hex_text-nil) refl)
+    (cut up _ _ _ _ halves.front halves.back) (rw c.fill.ensures at c.write.ensures) (grind (arith, long))
+    (omega (arith, part, most)) (grind (arith, part, most, long))
+    (λ less. let none = nil_from_length c.split_at.result.1.now (grind (arith, part, most, long)) in rw (none, hex_text-nil) refl)
 
 pub returns : goal.returns
 returns g c =

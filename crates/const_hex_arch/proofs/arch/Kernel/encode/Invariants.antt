@@ -1,12 +1,12 @@
-use Rattle.std.proofs.Common.{◌*◌, length}
-use Rattle.const_hex_arch.specs.Outputs.{piece_bytes}
+use Rattle.std.proofs.Common.{length}
+use Rattle.const_hex_arch.specs.Outputs.{piece_size}
 use Rattle.const_hex_arch.specs.Texts.{hex_text}
 use Rattle.const_hex_arch.proofs.lemmas.Steps.{IsWritten}
 use Rattle.const_hex_arch.proofs.arch.Kernel.encode.Given as goal
 
 abbrev pub invariant-loop-rest : goal.invariant-loop-rest
 invariant-loop-rest g l =
-    IsWritten (2 * piece_bytes g.Self.Kernel.PIECE) g.O.Output.step g.O.Output.space (hex_text l.upper l.input)
+    IsWritten (piece_size g.Self.Kernel.PIECE) g.O.Output.step g.O.Output.space (hex_text l.upper l.input)
     l.initial.output l.output
     (hex_text l.upper l.rest)
 
