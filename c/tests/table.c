@@ -25,12 +25,13 @@ static size_t read_cell(const char *cell, char *bytes) {
     return length;
 }
 
-/* Reads the next line that is no comment. */
+/* Reads the next line that is neither empty nor a comment. */
 static bool read_line(FILE *file, struct line *line) {
     static char text[LINE];
     while (fgets(text, LINE, file) != NULL) {
         char *question = strtok(text, "\t\n"), *input = strtok(NULL, "\t\n"), *result = strtok(NULL, "\t\n");
-        if (result != NULL && question[0] != '#') {
+        if (question != NULL && question[0] != '#') {
+            holds(result != NULL, "cells of a line", strlen(question), 0);
             char *name = strtok(question, " "), *number = strtok(NULL, " ");
             line->question = name;
             line->result_cell = result;
@@ -139,5 +140,6 @@ TEST(table) {
         }
         holds(is_known, line.question, lines, 0);
     }
-    holds(lines >= 300 && feof(file) && fclose(file) == 0, "the whole table", lines, 0);
+    /* A line with another question, or with a cell too few, has failed above. docs/check counts the lines. */
+    holds(lines > 0 && feof(file) && fclose(file) == 0, "the whole table", lines, 0);
 }

@@ -46,12 +46,13 @@ const LONG = Buffer ? 2 ** 17 : Infinity;
 // What an array says of itself by these cannot be changed by its own properties or by a subclass.
 const { prototype: typedArray } = Object.getPrototypeOf(Uint8Array);
 const getterOf = (name) => Object.getOwnPropertyDescriptor(typedArray, name).get;
-const [typeOf, lengthOf] = [getterOf(Symbol.toStringTag), getterOf('length')];
+const [typeOf, lengthOf, bufferOf] = [getterOf(Symbol.toStringTag), getterOf('length'), getterOf('buffer')];
 
 export class HexError extends SyntaxError {
+    name = 'HexError'; // An assignment would fail where `SyntaxError.prototype` is frozen.
+
     constructor(kind, position) {
         super(MESSAGES[kind] ?? describe(position));
-        this.name = 'HexError';
         this.kind = KINDS[kind];
         Object.assign(this, position);
     }
@@ -93,10 +94,14 @@ export function decodeInto(input, target) {
     const length = lengthOf.call(target);
     loadDecoder(0, 0);
     const output = decodeSource(source, true);
-    if (!output || !finishes()) throw errorOf(source, length);
-    if (output.length !== length) throw new HexError(INVALID_LENGTH);
-    typedArray.set.call(target, output);
-    return target;
+    try {
+        if (!output || !finishes()) throw errorOf(source, length);
+        if (output.length !== length) throw new HexError(INVALID_LENGTH);
+        typedArray.set.call(target, output);
+        return target;
+    } finally {
+        if (output && output.buffer !== memory.buffer) new Uint8Array(output.buffer).fill(0);
+    }
 }
 
 export function decoder() {
@@ -180,7 +185,10 @@ function loadDecoder(first, second) {
     numbers[1] = second;
 }
 
-/** Returns what a source decodes to, or undefined after an error. What a caller copies may be in `bytes`. */
+/**
+ * Returns what a source decodes to, or undefined after an error. What a caller copies may be in `bytes`, or be the
+ * beginning of its buffer. No other array keeps any of it.
+ */
 function decodeSource(source, isCopied = false) {
     const length = lengthIn(source);
     let count = decodeChunk(source, 0);
@@ -191,10 +199,13 @@ function decodeSource(source, isCopied = false) {
     for (let index = TEXT_CHUNK; count >= 0; index += TEXT_CHUNK) {
         output.set(bytes.subarray(0, count), written);
         written += count;
-        if (index >= length) return written === output.length ? output : output.slice(0, written);
+        if (index >= length) break;
         count = decodeChunk(source, index);
     }
-    return undefined;
+    if (count >= 0 && (isCopied || written === output.length)) return output.subarray(0, written);
+    const result = count < 0 ? undefined : output.slice(0, written);
+    output.fill(0);
+    return result;
 }
 
 /** Decodes the chunk at an index into `bytes`, and returns how many bytes it is, or -1 after an error. */
@@ -257,11 +268,12 @@ const sourceOf = (input) => (typeof input === 'string' ? input : viewOf(input, '
 function viewOf(value, message) {
     const type = typeOf.call(value);
     // Copying throws if the array has lost its bytes.
-    if (type === 'Uint8Array' && lengthOf.call(value) <= BYTES_CHUNK) return value;
+    if (type === 'Uint8Array' && lengthOf.call(value) <= BYTES_CHUNK && !bufferOf.call(value).growable) return value;
     try {
-        if (!ArrayBuffer.isView(value)) return new Uint8Array(new DataView(value).buffer);
         if (type) typedArray.keys.call(value); // Throws if the array has lost its bytes.
-        const get = (name) => Reflect.get(type ? typedArray : DataView.prototype, name, value);
+        const view = ArrayBuffer.isView(value) ? value : new DataView(value);
+        const get = (name) => Reflect.get(type ? typedArray : DataView.prototype, name, view);
+        // Of this length, also if another thread lets a shared buffer grow.
         return new Uint8Array(get('buffer'), get('byteOffset'), get('byteLength'));
     } catch (cause) {
         const lost = typeof value === 'object' ? ' (or the buffer is detached or too short)' : '';

@@ -96,6 +96,48 @@ test('the memory keeps its size, and wipe clears all that calls left', async () 
     assert.throws(() => memory.grow(1), RangeError);
 });
 
+test('decodeInto leaves no bytes of a long text in arrays of its own', () => {
+    const { Uint8Array } = globalThis;
+    const made = [];
+    const target = new Uint8Array(20000);
+    globalThis.Uint8Array = class extends Uint8Array {
+        constructor(...from) { made.push(super(...from)); }
+    };
+    try {
+        for (const text of ['c9'.repeat(20000), `0x${'c9'.repeat(20000)}`]) hex.decodeInto(text, target);
+        for (const text of [`${'c9'.repeat(20000)}zz`, 'c9'.repeat(20001), 'c'.repeat(39999)]) {
+            assert.throws(() => hex.decodeInto(text, target), hex.HexError);
+        }
+    } finally {
+        Object.assign(globalThis, { Uint8Array });
+    }
+    assert(made.length >= 5 && target.every((byte) => byte === 0xc9));
+    for (const { buffer } of made) assert(new Uint8Array(buffer).every((byte) => byte === 0));
+});
+
+test('a shared buffer that grows meanwhile', async () => {
+    for (const [size, view] of [[40000, (buffer) => buffer], [2000, (buffer) => new Uint8Array(buffer)]]) {
+        const buffer = new SharedArrayBuffer(size, { maxByteLength: 2 ** 17 });
+        Buffer.from(buffer).fill('6b');
+        const loaded = await loadOver((exports) => ({
+            ...exports,
+            const_hex_decoder_update: (...given) => {
+                if (buffer.byteLength === size) buffer.grow(2 ** 17);
+                return exports.const_hex_decoder_update(...given);
+            },
+        }));
+        assert.equal(loaded.decode(view(buffer)).length, size / 2);
+    }
+});
+
+test('a HexError where the prototypes of errors are frozen', () => {
+    const code = `import { decode } from ${JSON.stringify(new URL('../dist/const_hex.js', import.meta.url))};
+        for (const { prototype } of [Error, SyntaxError]) Object.freeze(prototype);
+        try { decode('zz'); } catch (error) { console.log(error.name, error.message); }`;
+    const printed = execFileSync(process.execPath, ['--input-type=module', '--eval', code], { encoding: 'utf8' });
+    assert.equal(printed, "HexError invalid character 'z' at position 0\n");
+});
+
 // Buffers of zeros take no memory as long as nobody writes there.
 test('lengths above 2^31', async () => {
     const [even, odd] = [new Uint8Array(2 ** 31 + 2), new Uint8Array(2 ** 31 + 1)];

@@ -3,40 +3,27 @@
 #![cfg(not(target_family = "wasm"))]
 
 use std::fs;
-use std::io::{stderr, Write};
 use std::path::Path;
 use std::process::{Command, Output};
 use std::thread;
 
 const FOLDER: &str = env!("CARGO_MANIFEST_DIR");
 
-/// Runs the program. Only a crate that was unpacked from its archive has no source beside it.
-fn erase(argument: &Path) -> Option<Output> {
-    if Path::new(FOLDER).join("Cargo.toml.orig").exists() {
-        return None;
-    }
+/// Runs the program.
+fn erase(argument: &Path) -> Output {
     let program = format!("{FOLDER}/erase");
-    let output = Command::new("python3").arg(program).arg(argument).output();
-    Some(output.expect("python3"))
+    Command::new("python3").arg(program).arg(argument).output().expect("python3")
 }
 
 /// This compares the numbers of places that each rule has changed, too.
 #[test]
 fn the_generated_source() {
-    if let Some(output) = erase(Path::new("--check")) {
-        let differing = String::from_utf8_lossy(&output.stdout);
-        assert!(output.status.success(), "{differing}");
-    } else {
-        // `eprintln` would not be shown.
-        let _ = writeln!(
-            stderr(),
-            "erase is skipped, since this crate was unpacked from its archive"
-        );
-    }
+    let output = erase(Path::new("--check"));
+    assert!(output.status.success(), "{}", String::from_utf8_lossy(&output.stdout));
 }
 
 /// What a file becomes at a place in the source, or why it is an error.
-fn erased(place: &str, source: &str) -> Option<Result<String, String>> {
+fn erased(place: &str, source: &str) -> Result<String, String> {
     // Each test has a folder of its own, since they run at the same time.
     let test = thread::current();
     let folder = Path::new(env!("CARGO_TARGET_TMPDIR")).join(test.name().unwrap());
@@ -44,12 +31,12 @@ fn erased(place: &str, source: &str) -> Option<Result<String, String>> {
     let file = folder.join("src").join(place).with_extension("txt");
     fs::create_dir_all(file.parent().unwrap()).unwrap();
     fs::write(&file, source).unwrap();
-    let output = erase(&file)?;
+    let output = erase(&file);
     let text = |bytes| String::from_utf8(bytes).unwrap().trim().to_string();
-    Some(match output.status.success() {
+    match output.status.success() {
         true => Ok(text(output.stdout)),
         false => Err(text(output.stderr)),
-    })
+    }
 }
 
 /// A place in the source, what stands there, and what it becomes, or why it is an error.
@@ -58,10 +45,8 @@ type Row<'a> = (&'a str, &'a str, Result<&'a str, &'a str>);
 /// Erases the source of each row.
 fn check(rows: &[Row]) {
     for (place, source, wanted) in rows {
-        if let Some(found) = erased(place, source) {
-            let wanted = wanted.map(String::from);
-            assert_eq!(found, wanted.map_err(|why| format!("erase: {why}")), "{source}");
-        }
+        let wanted = wanted.map(String::from).map_err(|why| format!("erase: {why}"));
+        assert_eq!(erased(place, source), wanted, "{source}");
     }
 }
 

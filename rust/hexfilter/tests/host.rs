@@ -62,7 +62,7 @@ fn files() {
 /// Each stream is open, but only for the other direction.
 #[test]
 fn streams_of_the_wrong_direction() {
-    let path = temp_dir().join("hexfilter stream");
+    let path = temp_dir().join(format!("hexfilter stream {}", std::process::id()));
     let written = File::create(&path).unwrap();
     let read = File::open(&path).unwrap();
     let no_input = run(hexfilter(&[]).stdin(written), b"");
