@@ -23,11 +23,10 @@ ghost use Rattle.hexfilter_core.specs.declared.place.Place.{Place};
 use crate::error::RunError;
 use crate::mode::{Groups, Mode, Reading};
 use crate::options::{Request, UsageError, request_of};
-use crate::process::{OutputFile, program};
+use crate::process::{Host, program};
 use crate::runs::run;
-use std::io::{Eprint, Read, Write};
+use std::io::{Read, Write};
 use std::process::ExitCode;
-use std::rt::Files;
 
 const PLAIN: Groups = Groups {
     size: 0,
@@ -192,8 +191,7 @@ fn mirror(groups: Groups) -> Reading
 
 /// Runs the program with `--decode` alone.
 fn decode_standard_input<R: Read, W: Write>(
-    rt: &(impl Files + Eprint),
-    host: &impl OutputFile,
+    host: &impl Host,
     arguments: &[String],
     input: &mut R,
     output: &mut W,
@@ -209,13 +207,12 @@ fn decode_standard_input<R: Read, W: Write>(
         × Spells (take (2 * length y) (body_of x)) y × Appends (W.contents output.old) (W.contents output.new) y }
     ensures statuses { (exit_status result ≡ 0) ⊎ (exit_status result ≡ 1) ⊎ (exit_status result ≡ 3) }
 {
-    program(rt, host, arguments, input, output)
+    program(host, arguments, input, output)
 }
 
 /// Runs the program with `--version` alone.
 fn print_version<R: Read, W: Write>(
-    rt: &(impl Files + Eprint),
-    host: &impl OutputFile,
+    host: &impl Host,
     arguments: &[String],
     input: &mut R,
     output: &mut W,
@@ -227,7 +224,7 @@ fn print_version<R: Read, W: Write>(
         × Appends (W.contents output.old) (W.contents output.new) (take n (codes "hexfilter 1.0.0" ++ 10 ∷ [])) }
     ensures statuses { (exit_status result ≡ 0) ⊎ (exit_status result ≡ 3) }
 {
-    program(rt, host, arguments, input, output)
+    program(host, arguments, input, output)
 }
 
 /// What arguments ask for that decode groups with colons.
