@@ -120,39 +120,6 @@ fn other_tools() {
     }
 }
 
-/// What is encoded by the first options is decoded by the others.
-#[test]
-fn own_output() {
-    let folder = Folder::new("own output");
-    let rows = [
-        "|",
-        "-w1|-i",
-        "-w3|-i",
-        "-w0|-i",
-        "-g1|-g1",
-        "-g2|-g2",
-        "-s:|-s:",
-        "-g3 -s-|-g3 -s-",
-        "-g0 -s:|-g0 -s:",
-        "-g2 -sx|-g2 -sx",
-        "-g1 -s'\t'|-g1 -s'\t'",
-    ];
-    for (write, read) in rows.map(|row| row.split_once('|').unwrap()) {
-        for size in 0..7 {
-            let bytes = &b"\x6b\0\xff\x0a\x20\x3a"[..size];
-            fs::write(folder.0.join("own"), bytes).unwrap();
-            let line = format!("hexfilter own {write} | hexfilter -d {read}");
-            for options in ["", "-u", "-p", "-pu"] {
-                assert_eq!(
-                    folder.made_by(&line.replace("own", &format!("own {options}"))),
-                    bytes,
-                    "{line} {options}"
-                );
-            }
-        }
-    }
-}
-
 /// A text, which `printf` writes to standard input, the options, the exit status, standard output, and what an error
 /// says after `hexfilter: standard input: `.
 #[rustfmt::skip]

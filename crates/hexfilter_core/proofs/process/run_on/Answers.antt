@@ -1,4 +1,4 @@
-use Rattle.std.proofs.Common.{◌≡◌, ◌∙◌, ◌∷◌, List, ℕ, Some, Option, Bool, true, false, refl, sym, ap, is_ok}
+use Rattle.std.proofs.Common.{◌≡◌, ◌∙◌, List, ℕ, Some, Option, true, false, refl, sym, ap}
 use Rattle.std.specs.Borrow.{Bor}
 use Rattle.hexfilter_core.specs.Programs.{bytes_of}
 use Rattle.hexfilter_core.proofs.lemmas.Statuses.{ends}
