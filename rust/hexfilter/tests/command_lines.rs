@@ -181,11 +181,13 @@ const ARGUMENTS: [(&str, usize, &str); 8] = [
 /// A line, its exit status, standard output, and what an error says after `hexfilter: `. The lines run one after
 /// another in one folder.
 #[rustfmt::skip]
-const LINES: [(&str, i32, &str, &str); 28] = [
+const LINES: [(&str, i32, &str, &str); 29] = [
     ("hexfilter -dVh | head -n 1", 0, "Usage: hexfilter [OPTION]... [FILE]\n", ""),
     ("hexfilter --version file", 0, "hexfilter 1.0.0\n", ""),
     ("hexfilter $'--a\\n\\x1b[1m'", 2, "", "unknown option \"--a\\n\\u{1b}[1m\"; try --help"),
     ("hexfilter -dg2 $'-s\\n'", 2, "", "invalid separator \"-s\\n\"; try --help"),
+    // As the page warns.
+    ("printf '\\2\\1\\4\\3' | od -An -tx2 | hexfilter -di", 0, "\x01\x02\x03\x04", ""),
     // Files.
     ("printf kiwi > ./-d; hexfilter -- -d", 0, "6b697769", ""),
     ("hexfilter -u -p -- -d", 0, "0x6B697769", ""),

@@ -17,7 +17,9 @@ Usage: hexfilter [OPTION]... [FILE]
 Writes FILE as hexadecimal text, or decodes such a text. Without FILE, or if FILE
 is -, reads standard input. Writes to standard output.
 
-  -d, --decode             decode the text
+  -d, --decode             decode the text, which has to be digits alone: offsets
+                           and words in host order, as od and hexdump print
+                           them by default, decode to other bytes
       --check              only test whether the text can be decoded
   -i, --ignore-whitespace  leave out spaces, tabs and ends of lines before the
                            text is decoded
