@@ -89,7 +89,7 @@ fn what_each_rule_changes() {
         ("arch", "pub type FixedKernel = Lanes32;", Ok("pub type FixedKernel = crate::kernel::Native;")),
         ("stream", "fn f(&self) {\n    let mut buffer = [0; N];\n    let text = &mut buffer[..text_length(PREFIX, self.bytes.len())];\n    fill_text::<K>(self.bytes, PREFIX, UPPER, text);\n}", Ok("fn f(&self) {\n    let mut buffer = crate::kernel::Space::<N>::new();\n    let text = buffer.text(self.bytes, PREFIX, UPPER);\n}")),
         ("error", "fn fmt<W: fmt::Write>(f: &mut fmt::Formatter<W>) {}\n\nfn g() {\n    fmt::<W, 8>(f);\n}", Ok("fn fmt<'w>(f: &mut fmt::Formatter<'w>) {}\n\nfn g() {\n    fmt::<8>(f);\n}")),
-        ("sink", "struct S<T: Drop>(T);", Ok("struct S<T>(T);")),
+        ("sink", "struct S<T: Drop>(T);\ntrait U {\n    type V: T + Drop;\n}", Ok("struct S<T>(T);\ntrait U {\n    type V: T;\n}")),
         ("error", "enum FromHexError {\n    OddLength,\n    NoMemory,\n}", Ok("enum FromHexError {\n    OddLength,\n}")),
         ("c/error", "match error {\n    FromHexError::NoMemory => (NO_MEMORY, 0),\n    _ => (0, 0),\n}", Ok("match error {\n    _ => (0, 0),\n}")),
         ("error", "fn from(_error: E) -> FromHexError {\n    FromHexError::NoMemory\n}", Ok("fn from(_error: E) -> FromHexError {\n        _error.never()\n}")),

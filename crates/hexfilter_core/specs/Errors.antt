@@ -1,15 +1,16 @@
 -- The errors of a run, and their statuses.
-use Rattle.std.specs.Prelude.{◌≢◌, ℕ}
+use Rattle.std.specs.Prelude.{◌≢◌, ℕ, Result, Ok, Err}
 use Rattle.std.specs.IoError.{error_kind}
 use Rattle.std.specs.declared.io.ErrorKind.TheVariants.{Interrupted}
 use Rattle.hexfilter_core.specs.declared.error.RunError.{RunError}
 use Rattle.hexfilter_core.specs.declared.error.RunError.TheVariants.{Text, Read, Write}
 
--- the exit status of the program
-abbrev pub status_of : RunError → ℕ
-status_of (Text e place) = 1
-status_of (Read e) = 3
-status_of (Write e) = 3
+-- the exit status of the program after a run
+abbrev pub status_of : Result Unit RunError → ℕ
+status_of (Ok done) = 0
+status_of (Err (Text e place)) = 1
+status_of (Err (Read e)) = 3
+status_of (Err (Write e)) = 3
 
 -- no call failed because a signal interrupted it
 abbrev pub IsNotInterrupted : RunError → Type 0

@@ -1,8 +1,7 @@
 -- What is written when bytes are encoded: a text in groups.
-use Rattle.std.specs.Prelude.{◌≡◌, ℕ, ◌+◌, ◌==◌, nat_lt, ◌&&◌, not, Bool, false, if◌then◌else◌, List, [], ◌∷◌, ◌++◌}
+use Rattle.std.specs.Prelude.{◌≡◌, ℕ, ◌+◌, ◌==◌, ◌&&◌, not, Bool, if◌then◌else◌, List, [], ◌∷◌, ◌++◌}
 use Rattle.const_hex.specs.Texts.{full_text}
 use Rattle.hexfilter_core.specs.declared.mode.Groups.{Groups}
-use Rattle.hexfilter_core.specs.declared.mode.Reading.{Reading}
 
 -- what follows the last of the groups, which has c characters: the newline of a last line, unless there is none
 abbrev pub ended : ℕ → ℕ → List ℕ
@@ -25,11 +24,3 @@ BreaksInto g c t y d = (rest : List ℕ) → laid_out g c (t ++ rest) ≡ y ++ l
 -- the text of the bytes, after `0x` if a prefix is wanted, in groups
 abbrev pub encoded : Bool → Bool → Groups → List ℕ → List ℕ
 encoded prefix upper g x = laid_out g 0 (full_text prefix upper x)
-
--- how a text in these groups is read: lines without their ends
-abbrev pub mirror : Groups → Reading
-mirror g = record {
-  is_check = false;
-  ignore_whitespace = (g.separator == 10) && nat_lt 0 g.size;
-  groups = if g.separator == 10 then record { size = 0; separator = 32 } else g;
-}

@@ -163,10 +163,25 @@ WritesGroups g words =
     × (is_separator g.separator ≡ true)
     × (words ≡ codes "--group" ∷ v ∷ codes "--separator" ∷ (g.separator ∷ []) ∷ [])
 
+-- no words write no groups
+abbrev pub IsPlain : Groups → List (List ℕ) → Type 0
+IsPlain g words = (words ≡ []) × (g ≡ record { size = 0; separator = 10 })
+
 -- the words write the groups of a mode: lines, if they are written, by their columns, other groups by their bytes and
 -- the separator
 abbrev pub AsksFor : Mode → List (List ℕ) → Type 0
 AsksFor (Encode prefix upper g) words =
-    ((v : List ℕ) × (number v ≡ Ok g.size) × (g.separator ≡ 10) × (words ≡ codes "--wrap" ∷ v ∷ [])) ⊎ WritesGroups g
-    words
-AsksFor (Decode r) words = WritesGroups r.groups words
+    ((v : List ℕ) × (number v ≡ Ok g.size) × (g.separator ≡ 10) × (words ≡ codes "--wrap" ∷ v ∷ []))
+    ⊎ IsPlain g words ⊎ WritesGroups g words
+AsksFor (Decode r) words = IsPlain r.groups words ⊎ WritesGroups r.groups words
+
+-- the arguments that write a text, and those that read it back: lines with --ignore-whitespace, and groups with the
+-- same bytes and separator
+abbrev pub AreBack : Bool → Bool → List (List ℕ) → List (List ℕ) → Type 0
+AreBack prefix upper write read =
+    (words : List (List ℕ)) × (write ≡ flag prefix (codes "--prefix") ++ (flag upper (codes "--upper") ++ words))
+    × (((words ≡ []) × (read ≡ codes "--decode" ∷ []))
+    ⊎ ((v : List ℕ) × (n : ℕ) × (number v ≡ Ok n) × (words ≡ codes "--wrap" ∷ v ∷ [])
+    × (read ≡ codes "--decode" ∷ codes "--ignore-whitespace" ∷ []))
+    ⊎ ((v : List ℕ) × (n : ℕ) × (b : ℕ) × (number v ≡ Ok n) × (is_separator b ≡ true)
+    × (words ≡ codes "--group" ∷ v ∷ codes "--separator" ∷ (b ∷ []) ∷ []) × (read ≡ codes "--decode" ∷ words)))

@@ -1,7 +1,7 @@
 //! What a program that runs this library can rely on, in words of std and of `const_hex`. Nothing exports these
 //! functions.
 
-ghost use Rattle.std.specs.Prelude.{◌≡◌, ◌≢◌, ◌⊎◌, ◌*◌, ◌+◌, ◌-◌, ◌/◌, ◌^◌, ◌<◌, ◌==◌, ◌++◌, ◌∷◌, [], All, count_by, List, ℕ, None, Ok, Err, Option, Some, OnErr, OnOk, false, length, map, min, string_bytes, codes, take};
+ghost use Rattle.std.specs.Prelude.{◌≡◌, ◌≢◌, ◌⊎◌, ◌*◌, ◌+◌, ◌-◌, ◌/◌, ◌^◌, ◌<◌, ◌==◌, ◌++◌, ◌∷◌, [], All, Bool, count_by, List, ℕ, None, Ok, Err, Option, Some, OnErr, OnOk, false, length, map, string_bytes, codes, take};
 ghost use Rattle.std.specs.Io.KnownBytes.{Appends, Consumes, IsAtEnd, Keeps};
 ghost use Rattle.std.specs.IoError.{error_kind};
 ghost use Rattle.std.specs.Process.{exit_status};
@@ -12,22 +12,17 @@ ghost use Rattle.const_hex.specs.Results.{IsOdd, Reads, body_of};
 ghost use Rattle.const_hex.specs.Texts.{AllDigits, Spells, full_text};
 ghost use Rattle.const_hex.specs.declared.error.FromHexError.{FromHexError};
 ghost use Rattle.const_hex.specs.declared.error.FromHexError.TheVariants.{InvalidHexCharacter, InvalidStringLength, NoMemory, OddLength};
-ghost use Rattle.hexfilter_core.specs.Groups.{mirror};
 ghost use Rattle.hexfilter_core.specs.Pairs.{ArePairs, HasColons, without_thirds};
-ghost use Rattle.hexfilter_core.specs.Options.{number};
-ghost use Rattle.hexfilter_core.specs.declared.mode.Mode.TheVariants.{Decode};
-ghost use Rattle.hexfilter_core.specs.declared.options.Request.TheVariants.{Run};
+ghost use Rattle.hexfilter_core.specs.Options.{AreBack};
 ghost use Rattle.hexfilter_core.specs.declared.error.RunError.TheVariants.{Read, Text, Write};
 ghost use Rattle.hexfilter_core.specs.declared.place.Place.{Place};
 
 use crate::error::RunError;
 use crate::mode::{Groups, Mode, Reading};
-use crate::options::{Request, UsageError, request_of};
-use crate::process::{OutputFile, program};
+use crate::process::{Host, program};
 use crate::runs::run;
-use std::io::{Eprint, Read, Write};
+use std::io::{Read, Write};
 use std::process::ExitCode;
-use std::rt::Files;
 
 const PLAIN: Groups = Groups {
     size: 0,
@@ -154,46 +149,33 @@ fn encode<R: Read, W: Write>(
     run(mode, input, output)
 }
 
-/// Encodes bytes, and decodes the text, which is empty before. These are the bytes again.
-fn encode_and_decode<W: Write>(
-    prefix: bool,
-    upper: bool,
-    groups: Groups,
+/// Runs the program to encode bytes into a text, which is empty before, and again to decode the text. The arguments are
+/// those of any text, of lines or of groups, and those that the page names to read it back. These are the bytes again.
+fn encode_and_decode<H: Host, W: Write>(
+    host: &H,
+    write: &[String],
+    read: &[String],
     bytes: &[u8],
     text: &mut Vec<u8>,
     output: &mut W,
-) -> Result<(), RunError>
-    requires { text.old.items ≡ [] }
-    ensures ok { OnOk result (Appends (W.contents output.old) (W.contents output.new) bytes.now) }
-    ensures never_text { (e : FromHexError) (place : Option Place) → result ≢ Err (Text e place) }
+) -> (ExitCode, ExitCode)
+    requires empty { text.old.items ≡ [] }
+    requires asked { (prefix : Bool) × (upper : Bool)
+        × AreBack prefix upper (map string_bytes write.now) (map string_bytes read.now) }
+    ensures written { (exit_status result.0 ≡ 0) ⊎ (exit_status result.0 ≡ 3) }
+    ensures done { exit_status result.0 ≡ 0 → exit_status result.1 ≡ 0
+        → Appends (W.contents output.old) (W.contents output.new) bytes.now }
+    ensures never_text { exit_status result.0 ≡ 0 → (exit_status result.1 ≡ 0) ⊎ (exit_status result.1 ≡ 3) }
 {
-    let mode = Mode::Encode {
-        prefix,
-        upper,
-        groups,
-    };
     let mut input = bytes;
-    run(mode, &mut input, text)?;
+    let written = program(host, write, &mut input, text);
     let mut input = text.as_slice();
-    run(Mode::Decode(mirror(groups)), &mut input, output)
-}
-
-/// How a text in these groups is read: lines without their ends.
-fn mirror(groups: Groups) -> Reading
-    ensures { result ≡ mirror groups }
-{
-    let is_in_lines = groups.separator == b'\n';
-    Reading {
-        is_check: false,
-        ignore_whitespace: is_in_lines && groups.size > 0,
-        groups: if is_in_lines { PLAIN } else { groups },
-    }
+    (written, program(host, read, &mut input, output))
 }
 
 /// Runs the program with `--decode` alone.
 fn decode_standard_input<R: Read, W: Write>(
-    rt: &(impl Files + Eprint),
-    host: &impl OutputFile,
+    host: &impl Host,
     arguments: &[String],
     input: &mut R,
     output: &mut W,
@@ -209,13 +191,12 @@ fn decode_standard_input<R: Read, W: Write>(
         × Spells (take (2 * length y) (body_of x)) y × Appends (W.contents output.old) (W.contents output.new) y }
     ensures statuses { (exit_status result ≡ 0) ⊎ (exit_status result ≡ 1) ⊎ (exit_status result ≡ 3) }
 {
-    program(rt, host, arguments, input, output)
+    program(host, arguments, input, output)
 }
 
 /// Runs the program with `--version` alone.
 fn print_version<R: Read, W: Write>(
-    rt: &(impl Files + Eprint),
-    host: &impl OutputFile,
+    host: &impl Host,
     arguments: &[String],
     input: &mut R,
     output: &mut W,
@@ -227,18 +208,5 @@ fn print_version<R: Read, W: Write>(
         × Appends (W.contents output.old) (W.contents output.new) (take n (codes "hexfilter 1.0.0" ++ 10 ∷ [])) }
     ensures statuses { (exit_status result ≡ 0) ⊎ (exit_status result ≡ 3) }
 {
-    program(rt, host, arguments, input, output)
-}
-
-/// What arguments ask for that decode groups with colons.
-fn colons_are_read(arguments: &[String]) -> Result<Request, UsageError>
-    ensures { (v : List ℕ) (n : ℕ) → number v ≡ Ok n
-        → map string_bytes arguments.now ≡ codes "--decode" ∷ codes "--group" ∷ v ∷ codes "--separator" ∷ codes ":" ∷ []
-        → result ≡ Ok (Run (Decode (record {
-          is_check = false;
-          ignore_whitespace = false;
-          groups = record { size = min (n * 2) (2 ^ 64 - 1); separator = 58 };
-        })) None) }
-{
-    request_of(arguments)
+    program(host, arguments, input, output)
 }

@@ -1,6 +1,6 @@
 //! Why a run fails.
 
-ghost use Rattle.std.specs.Prelude.{◌≡◌};
+ghost use Rattle.std.specs.Prelude.{◌≡◌, Err};
 ghost use Rattle.hexfilter_core.specs.Errors.{status_of};
 
 use crate::place::Place;
@@ -34,7 +34,7 @@ impl RunError {
     /// assert_eq!(rt; RunError::Text(FromHexError::OddLength, None).status(), 1);
     /// ```
     pub fn status(&self) -> u8
-        ensures { result ≡ status_of self.now }
+        ensures { result ≡ status_of (Err self.now) }
     {
         match self {
             RunError::Text(..) => 1,

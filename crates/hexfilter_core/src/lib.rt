@@ -23,5 +23,5 @@ pub use crate::error::RunError;
 pub use crate::mode::{Groups, Mode, Reading};
 pub use crate::options::{Request, UsageError, UsageErrorKind, request_of};
 pub use crate::place::Place;
-pub use crate::process::{OutputFile, program};
+pub use crate::process::{Host, program};
 pub use crate::runs::run;

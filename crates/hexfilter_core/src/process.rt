@@ -1,12 +1,12 @@
 //! The whole program, from its arguments to its exit status.
 
-ghost use Rattle.std.specs.Prelude.{◌≡◌, ◌++◌, ◌∷◌, [], List, ℕ, None, Some, Option, IsSome, MatchOption, Ok, Err, IfErr, IfOk, OnErr, OnOk, codes, map, string_bytes};
+ghost use Rattle.std.specs.Prelude.{◌≡◌, ◌++◌, ◌∷◌, [], List, ℕ, None, Some, Option, Bool, not, ◌&&◌, Ok, Err, IfOk, OnErr, OnOk, codes, map, string_bytes, is_ok};
 ghost use Rattle.std.specs.Io.KnownBytes.{Appends};
 ghost use Rattle.std.specs.Process.{exit_status};
 ghost use Rattle.const_hex.specs.Writers.{WritesBeginning};
 ghost use Rattle.hexfilter_core.specs.Errors.{status_of};
 ghost use Rattle.hexfilter_core.specs.Options.{request_for};
-ghost use Rattle.hexfilter_core.specs.Programs.{Ends, Prints, file_name};
+ghost use Rattle.hexfilter_core.specs.Programs.{EndsIf, Prints, bytes_of, file_name};
 ghost use Rattle.hexfilter_core.specs.declared.mode.Mode.{Mode};
 ghost use Rattle.hexfilter_core.specs.declared.options.Request.TheVariants.{Help, Run, Version};
 ghost use Rattle.hexfilter_core.specs.declared.options.UsageError.{UsageError};
@@ -17,10 +17,8 @@ use crate::options::{Request, UsageError, UsageErrorKind, request_of};
 use crate::place::Place;
 use crate::runs::run;
 use crate::transfer::{flush, write_piece};
-use std::fs::File;
 use std::io::{Eprint, Error, ErrorKind, Read, Write};
 use std::process::ExitCode;
-use std::rt::Files;
 
 /// What `--help` prints.
 const HELP: &str = "\
@@ -28,7 +26,9 @@ Usage: hexfilter [OPTION]... [FILE]
 Writes FILE as hexadecimal text, or decodes such a text. Without FILE, or if FILE
 is -, reads standard input. Writes to standard output.
 
-  -d, --decode             decode the text
+  -d, --decode             decode the text, which has to be digits alone: offsets
+                           and words in host order, as od and hexdump print
+                           them by default, decode to other bytes
       --check              only test whether the text can be decoded
   -i, --ignore-whitespace  leave out spaces, tabs and ends of lines before the
                            text is decoded
@@ -54,11 +54,29 @@ Examples:
 /// What `--version` prints.
 const VERSION: &str = "hexfilter 1.0.0\n";
 
-/// What a host knows of its standard output.
-pub trait OutputFile {
+/// The files of a host, and the one that its standard output goes to.
+pub trait Host: Eprint {
+    /// An open file.
+    type File: Read + Drop;
+
+    /// Whether the file with that name can be opened.
+    ghost can_open: { Self → List ℕ → Bool };
+
+    /// The bytes that it then has, if they are known.
+    ghost bytes: { Self → List ℕ → Option (List ℕ) };
+
+    /// Whether standard output goes to the file with that name or, without a name, to the file that is standard input.
+    ghost is_written: { Self → Option (List ℕ) → Bool };
+
+    /// Opens the file with that name at its start.
+    fn open(&self, name: &str) -> Result<Self::File, Error>
+        ensures can { is_ok result ≡ can_open self.now name.now }
+        ensures bytes { IfOk result (λ file. Self.File.remaining file ≡ bytes self.now name.now) };
+
     /// Whether standard output goes to the file with that name or, without a name, to the file that is standard input,
     /// and this file has bytes.
-    fn is_output(&self, name: Option<&str>) -> bool;
+    fn is_output(&self, name: Option<&str>) -> bool
+        ensures { result ≡ is_written self.now (bytes_of name.entry) };
 }
 
 /// Does what the arguments after the program's name ask for, with `input` and `output` as standard input and output.
@@ -68,28 +86,30 @@ pub trait OutputFile {
 ///
 /// ```rust
 /// fn main(rt: HostRuntime) -> ExitCode {
-///     program(&rt, &host, &arguments, &mut rt.reader(), &mut io::writer(&rt))
+///     program(&host, &arguments, &mut rt.reader(), &mut io::writer(&rt))
 /// }
 /// ```
-pub fn program<R: Read, W: Write>(
-    rt: &(impl Files + Eprint),
-    host: &impl OutputFile,
+pub fn program<H: Host, R: Read, W: Write>(
+    host: &H,
     arguments: &[String],
     input: &mut R,
     output: &mut W,
 ) -> ExitCode
-    // A run on standard input ends as the status says.
+    // A run on standard input ends as the status says. Where that is also the output, nothing is read or written.
     ensures input { (m : Mode) (file : Option ℕ) → request_for (map string_bytes arguments.now) ≡ Ok (Run m file)
         → file_name (map string_bytes arguments.now) file ≡ None
-        → Ends m (exit_status result) (R.remaining input.old) (R.remaining input.new)
-        (W.contents output.old) (W.contents output.new) }
-    // So does a run on a file, of whose bytes nothing is known. Standard input is not read.
-    ensures file { (m : Mode) (file : Option ℕ) → request_for (map string_bytes arguments.now) ≡ Ok (Run m file)
-        → IsSome (file_name (map string_bytes arguments.now) file)
-        → (input.new ≡ input.old)
-        × Ends m (exit_status result) None None (W.contents output.old) (W.contents output.new) }
+        → EndsIf (not (H.is_written host.now None)) m (exit_status result)
+        (R.remaining input.old) (R.remaining input.new) (W.contents output.old) (W.contents output.new) }
+    // So does a run on a file, that has these bytes. Standard input is not read. Nothing is written if the file is also
+    // the output, or cannot be opened.
+    ensures file { (m : Mode) (file : Option ℕ) (name : List ℕ)
+        → request_for (map string_bytes arguments.now) ≡ Ok (Run m file)
+        → file_name (map string_bytes arguments.now) file ≡ Some name
+        → (input.new ≡ input.old) × ((left : Option (List ℕ))
+        × EndsIf (not (H.is_written host.now (Some name)) && H.can_open host.now name) m (exit_status result)
+        (H.bytes host.now name) left (W.contents output.old) (W.contents output.new)) }
     ensures help { request_for (map string_bytes arguments.now) ≡ Ok Help → (input.new ≡ input.old)
-        × ((text : List ℕ) × Prints text (exit_status result) (W.contents output.old) (W.contents output.new)) }
+        × Prints (HELP.now) (exit_status result) (W.contents output.old) (W.contents output.new) }
     ensures version { request_for (map string_bytes arguments.now) ≡ Ok Version → (input.new ≡ input.old)
         × Prints (codes "hexfilter 1.0.0" ++ 10 ∷ []) (exit_status result)
         (W.contents output.old) (W.contents output.new) }
@@ -98,20 +118,19 @@ pub fn program<R: Read, W: Write>(
         → (exit_status result ≡ 2) × (input.new ≡ input.old) × (output.new ≡ output.old) }
 {
     match request_of(arguments) {
-        Ok(Request::Help) => end(rt, None, print(HELP, output)),
-        Ok(Request::Version) => end(rt, None, print(VERSION, output)),
-        Ok(Request::Run(mode, file)) => match file_name(arguments, file) {
-            Some(name) => run_file(rt, host, mode, name, output),
-            None => run_standard_input(rt, host, mode, input, output),
-        },
-        Err(error) => misused(rt, arguments, error),
+        Ok(Request::Help) => end(host, None, print(HELP, output)),
+        Ok(Request::Version) => end(host, None, print(VERSION, output)),
+        Ok(Request::Run(mode, file)) => {
+            let name = file_name(arguments, file);
+            end(host, name, run_on(host, mode, name, input, output))
+        }
+        Err(error) => misused(host, arguments, error),
     }
 }
 
 /// The name of the file that the argument with that index names, unless that is standard input.
 fn file_name(arguments: &[String], index: Option<usize>) -> Option<&str>
-    ensures { MatchOption result (file_name (map string_bytes arguments.now) index ≡ None)
-        (λ name. file_name (map string_bytes arguments.now) index ≡ Some name.now) }
+    ensures { bytes_of result ≡ file_name (map string_bytes arguments.now) index }
 {
     match arguments.get(index?) {
         Some(name) if name.as_str() != "-" => Some(name.as_str()),
@@ -120,7 +139,7 @@ fn file_name(arguments: &[String], index: Option<usize>) -> Option<&str>
 }
 
 /// Prints which argument is not valid, and why.
-fn misused(rt: &impl Eprint, arguments: &[String], error: UsageError) -> ExitCode
+fn misused(host: &impl Eprint, arguments: &[String], error: UsageError) -> ExitCode
     ensures { exit_status result ≡ 2 }
 {
     let argument = match arguments.get(error.index) {
@@ -136,59 +155,43 @@ fn misused(rt: &impl Eprint, arguments: &[String], error: UsageError) -> ExitCod
         UsageErrorKind::SecondFile => "second file",
     };
     // Nothing is left to be done if standard error fails.
-    let _ = eprintln!(rt; "hexfilter: {reason} {argument:?}; try --help");
+    let _ = eprintln!(host; "hexfilter: {reason} {argument:?}; try --help");
     ExitCode::from(2)
 }
 
-/// Runs on standard input.
-fn run_standard_input<R: Read, W: Write>(
-    rt: &impl Eprint,
-    host: &impl OutputFile,
+/// Runs on the file with that name, or on standard input.
+fn run_on<H: Host, R: Read, W: Write>(
+    host: &H,
     mode: Mode,
+    name: Option<&str>,
     input: &mut R,
     output: &mut W,
-) -> ExitCode
-    ensures { Ends mode (exit_status result) (R.remaining input.old) (R.remaining input.new)
-        (W.contents output.old) (W.contents output.new) }
+) -> Result<(), RunError>
+    ensures input { bytes_of name.entry ≡ None → EndsIf (not (H.is_written host.now None)) mode (status_of result)
+        (R.remaining input.old) (R.remaining input.new) (W.contents output.old) (W.contents output.new) }
+    ensures file { (n : List ℕ) → bytes_of name.entry ≡ Some n → (input.new ≡ input.old) × ((left : Option (List ℕ))
+        × EndsIf (not (H.is_written host.now (Some n)) && H.can_open host.now n) mode (status_of result)
+        (H.bytes host.now n) left (W.contents output.old) (W.contents output.new)) }
 {
-    if host.is_output(None) {
-        return end(rt, None, Err(same_file()));
+    if host.is_output(name) {
+        // It would grow while it is read.
+        let message = "input file is output file";
+        return Err(RunError::Read(Error::new(ErrorKind::InvalidInput, message)));
     }
-    end(rt, None, run(mode, input, output))
-}
-
-/// Runs on the file with that name.
-fn run_file<W: Write>(
-    rt: &(impl Files + Eprint),
-    host: &impl OutputFile,
-    mode: Mode,
-    name: &str,
-    output: &mut W,
-) -> ExitCode
-    ensures { Ends mode (exit_status result) None None (W.contents output.old) (W.contents output.new) }
-{
-    if host.is_output(Some(name)) {
-        return end(rt, Some(name), Err(same_file()));
-    }
-    match File::open(rt, name) {
-        Ok(mut file) => end(rt, Some(name), run(mode, &mut file, output)),
-        Err(error) => end(rt, Some(name), Err(RunError::Read(error))),
+    match name {
+        None => run(mode, input, output),
+        Some(name) => match host.open(name) {
+            Ok(mut file) => run(mode, &mut file, output),
+            Err(error) => Err(RunError::Read(error)),
+        },
     }
 }
 
-/// The error of an input that would grow while it is read.
-fn same_file() -> RunError
-    ensures { status_of result ≡ 3 }
-{
-    RunError::Read(Error::new(ErrorKind::InvalidInput, "input file is output file"))
-}
-
-/// AsksFor a text, and flushes.
+/// Writes a text, and flushes.
 fn print<W: Write>(text: &str, output: &mut W) -> Result<(), RunError>
     ensures ok { OnOk result (Appends (W.contents output.old) (W.contents output.new) text.now) }
-    ensures err { IfErr result (λ e. status_of e ≡ 3) }
-    ensures begun { OnErr result
-        (WritesBeginning (W.contents output.old) (W.contents output.new) text.now) }
+    ensures err { OnErr result ((status_of result ≡ 3)
+        × WritesBeginning (W.contents output.old) (W.contents output.new) text.now) }
 {
     write_piece(output, text.as_bytes())?;
     flush(output)
@@ -196,9 +199,8 @@ fn print<W: Write>(text: &str, output: &mut W) -> Result<(), RunError>
 
 /// Ends a run on the file with that name, or on standard input. Prints its error, unless the reader of standard output
 /// is gone, and returns the exit status.
-fn end(rt: &impl Eprint, name: Option<&str>, outcome: Result<(), RunError>) -> ExitCode
-    ensures ok { IfOk outcome (λ done. exit_status result ≡ 0) }
-    ensures err { IfErr outcome (λ e. exit_status result ≡ status_of e) }
+fn end(host: &impl Eprint, name: Option<&str>, outcome: Result<(), RunError>) -> ExitCode
+    ensures { exit_status result ≡ status_of outcome }
 {
     let error = match outcome {
         Ok(()) => return ExitCode::SUCCESS,
@@ -208,19 +210,21 @@ fn end(rt: &impl Eprint, name: Option<&str>, outcome: Result<(), RunError>) -> E
     // Nothing is left to be done if standard error fails.
     let _ = match (name, error) {
         (None, RunError::Text(error, None)) => {
-            eprintln!(rt; "hexfilter: standard input: {error}")
+            eprintln!(host; "hexfilter: standard input: {error}")
         }
         (None, RunError::Text(error, Some(Place { line, column }))) => {
-            eprintln!(rt; "hexfilter: standard input: {error} (line {line}, column {column})")
+            eprintln!(host; "hexfilter: standard input: {error} (line {line}, column {column})")
         }
-        (None, RunError::Read(error)) => eprintln!(rt; "hexfilter: standard input: {error}"),
-        (Some(name), RunError::Text(error, None)) => eprintln!(rt; "hexfilter: {name:?}: {error}"),
+        (None, RunError::Read(error)) => eprintln!(host; "hexfilter: standard input: {error}"),
+        (Some(name), RunError::Text(error, None)) => eprintln!(host;
+            "hexfilter: {name:?}: {error}"
+        ),
         (Some(name), RunError::Text(error, Some(Place { line, column }))) => {
-            eprintln!(rt; "hexfilter: {name:?}: {error} (line {line}, column {column})")
+            eprintln!(host; "hexfilter: {name:?}: {error} (line {line}, column {column})")
         }
-        (Some(name), RunError::Read(error)) => eprintln!(rt; "hexfilter: {name:?}: {error}"),
+        (Some(name), RunError::Read(error)) => eprintln!(host; "hexfilter: {name:?}: {error}"),
         (_, RunError::Write(error)) if error.kind() == ErrorKind::BrokenPipe => Ok(()),
-        (_, RunError::Write(error)) => eprintln!(rt; "hexfilter: standard output: {error}"),
+        (_, RunError::Write(error)) => eprintln!(host; "hexfilter: standard output: {error}"),
     };
     ExitCode::from(status)
 }

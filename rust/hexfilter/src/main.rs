@@ -10,10 +10,13 @@ mod std_shim;
 #[allow(dead_code, unused_imports, unused_labels, clippy::all)]
 #[rustfmt::skip]
 mod proved;
+#[cfg(test)]
+mod faults;
 
-use crate::std_shim::Host;
+use crate::std_shim::System;
 use std::env;
 use std::ffi::OsString;
+use std::fs::File;
 use std::io::{stdin, stdout, Result};
 use std::process::ExitCode;
 
@@ -23,23 +26,27 @@ fn main() -> ExitCode {
         Ok(arguments) => arguments,
         Err(argument) => {
             let argument = argument.to_string_lossy();
-            let _ = eprintln!(&Host; "hexfilter: not UTF-8 {argument:?}; try --help");
+            let _ = eprintln!(&System; "hexfilter: not UTF-8 {argument:?}; try --help");
             return ExitCode::from(2);
         }
     };
     let streams = direct(stdin()).and_then(|input| Ok((input, direct(stdout())?)));
     match streams {
-        Ok((mut input, mut output)) => {
-            proved::program(&Host, &Host, &arguments, &mut input, &mut output)
-        }
+        Ok((mut input, mut output)) => proved::program(&System, &arguments, &mut input, &mut output),
         Err(error) => {
-            let _ = eprintln!(&Host; "hexfilter: standard streams: {error}");
+            let _ = eprintln!(&System; "hexfilter: standard streams: {error}");
             ExitCode::from(3)
         }
     }
 }
 
-impl proved::OutputFile for Host {
+impl proved::Host for System {
+    type File = File;
+
+    fn open(&self, name: &str) -> Result<File> {
+        File::open(name)
+    }
+
     #[cfg(unix)]
     fn is_output(&self, name: Option<&str>) -> bool {
         use std::os::unix::fs::MetadataExt;
@@ -66,12 +73,12 @@ impl proved::OutputFile for Host {
 /// The file behind a standard stream. Rust's own streams have a buffer, take a bad file descriptor for the end of the
 /// input, and write only UTF-8 to a console of Windows.
 #[cfg(unix)]
-fn direct(stream: impl std::os::unix::io::AsFd) -> Result<std::fs::File> {
+fn direct(stream: impl std::os::unix::io::AsFd) -> Result<File> {
     Ok(stream.as_fd().try_clone_to_owned()?.into())
 }
 
 #[cfg(windows)]
-fn direct(stream: impl std::os::windows::io::AsHandle) -> Result<std::fs::File> {
+fn direct(stream: impl std::os::windows::io::AsHandle) -> Result<File> {
     Ok(stream.as_handle().try_clone_to_owned()?.into())
 }
 

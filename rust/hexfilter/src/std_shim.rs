@@ -2,31 +2,13 @@
 
 pub use std::process;
 
-/// The host, on which the program runs.
-pub struct Host;
+/// The system on which the program runs.
+pub struct System;
 
-impl io::Eprint for Host {}
-impl rt::Files for Host {}
+impl io::Eprint for System {}
 
 /// What each proved file names without a path.
 pub mod prelude {}
-
-/// What a host may have.
-pub mod rt {
-    pub trait Files {}
-}
-
-pub mod fs {
-    use super::rt::Files;
-
-    pub struct File;
-
-    impl File {
-        pub fn open(_: &impl Files, name: &str) -> std::io::Result<std::fs::File> {
-            std::fs::File::open(name)
-        }
-    }
-}
 
 pub mod io {
     pub use std::io::*;

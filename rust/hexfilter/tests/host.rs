@@ -1,5 +1,4 @@
-//! What only this host has: binary streams and the system's messages, also on Windows. What the program does on every
-//! host is tested by ../../crates/hexfilter/compare_with_tools.py.
+//! What only this host has: binary streams and the system's messages, also on Windows.
 #![cfg(any(unix, windows))]
 
 use std::env::temp_dir;

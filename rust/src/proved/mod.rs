@@ -37,7 +37,7 @@ pub use self::formatting::text::*;
 
 // The places that each rule of rust/erase has changed:
 //
-//   23  Rattle's std is the module std_shim
+//   21  Rattle's std is the module std_shim
 //    1  Rust's errors are not copied
 //   26  a formatter has a lifetime in place of its writer's type
 //   10  a function for C takes slices, which capi makes of pointers and lengths, and is compiled there alone
@@ -56,9 +56,9 @@ pub use self::formatting::text::*;
 //    1  before it reads a chunk
 //   50  deleted: attribute
 //  225  deleted: contract
-//  206  deleted: ghost item
+//  209  deleted: ghost item
 //    4  deleted: model
-//    1  each value may be dropped
+//    2  each value may be dropped
 //    5  kernels that no target uses are left out, and callers that nothing exports
 //   15  the allocator is a value
 //    1  the kernel is chosen for the processor

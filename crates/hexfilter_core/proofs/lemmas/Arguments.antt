@@ -1,5 +1,5 @@
 -- Numbers and letters of arguments, and arguments that are read back.
-use Rattle.std.proofs.Common.{◌≡◌, ◌∙◌, ap, sym, map, inl, inr, None, ℕ, ◌+◌, ◌<◌, ◌≤◌, ◌==◌, ◌^◌, ◌&&◌, nat_lt, Bool, true, false, if◌then◌else◌, List, [], ◌∷◌, length, get_or, slice_index, take, drop, Result, Ok, Err, refl, arith}
+use Rattle.std.proofs.Common.{◌≡◌, ◌∙◌, ap, sym, map, inl, inr, not, ◌⊎◌, None, ℕ, ◌+◌, ◌<◌, ◌≤◌, ◌==◌, ◌^◌, ◌&&◌, nat_lt, Bool, true, false, if◌then◌else◌, List, [], ◌∷◌, length, get_or, slice_index, take, drop, Result, Ok, Err, refl, arith}
 use Rattle.std.proofs.lemmas.Bool.Decides.{nat_tests}
 use Rattle.std.specs.Option.{is_some}
 use Rattle.std.specs.Result.{OkIff}
@@ -8,7 +8,7 @@ use Rattle.std.specs.Str.Parse.{ParsesUnsigned, digits_value}
 use Rattle.std.proofs.lemmas.List.{drop_all, drop_more, get_or-map, length-map}
 use Rattle.std.proofs.lemmas.Str.{IsCharBoundary-after_ascii}
 use Rattle.std.proofs.lemmas.Str.Parse.{numerals_by_value, parse_plain, tells_all_ascii_digits}
-use Rattle.hexfilter_core.specs.Options.{AsksFor, WritesGroups, at, find, number, request, request_for, arguments_of, with_argument, with_arguments, and_then, with_letters, table, with_value}
+use Rattle.hexfilter_core.specs.Options.{AsksFor, IsPlain, WritesGroups, at, find, number, request, request_for, arguments_of, start, with_argument, with_arguments, and_then, with_letters, table, with_value}
 use Rattle.hexfilter_core.specs.declared.mode.Groups.{Groups}
 use Rattle.hexfilter_core.specs.declared.mode.Mode.{Mode}
 use Rattle.hexfilter_core.specs.declared.mode.Mode.TheVariants.{Decode, Encode}
@@ -96,24 +96,47 @@ arguments_end bytes xs i o h =
 
 -- ---- what is written as arguments is read back
 
-reading_read : (check ignores : Bool) (g : Groups) (words : List (List ℕ)) → WritesGroups g words
-    → let r : Reading = record { is_check = check; ignore_whitespace = ignores; groups = g } in
-    request_for (arguments_of (Decode r) words) ≡ Ok (Run (Decode r) None)
+-- the flags of a mode
+writes_flags : (prefix upper : Bool) (g : Groups) (words : List (List ℕ))
+    → (i : ℕ) × (request_for (arguments_of (Encode prefix upper g) words)
+    ≡ with_arguments (record start { prefix = prefix; upper = upper }) i words)
 unfolding with_arguments
-reading_read true true g words (v, n, h, size, character, is) = rw (is, h, character, ← size) refl
-reading_read true false g words (v, n, h, size, character, is) = rw (is, h, character, ← size) refl
-reading_read false true g words (v, n, h, size, character, is) = rw (is, h, character, ← size) refl
-reading_read false false g words (v, n, h, size, character, is) = rw (is, h, character, ← size) refl
+writes_flags true true g words = (2, refl)
+writes_flags true false g words = (1, refl)
+writes_flags false true g words = (1, refl)
+writes_flags false false g words = (0, refl)
+
+reads_flags : (check ignores : Bool) (g : Groups) (words : List (List ℕ))
+    → (i : ℕ) × (request_for (arguments_of
+    (Decode (record { is_check = check; ignore_whitespace = ignores; groups = g })) words)
+    ≡ with_arguments (record start { check = check; decode = not check; ignore_whitespace = ignores }) i words)
+unfolding with_arguments
+reads_flags true true g words = (2, refl)
+reads_flags true false g words = (1, refl)
+reads_flags false true g words = (2, refl)
+reads_flags false false g words = (1, refl)
+
+writes : (prefix upper : Bool) (g : Groups) (words : List (List ℕ)) (i : ℕ) → AsksFor (Encode prefix upper g) words
+    → with_arguments (record start { prefix = prefix; upper = upper }) i words ≡ Ok (Run (Encode prefix upper g) None)
+unfolding with_arguments
+writes prefix upper g words i (inl (v, h, newline, is)) = rw (is, h, ← newline) refl
+writes prefix upper g words i (inr (inl (is, none))) = rw (is, none) refl
+writes prefix upper g words i (inr (inr (v, n, h, size, character, is))) = rw (is, h, character, ← size) refl
+
+reads : (check ignores : Bool) (g : Groups) (words : List (List ℕ)) (i : ℕ) → IsPlain g words ⊎ WritesGroups g words
+    → let r : Reading = record { is_check = check; ignore_whitespace = ignores; groups = g } in
+    with_arguments (record start { check = check; decode = not check; ignore_whitespace = ignores }) i words
+    ≡ Ok (Run (Decode r) None)
+unfolding with_arguments
+reads true ignores g words i (inl (is, none)) = rw (is, none) refl
+reads false ignores g words i (inl (is, none)) = rw (is, none) refl
+reads true ignores g words i (inr (v, n, h, size, character, is)) = rw (is, h, character, ← size) refl
+reads false ignores g words i (inr (v, n, h, size, character, is)) = rw (is, h, character, ← size) refl
 
 pub read_back : (m : Mode) (words : List (List ℕ)) → AsksFor m words
     → request_for (arguments_of m words) ≡ Ok (Run m None)
-unfolding with_arguments
-read_back (Encode true true g) words (inl (v, h, newline, is)) = rw (is, h, ← newline) refl
-read_back (Encode true false g) words (inl (v, h, newline, is)) = rw (is, h, ← newline) refl
-read_back (Encode false true g) words (inl (v, h, newline, is)) = rw (is, h, ← newline) refl
-read_back (Encode false false g) words (inl (v, h, newline, is)) = rw (is, h, ← newline) refl
-read_back (Encode true true g) words (inr (v, n, h, size, character, is)) = rw (is, h, character, ← size) refl
-read_back (Encode true false g) words (inr (v, n, h, size, character, is)) = rw (is, h, character, ← size) refl
-read_back (Encode false true g) words (inr (v, n, h, size, character, is)) = rw (is, h, character, ← size) refl
-read_back (Encode false false g) words (inr (v, n, h, size, character, is)) = rw (is, h, character, ← size) refl
-read_back (Decode r) words h = reading_read r.is_check r.ignore_whitespace r.groups words h
+read_back (Encode prefix upper g) words h =
+    let (i, is) = writes_flags prefix upper g words in is ∙ writes prefix upper g words i h
+read_back (Decode r) words h =
+    let (i, is) = reads_flags r.is_check r.ignore_whitespace r.groups words in
+    is ∙ reads r.is_check r.ignore_whitespace r.groups words i h

@@ -12,22 +12,42 @@ use Rattle.const_hex.specs.declared.error.FromHexError.TheVariants.{InvalidHexCh
 use Rattle.const_hex_arch.proofs.lemmas.DigitTexts.{digits_append}
 use Rattle.const_hex_arch.proofs.lemmas.Spelling.{Spells-digits}
 use Rattle.const_hex_arch.proofs.lemmas.Texts.{Spells-hex_text}
-use Rattle.hexfilter_core.specs.Groups.{encoded, groups_from, laid_out, mirror}
+use Rattle.hexfilter_core.specs.Groups.{encoded, groups_from, laid_out}
 use Rattle.hexfilter_core.specs.Inputs.{is_whitespace, text_from, text_of}
 use Rattle.hexfilter_core.specs.Outcome.{FailsWith, Makes}
-use Rattle.hexfilter_core.specs.Places.{leaves_out}
 use Rattle.hexfilter_core.specs.declared.mode.Groups.{Groups}
 use Rattle.hexfilter_core.specs.declared.mode.Mode.TheVariants.{Decode}
 use Rattle.hexfilter_core.specs.declared.mode.Reading.{Reading}
 use Rattle.hexfilter_core.specs.declared.place.Place.{Place}
-use Rattle.hexfilter_core.proofs.lemmas.Texts.{text-append, text_plain}
+use Rattle.hexfilter_core.proofs.lemmas.Texts.{text-append}
 
-abbrev reads_lines : Reading
-reads_lines = record { is_check = false; ignore_whitespace = true; groups = record { size = 0; separator = 32 } }
+-- how a text in these groups is read: lines without their ends
+abbrev pub mirror : Bool → Groups → Reading
+mirror i g = record {
+  is_check = false;
+  ignore_whitespace = i;
+  groups = if g.separator == 10 then record { size = 0; separator = 10 } else g;
+}
+
+-- whitespace is left out if there are lines
+abbrev pub IgnoresLines : Bool → Groups → Type 0
+IgnoresLines i g = (g.separator == 10) && nat_lt 0 g.size ≡ true → i ≡ true
+
+abbrev reading : Bool → ℕ → ℕ → Reading
+reading i n s = record { is_check = false; ignore_whitespace = i; groups = record { size = n; separator = s } }
+
+-- a text without whitespace
+plain_read : (i : Bool) (s : ℕ) (t : List ℕ) → All (λ b. is_whitespace b ≡ false) t → text_from (reading i 0 s) 0 t ≡ t
+unfolding text_from
+plain_read i s [] plain = refl
+plain_read i s (b ∷ t) plain =
+    let one = All-head (λ b. is_whitespace b ≡ false) b t plain in
+    let more = plain_read i s t (All-tail (λ b. is_whitespace b ≡ false) b t plain) in
+    grind (arith, nat_tests, one, more)
 
 -- lines without their ends
 lines_read : (n c : ℕ) (t : List ℕ) → All (λ b. is_whitespace b ≡ false) t
-    → text_from reads_lines 0 (groups_from n 10 c t) ≡ t
+    → text_from (reading true 0 10) 0 (groups_from n 10 c t) ≡ t
 unfolding groups_from text_from
 lines_read n c [] plain = grind (arith, nat_tests)
 lines_read n c (b ∷ t) plain =
@@ -37,15 +57,17 @@ lines_read n c (b ∷ t) plain =
     let more = lines_read n (c + 1) t rest in grind (arith, nat_tests, one, first, more)
 
 -- groups without their separators
-groups_read : (n s k : ℕ) (t : List ℕ) → 0 < n → k ≤ n → s ≢ 10
-    → text_from (record { is_check = false; ignore_whitespace = false; groups = record { size = n; separator = s } }) k
-    (groups_from n s k t) ≡ t
+groups_read : (i : Bool) (n s k : ℕ) (t : List ℕ) → 0 < n → k ≤ n → s ≢ 10 → All (λ b. is_whitespace b ≡ false) t
+    → text_from (reading i n s) k (groups_from n s k t) ≡ t
 unfolding groups_from text_from
-groups_read n s k [] some fits other = grind (arith, nat_tests, other)
-groups_read n s k (b ∷ t) some fits other =
-    let first = groups_read n s 1 t some (omega (arith, some)) other in
+groups_read i n s k [] some fits other plain = grind (arith, nat_tests, other)
+groups_read i n s k (b ∷ t) some fits other plain =
+    let one = All-head (λ b. is_whitespace b ≡ false) b t plain in
+    let rest = All-tail (λ b. is_whitespace b ≡ false) b t plain in
+    let first = groups_read i n s 1 t some (omega (arith, some)) other rest in
     let more = λ (h : k < n).
-    groups_read n s (k + 1) t some (omega (arith, h)) other in grind (arith, nat_tests, some, fits, other, first, more)
+    groups_read i n s (k + 1) t some (omega (arith, h)) other rest in
+    grind (arith, nat_tests, some, fits, other, one, first, more)
 
 digit_plain : (b : ℕ) → IsDigit b → is_whitespace b ≡ false
 digit_plain b h = grind (arith, nat_tests, h)
@@ -58,12 +80,6 @@ with_prefix : (prefix : Bool) (t : List ℕ) → All (λ b. is_whitespace b ≡ 
 with_prefix true t h =
     All-cons (λ b. is_whitespace b ≡ false) 48 (120 ∷ t) refl (All-cons (λ b. is_whitespace b ≡ false) 120 t refl h)
 with_prefix false t h = h
-
-nothing_left_out : (s : ℕ) → leaves_out (mirror (record { size = 0; separator = s })) ≡ false
-nothing_left_out s = grind (arith, nat_tests)
-
-some_groups : (n : ℕ) → 0 < n → nat_lt 0 n ≡ true
-some_groups n h = grind (arith, nat_tests, h)
 
 same_bytes : (a b : List ℕ) → ◌≡◌ {A = Result (List ℕ) FromHexError} (Ok a) (Ok b) → a ≡ b
 same_bytes a b is = cc
@@ -79,29 +95,27 @@ text_plain_chars prefix up x h =
     (Spells-digits (hex_text up x) x (Spells-hex_text up x h)) in
     with_prefix prefix (hex_text up x) digits
 
-by_separator : (n s : ℕ) (t : List ℕ) (lines none : Bool) → (s == 10) ≡ lines → (n == 0) ≡ none
+by_separator : (i : Bool) (n s : ℕ) (t : List ℕ) (lines none : Bool) → (s == 10) ≡ lines → (n == 0) ≡ none
     → All (λ b. is_whitespace b ≡ false) t
-    → let g : Groups = record { size = n; separator = s } in text_of (mirror g) (laid_out g 0 t) ≡ t
-by_separator n s t lines true e f plain =
-    let zero : n ≡ 0 = grind (arith, nat_tests, f) in
-    rw zero (text_plain (mirror (record { size = 0; separator = s })) t (nothing_left_out s))
-by_separator n s t true false e f plain =
-    let some : 0 < n = grind (arith, nat_tests, f) in
+    → let g : Groups = record { size = n; separator = s } in
+    IgnoresLines i g → text_of (mirror i g) (laid_out g 0 t) ≡ t
+by_separator i n s t true true e f plain ignores =
+    let zero : n ≡ 0 = grind (arith, nat_tests, f) in rw (zero, e) (plain_read i 10 t plain)
+by_separator i n s t false true e f plain ignores =
+    let zero : n ≡ 0 = grind (arith, nat_tests, f) in rw (zero, e) (plain_read i s t plain)
+by_separator i n s t true false e f plain ignores =
     let newline : s ≡ 10 = grind (arith, nat_tests, e) in
-    rw (newline, f, some_groups n some) (lines_read n 0 t plain)
-by_separator n s t false false e f plain =
+    let all : i ≡ true = ignores (grind (arith, nat_tests, e, f)) in rw (all, newline, f) (lines_read n 0 t plain)
+by_separator i n s t false false e f plain ignores =
     let some : 0 < n = grind (arith, nat_tests, f) in
     let other : s ≢ 10 = λ is. grind (arith, nat_tests, e, is) in
-    rw (f, e) (groups_read n s 0 t some (omega arith) other)
-
-by_groups : (n s : ℕ) (t : List ℕ) → All (λ b. is_whitespace b ≡ false) t
-    → let g : Groups = record { size = n; separator = s } in text_of (mirror g) (laid_out g 0 t) ≡ t
-by_groups n s t plain = by_separator n s t (s == 10) (n == 0) refl refl plain
+    rw (f, e) (groups_read i n s 0 t some (omega arith) other plain)
 
 -- the text of what was encoded
-mirrored : (prefix up : Bool) (g : Groups) (x : List ℕ) → AreBytes x
-    → text_of (mirror g) (encoded prefix up g x) ≡ full_text prefix up x
-mirrored prefix up g x h = by_groups g.size g.separator (full_text prefix up x) (text_plain_chars prefix up x h)
+mirrored : (prefix up i : Bool) (g : Groups) (x : List ℕ) → AreBytes x → IgnoresLines i g
+    → text_of (mirror i g) (encoded prefix up g x) ≡ full_text prefix up x
+mirrored prefix up i g x h ignores =
+    by_separator i g.size g.separator (full_text prefix up x) _ _ refl refl (text_plain_chars prefix up x h) ignores
 
 even_not_odd : (n : ℕ) → IsEven n → IsOdd n → ⊥
 even_not_odd n e h = omega (arith, e, h)
@@ -122,30 +136,30 @@ body_front (c ∷ []) [] h = h
 body_front (c ∷ []) (d ∷ v) h = one_digit c d v _ refl h
 body_front (c ∷ d ∷ u) v h = front_digits c d u v ((c == 48) && (d == 120 || d == 88)) h
 
-module _ (prefix up : Bool) (g : Groups) (bytes : List ℕ) (are : AreBytes bytes) where
+module _ (prefix up i : Bool) (g : Groups) (ignores : IgnoresLines i g) (bytes : List ℕ) (are : AreBytes bytes) where
   -- the bytes are decoded again
-  pub decoded_again : (x y : List ℕ) → x ≡ encoded prefix up g bytes → Makes (Decode (mirror g)) x y → y ≡ bytes
+  pub decoded_again : (x y : List ℕ) → x ≡ encoded prefix up g bytes → Makes (Decode (mirror i g)) x y → y ≡ bytes
   decoded_again x y cut (found, reads, is) =
-      let text = ap (text_of (mirror g)) cut ∙ mirrored prefix up g bytes are in
+      let text = ap (text_of (mirror i g)) cut ∙ mirrored prefix up i g bytes are ignores in
       is ∙ same_bytes found bytes
       (one_answer _ (Ok found) (Ok bytes) reads (Reads-full_text _ prefix up bytes are text))
 
   -- and never rejected
   pub never_rejected : (x rest y : List ℕ) (e : FromHexError) (place : Option Place)
       → encoded prefix up g bytes ≡ x ++ rest
-      → FailsWith (Decode (mirror g)) (Some rest) x y e place → ⊥
+      → FailsWith (Decode (mirror i g)) (Some rest) x y e place → ⊥
   never_rejected x rest y OddLength place cut (found, (none, at, odd, pairs), is) =
       let whole = sym (cut ∙ ap (λ l. x ++ l) at ∙ append-nil x) in
-      let text = ap (text_of (mirror g)) whole ∙ mirrored prefix up g bytes are in
+      let text = ap (text_of (mirror i g)) whole ∙ mirrored prefix up i g bytes are ignores in
       even_not_odd (length (full_text prefix up bytes)) (Reads-full_text _ prefix up bytes are refl).0 (rw text at odd)
   never_rejected x rest y InvalidStringLength place cut (found, fails, is) = fails
-  never_rejected x rest y (InvalidHexCharacter c i) place cut (found, fails, is) =
-      let r = mirror g in
+  never_rejected x rest y (InvalidHexCharacter c k) place cut (found, fails, is) =
+      let r = mirror i g in
       let front = fails.front ++ c ∷ [] in
       let more = fails.rest ++ rest in
       let whole : encoded prefix up g bytes ≡ front ++ more =
       cut ∙ ap (λ l. l ++ rest) fails.cut ∙ regroup fails.front c fails.rest rest in
-      let text = sym (mirrored prefix up g bytes are) ∙ ap (text_of r) whole ∙ text-append r 0 front more in
+      let text = sym (mirrored prefix up i g bytes are ignores) ∙ ap (text_of r) whole ∙ text-append r 0 front more in
       let digits : AllDigits (body_of (full_text prefix up bytes)) =
       rw (body-full_text prefix up bytes) (Spells-digits (hex_text up bytes) bytes (Spells-hex_text up bytes are)) in
       fails.invalid (body_front (text_of r front) _ (rw text at digits))

@@ -24,7 +24,7 @@ pub use crate::proved::error::RunError;
 pub use crate::proved::mode::{Groups, Mode, Reading};
 pub use crate::proved::options::{Request, UsageError, UsageErrorKind, request_of};
 pub use crate::proved::place::Place;
-pub use crate::proved::process::{OutputFile, program};
+pub use crate::proved::process::{Host, program};
 pub use crate::proved::runs::run;
 
 #[cfg(test)]

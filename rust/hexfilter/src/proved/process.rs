@@ -8,10 +8,8 @@ use crate::proved::options::{Request, UsageError, UsageErrorKind, request_of};
 use crate::proved::place::Place;
 use crate::proved::runs::run;
 use crate::proved::transfer::{flush, write_piece};
-use crate::std_shim::fs::File;
 use crate::std_shim::io::{Eprint, Error, ErrorKind, Read, Write};
 use crate::std_shim::process::ExitCode;
-use crate::std_shim::rt::Files;
 
 /// What `--help` prints.
 const HELP: &str = "\
@@ -19,7 +17,9 @@ Usage: hexfilter [OPTION]... [FILE]
 Writes FILE as hexadecimal text, or decodes such a text. Without FILE, or if FILE
 is -, reads standard input. Writes to standard output.
 
-  -d, --decode             decode the text
+  -d, --decode             decode the text, which has to be digits alone: offsets
+                           and words in host order, as od and hexdump print
+                           them by default, decode to other bytes
       --check              only test whether the text can be decoded
   -i, --ignore-whitespace  leave out spaces, tabs and ends of lines before the
                            text is decoded
@@ -45,8 +45,14 @@ Examples:
 /// What `--version` prints.
 const VERSION: &str = "hexfilter 1.0.0\n";
 
-/// What a host knows of its standard output.
-pub trait OutputFile {
+/// The files of a host, and the one that its standard output goes to.
+pub trait Host: Eprint {
+    /// An open file.
+    type File: Read;
+
+    /// Opens the file with that name at its start.
+    fn open(&self, name: &str) -> Result<Self::File, Error>;
+
     /// Whether standard output goes to the file with that name or, without a name, to the file that is standard input,
     /// and this file has bytes.
     fn is_output(&self, name: Option<&str>) -> bool;
@@ -56,21 +62,20 @@ pub trait OutputFile {
 /// Returns the exit status: 0 if that succeeds, 1 if the text cannot be decoded, 2 if the arguments are not valid, and
 /// 3 if a read or a write fails, or if the input is the file that standard output goes to. An error is one line on
 /// standard error, but none if the reader of standard output is gone.
-pub fn program<R: Read, W: Write>(
-    rt: &(impl Files + Eprint),
-    host: &impl OutputFile,
+pub fn program<H: Host, R: Read, W: Write>(
+    host: &H,
     arguments: &[String],
     input: &mut R,
     output: &mut W,
 ) -> ExitCode {
     match request_of(arguments) {
-        Ok(Request::Help) => end(rt, None, print(HELP, output)),
-        Ok(Request::Version) => end(rt, None, print(VERSION, output)),
-        Ok(Request::Run(mode, file)) => match file_name(arguments, file) {
-            Some(name) => run_file(rt, host, mode, name, output),
-            None => run_standard_input(rt, host, mode, input, output),
-        },
-        Err(error) => misused(rt, arguments, error),
+        Ok(Request::Help) => end(host, None, print(HELP, output)),
+        Ok(Request::Version) => end(host, None, print(VERSION, output)),
+        Ok(Request::Run(mode, file)) => {
+            let name = file_name(arguments, file);
+            end(host, name, run_on(host, mode, name, input, output))
+        }
+        Err(error) => misused(host, arguments, error),
     }
 }
 
@@ -83,7 +88,7 @@ fn file_name(arguments: &[String], index: Option<usize>) -> Option<&str> {
 }
 
 /// Prints which argument is not valid, and why.
-fn misused(rt: &impl Eprint, arguments: &[String], error: UsageError) -> ExitCode {
+fn misused(host: &impl Eprint, arguments: &[String], error: UsageError) -> ExitCode {
     let argument = match arguments.get(error.index) {
         Some(argument) => argument.as_str(),
         None => "",
@@ -97,47 +102,33 @@ fn misused(rt: &impl Eprint, arguments: &[String], error: UsageError) -> ExitCod
         UsageErrorKind::SecondFile => "second file",
     };
     // Nothing is left to be done if standard error fails.
-    let _ = eprintln!(rt; "hexfilter: {reason} {argument:?}; try --help");
+    let _ = eprintln!(host; "hexfilter: {reason} {argument:?}; try --help");
     ExitCode::from(2)
 }
 
-/// Runs on standard input.
-fn run_standard_input<R: Read, W: Write>(
-    rt: &impl Eprint,
-    host: &impl OutputFile,
+/// Runs on the file with that name, or on standard input.
+fn run_on<H: Host, R: Read, W: Write>(
+    host: &H,
     mode: Mode,
+    name: Option<&str>,
     input: &mut R,
     output: &mut W,
-) -> ExitCode {
-    if host.is_output(None) {
-        return end(rt, None, Err(same_file()));
+) -> Result<(), RunError> {
+    if host.is_output(name) {
+        // It would grow while it is read.
+        let message = "input file is output file";
+        return Err(RunError::Read(Error::new(ErrorKind::InvalidInput, message)));
     }
-    end(rt, None, run(mode, input, output))
-}
-
-/// Runs on the file with that name.
-fn run_file<W: Write>(
-    rt: &(impl Files + Eprint),
-    host: &impl OutputFile,
-    mode: Mode,
-    name: &str,
-    output: &mut W,
-) -> ExitCode {
-    if host.is_output(Some(name)) {
-        return end(rt, Some(name), Err(same_file()));
-    }
-    match File::open(rt, name) {
-        Ok(mut file) => end(rt, Some(name), run(mode, &mut file, output)),
-        Err(error) => end(rt, Some(name), Err(RunError::Read(error))),
+    match name {
+        None => run(mode, input, output),
+        Some(name) => match host.open(name) {
+            Ok(mut file) => run(mode, &mut file, output),
+            Err(error) => Err(RunError::Read(error)),
+        },
     }
 }
 
-/// The error of an input that would grow while it is read.
-fn same_file() -> RunError {
-    RunError::Read(Error::new(ErrorKind::InvalidInput, "input file is output file"))
-}
-
-/// AsksFor a text, and flushes.
+/// Writes a text, and flushes.
 fn print<W: Write>(text: &str, output: &mut W) -> Result<(), RunError> {
     write_piece(output, text.as_bytes())?;
     flush(output)
@@ -145,7 +136,7 @@ fn print<W: Write>(text: &str, output: &mut W) -> Result<(), RunError> {
 
 /// Ends a run on the file with that name, or on standard input. Prints its error, unless the reader of standard output
 /// is gone, and returns the exit status.
-fn end(rt: &impl Eprint, name: Option<&str>, outcome: Result<(), RunError>) -> ExitCode {
+fn end(host: &impl Eprint, name: Option<&str>, outcome: Result<(), RunError>) -> ExitCode {
     let error = match outcome {
         Ok(()) => return ExitCode::SUCCESS,
         Err(error) => error,
@@ -154,19 +145,21 @@ fn end(rt: &impl Eprint, name: Option<&str>, outcome: Result<(), RunError>) -> E
     // Nothing is left to be done if standard error fails.
     let _ = match (name, error) {
         (None, RunError::Text(error, None)) => {
-            eprintln!(rt; "hexfilter: standard input: {error}")
+            eprintln!(host; "hexfilter: standard input: {error}")
         }
         (None, RunError::Text(error, Some(Place { line, column }))) => {
-            eprintln!(rt; "hexfilter: standard input: {error} (line {line}, column {column})")
+            eprintln!(host; "hexfilter: standard input: {error} (line {line}, column {column})")
         }
-        (None, RunError::Read(error)) => eprintln!(rt; "hexfilter: standard input: {error}"),
-        (Some(name), RunError::Text(error, None)) => eprintln!(rt; "hexfilter: {name:?}: {error}"),
+        (None, RunError::Read(error)) => eprintln!(host; "hexfilter: standard input: {error}"),
+        (Some(name), RunError::Text(error, None)) => eprintln!(host;
+            "hexfilter: {name:?}: {error}"
+        ),
         (Some(name), RunError::Text(error, Some(Place { line, column }))) => {
-            eprintln!(rt; "hexfilter: {name:?}: {error} (line {line}, column {column})")
+            eprintln!(host; "hexfilter: {name:?}: {error} (line {line}, column {column})")
         }
-        (Some(name), RunError::Read(error)) => eprintln!(rt; "hexfilter: {name:?}: {error}"),
+        (Some(name), RunError::Read(error)) => eprintln!(host; "hexfilter: {name:?}: {error}"),
         (_, RunError::Write(error)) if error.kind() == ErrorKind::BrokenPipe => Ok(()),
-        (_, RunError::Write(error)) => eprintln!(rt; "hexfilter: standard output: {error}"),
+        (_, RunError::Write(error)) => eprintln!(host; "hexfilter: standard output: {error}"),
     };
     ExitCode::from(status)
 }

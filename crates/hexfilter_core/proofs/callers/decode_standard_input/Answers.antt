@@ -5,6 +5,7 @@ use Rattle.const_hex.specs.declared.error.FromHexError.{FromHexError}
 use Rattle.const_hex.specs.declared.error.FromHexError.TheVariants.{InvalidHexCharacter, InvalidStringLength, NoMemory, OddLength}
 use Rattle.const_hex_arch.proofs.lemmas.Spelling.{Spells-digits}
 use Rattle.hexfilter_core.proofs.lemmas.Mirror.{body_front}
+use Rattle.hexfilter_core.proofs.lemmas.Statuses.{ends_always}
 use Rattle.hexfilter_core.proofs.lemmas.Texts.{text_plain}
 use Rattle.hexfilter_core.specs.Inputs.{HasError}
 use Rattle.hexfilter_core.specs.Options.{request_for, with_arguments}
@@ -23,7 +24,7 @@ asked words is = rw is refl
 
 pub returns-clause-done : goal.returns-clause-done
 returns-clause-done g c = λ zero.
-    let (done, invalid, failed, statuses) = c.program.ensures.input (Decode plain) None (asked _ c.requires) refl in
+    let (done, invalid, failed, statuses) = ends_always _ (Decode plain) _ _ _ _ _ (c.program.ensures.input (Decode plain) None (asked _ c.requires) refl) in
     let (x, y, read, (bytes, reads, is), wrote) = done zero in
     let same : Reads x (Ok bytes) = rw (text_plain plain x refl) at reads in (x, y, read.0, read.1, rw is same, wrote)
 
@@ -43,15 +44,15 @@ not_read left x bytes NoMemory place h y reads = h
 
 pub returns-clause-invalid : goal.returns-clause-invalid
 returns-clause-invalid g c = λ one.
-    let (done, invalid, failed, statuses) = c.program.ensures.input (Decode plain) None (asked _ c.requires) refl in
+    let (done, invalid, failed, statuses) = ends_always _ (Decode plain) _ _ _ _ _ (c.program.ensures.input (Decode plain) None (asked _ c.requires) refl) in
     let (e, place, (x, y, read, (bytes, fails, is), wrote)) = invalid one in (x, read, not_read _ x bytes e place fails)
 
 pub returns-clause-failed : goal.returns-clause-failed
 returns-clause-failed g c = λ three.
-    let (done, invalid, failed, statuses) = c.program.ensures.input (Decode plain) None (asked _ c.requires) refl in
+    let (done, invalid, failed, statuses) = ends_always _ (Decode plain) _ _ _ _ _ (c.program.ensures.input (Decode plain) None (asked _ c.requires) refl) in
     let (x, y, read, (bytes, spelled, is), wrote) = failed three in
     let begun : Spells (take (2 * length bytes) (body_of x)) bytes =
     rw (text_plain plain x refl) at spelled in (x, y, read, rw is begun, wrote)
 
 pub returns-clause-statuses : goal.returns-clause-statuses
-returns-clause-statuses g c = (c.program.ensures.input (Decode plain) None (asked _ c.requires) refl).3
+returns-clause-statuses g c = (ends_always _ (Decode plain) _ _ _ _ _ (c.program.ensures.input (Decode plain) None (asked _ c.requires) refl)).3

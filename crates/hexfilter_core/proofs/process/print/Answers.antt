@@ -1,12 +1,12 @@
 use Rattle.std.proofs.Common.{length, arith}
 use Rattle.std.proofs.KnownBytes.{Appends-kept}
 use Rattle.std.proofs.lemmas.List.{take_all}
-use Rattle.hexfilter_core.proofs.lemmas.Encoding.{if_err}
+use Rattle.hexfilter_core.proofs.lemmas.Statuses.{failed}
 use Rattle.hexfilter_core.proofs.process.print.Goals as goal
 
-pub returns-clause-begun : goal.returns-clause-begun
-returns-clause-begun g c =
+pub returns-clause-err : goal.returns-clause-err
+returns-clause-err g c =
     let text = c.args.text.now in
     let wrote = Appends-kept _ _ _ _ c.in_ok-write_piece.ensures.ok c.flush.ensures.bytes in
-    if_err c.flush.result
+    failed c.flush.result c.flush.ensures.err
     (length text, rw (take_all (length text) text (omega arith)) (rw c.as_bytes.ensures.value at wrote))

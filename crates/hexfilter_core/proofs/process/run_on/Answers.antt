@@ -1,0 +1,35 @@
+use Rattle.std.proofs.Common.{◌≡◌, ◌∙◌, List, ℕ, Some, Option, true, false, refl, sym, ap}
+use Rattle.std.specs.Borrow.{Bor}
+use Rattle.hexfilter_core.specs.Programs.{bytes_of}
+use Rattle.hexfilter_core.proofs.lemmas.Statuses.{ends}
+use Rattle.hexfilter_core.proofs.process.run_on.Goals as goal
+
+same_name : (name : Option (Bor (List ℕ))) (b : Bor (List ℕ)) (n : List ℕ) → name ≡ Some b → bytes_of name ≡ Some n
+    → b.now ≡ n
+same_name name b n is named = cc
+
+pub returns-then-is_output-clause-file : goal.returns-then-is_output-clause-file
+returns-then-is_output-clause-file g c = λ n named.
+    let written : g.H.Host.is_written c.args.host.now (Some n) ≡ true =
+    ap (g.H.Host.is_written c.args.host.now) (sym named) ∙ sym c.is_output.ensures ∙ c.if-is_output.true in
+    (refl, (g.H.Host.bytes c.args.host.now n, rw written (refl, refl, refl)))
+
+pub returns-in-Ok-clause-file : goal.returns-in-Ok-clause-file
+returns-in-Ok-clause-file g c = λ n named.
+    let name = same_name c.args.name c.in-Some.name n c.in-Some.is named in
+    let written : g.H.Host.is_written c.args.host.now (Some n) ≡ false =
+    ap (g.H.Host.is_written c.args.host.now) (sym named) ∙ sym c.is_output.ensures ∙ c.if-is_output.false in
+    let opened : g.H.Host.can_open c.args.host.now n ≡ true =
+    ap (g.H.Host.can_open c.args.host.now) (sym name) ∙ sym c.in-Ok.ensures.can in
+    let bytes = c.in-Ok.ensures.bytes ∙ ap (g.H.Host.bytes c.args.host.now) name in
+    let ran = c.run-in-Ok.ensures in
+    (refl, (g.H.File.Read.remaining c.run-in-Ok.new.input, rw (written, opened, ← bytes) (ends c.args.mode _ _ _ _ c.run-in-Ok.result ran.ok ran.text ran.begun)))
+
+pub returns-in-Err-clause-file : goal.returns-in-Err-clause-file
+returns-in-Err-clause-file g c = λ n named.
+    let name = same_name c.args.name c.in-Some.name n c.in-Some.is named in
+    let written : g.H.Host.is_written c.args.host.now (Some n) ≡ false =
+    ap (g.H.Host.is_written c.args.host.now) (sym named) ∙ sym c.is_output.ensures ∙ c.if-is_output.false in
+    let opened : g.H.Host.can_open c.args.host.now n ≡ false =
+    ap (g.H.Host.can_open c.args.host.now) (sym name) ∙ sym c.in-Err.ensures.can in
+    (refl, (g.H.Host.bytes c.args.host.now n, rw (written, opened) (refl, refl, refl)))
