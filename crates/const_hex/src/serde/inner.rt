@@ -37,7 +37,7 @@ pub fn serialize_inner<const UPPER: bool, const PREFIX: bool, S: Sink>(
     ensures reported { S.is_refused sink.new ≡ false
         → ReportsWhole (S.reported sink.old) (full_text PREFIX UPPER bytes.now) (S.reported sink.new) }
     // More than 128 bytes are cut into pieces of a known size.
-    ensures told_long { 128 < length bytes.now → S.is_refused sink.new ≡ false
+    ensures reported_long { 128 < length bytes.now → S.is_refused sink.new ≡ false
         → ReportsCut (S.reported sink.old) (full_text PREFIX UPPER bytes.now) (S.reported sink.new) }
 {
     if bytes.len() > AT_ONCE {

@@ -27,7 +27,7 @@ pub(crate) fn too_many_reads() -> RunError {
     RunError::Read(Error::new(ErrorKind::TimedOut, "too many reads"))
 }
 
-/// AsksFor all the bytes. A call that a signal interrupts is made again.
+/// Writes all the bytes. A call that a signal interrupts is made again.
 // `WriteSink` of const_hex has the same loop, which is private: its errors are those of a sink.
 pub(crate) fn write_piece<W: Write>(output: &mut W, piece: &[u8]) -> Result<(), RunError> {
     let mut done = 0;
