@@ -1,64 +1,32 @@
-"""The builds of a library: the objects of its archive, or a module for WebAssembly."""
+"""What can be proved: a linked file of ELF, or a module for WebAssembly."""
 
-import pathlib
-import re
-
-from reading import archive, expected, linked, module, objects
-
-WASM = "wasm"
-# CMake keeps the end of a file's name, and compilers replace it.
-MEMBER = re.compile(r"(.*?)(\.S)?\.o")
-# The builds by the names of members. Those for Rust are named after files in rust/src/asm.
-NAMED = {(expected.RUST if build.startswith(expected.RUST) else "") + file: build
-         for builds in expected.BUILDS.values() for build, file in builds.items()}
+from contracts.names import FUNCTIONS
+from reading import image, mach_o, module, pe
 
 
-def _named(name, check, *given):
-    try:
-        return check(*given)
-    except ValueError as error:
-        raise ValueError(f"{name} has what does not belong there: {error}")
-
-
-def _members(data):
-    """The bytes of the builds. A file for another processor has become an empty object."""
-    members, index = archive.read(data)
-    names = [NAMED.get(MEMBER.sub(r"\1", name), name) for name, _ in members]
-    read = [_named(name, objects.read, content) for name, content in members]
-    machines = {obj.machine for obj in read}
-    kinds = [{*expected.builds_of(machine, is_rust)} for machine in machines for is_rust in (False, True)]
-    needed = next((builds for builds in kinds if builds & {*names}), None)
-    if len(machines) != 1 or not needed or len(names) > len({*names}) or not needed <= {*names} <= {*NAMED.values()}:
-        raise ValueError(f"the members are {sorted(name for name, _ in members)}")
-    for (name, _), build, obj in zip(members, names, read):
-        _named(name, expected.check, obj, build, build not in needed)
-    defined = [(name, at) for at, obj in enumerate(read) for name, symbol in obj.seen if symbol.section]
-    if sorted(index or defined) != sorted(defined):
-        raise ValueError("the index of the archive names other members than those that have the symbols")
-    return {build: content for build, (_, content) in zip(names, members) if build in needed}
+# By the first bytes of a file.
+READERS = {mach_o.MAGIC[:2]: mach_o.read, b"MZ": pe.read}
 
 
 def is_module(data):
     return data.startswith(b"\0asm")
 
 
-def is_built(file):
-    """Whether a file is the module, or an archive that has the builds as objects, and not one of Rust."""
-    data = pathlib.Path(file).read_bytes()
-    if not archive.is_archive(data):
-        return is_module(data)
-    return linked.METADATA not in (name for name, _ in archive.read(data)[0])
-
-
 def read(data):
-    """The object or the module with these bytes."""
-    return module.parse(data, "memory") if is_module(data) else objects.read(data)
+    """The image or the module with these bytes."""
+    return module.parse(data, "memory") if is_module(data) else image.whole(READERS.get(data[:2], image.read))(data)
 
 
-def builds_of(file):
-    """The bytes of each build in an archive, or of a module. Refuses what a file has beside them."""
-    data = pathlib.Path(file).read_bytes()
-    if not is_module(data):
-        return _members(data)
-    expected.check_module(read(data))
-    return {WASM: data}
+def whole(data):
+    """The same, if it has all functions that it has to have: a module those of the package, and no other, and a library
+    that has one for C all of these."""
+    found = read(data)
+    names = {f"const_hex_{name}" for name, function in FUNCTIONS.items()
+             if not is_module(data) or function.is_in_module}
+    if is_module(data):
+        # What else it has, module.py refuses.
+        for name in sorted((found.exported | found.places.keys()) ^ (names | {"__data_end", "__heap_base"})):
+            raise ValueError(f"the export {name!r}: it is missing, or belongs to nothing of the library")
+    elif found.is_library and names & found.exported and not names <= found.exported:
+        raise ValueError(f"it has no {', '.join(sorted(names - found.exported))}")
+    return found

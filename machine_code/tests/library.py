@@ -9,10 +9,6 @@ import subprocess
 import tempfile
 import unittest
 
-from reading import objects
-
-# Each run of the tests has the same layout.
-objects.SEED = 0
 TOP = pathlib.Path(__file__).resolve().parents[2]
 ASM, RUST = TOP / "c" / "asm", TOP / "rust" / "src" / "asm"
 ARCHIVE = os.environ.get("CONST_HEX_ARCHIVE", TOP / "build" / "c" / "libconst_hex.a")
@@ -38,9 +34,24 @@ def assembled(text, compiler="cc"):
         return file.read()
 
 
+def linked(text, compiler="cc"):
+    """The bytes of the program that a source makes. A function that it calls and does not have only returns."""
+    with tempfile.TemporaryDirectory() as folder:
+        source = pathlib.Path(folder, "source.o")
+        source.write_bytes(assembled(text, compiler))
+        said = subprocess.run(["nm", "-u", source], check=True, capture_output=True, text=True).stdout
+        stub = ".globl {0}\n.hidden {0}\n.type {0}, %function\n{0}: ret\n"
+        stubs = "".join(map(stub.format, re.findall(r"\bconst_hex_\w+", said)))
+        pathlib.Path(folder, "stubs.o").write_bytes(assembled(stubs, compiler))
+        command = [compiler, "-static-pie", "-nostdlib", "-Wl,-e,0", "-Wl,--unresolved-symbols=ignore-all", "-o",
+                   "linked", "source.o", "stubs.o"]
+        subprocess.run(command, check=True, capture_output=True, cwd=folder)
+        return pathlib.Path(folder, "linked").read_bytes()
+
+
 def assembled_object(text):
     """That of a source for x86-64."""
-    return assembled(f".intel_syntax noprefix\n{text}\n")
+    return linked(f".intel_syntax noprefix\n{text}\n")
 
 
 def assembled_module(text):
