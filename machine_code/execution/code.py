@@ -15,18 +15,17 @@ PAGE = 4096
 
 
 class Instructions(dict):
-    """Those of a file, by their addresses."""
+    """Those of a file by their addresses. They are read from an address on when it is asked for."""
 
     def __init__(self, read):
         super().__init__()
         self._read, self._tried = read, set()
 
-    def __contains__(self, at):
-        if not super().__contains__(at) and at not in self._tried:
-            self._tried.add(at)
-            self.update((address, i) for address, i in self._read(at).items() if not super(Instructions,
-                                                                                           self).__contains__(address))
-        return super().__contains__(at)
+    def __contains__(self, address):
+        if not super().__contains__(address) and address not in self._tried:
+            self._tried.add(address)
+            self.update({**self._read(address), **self})
+        return super().__contains__(address)
 
 
 class Code:

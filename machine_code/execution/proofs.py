@@ -6,6 +6,7 @@ could be accepted.
 
 import os
 import re
+import textwrap
 
 from contracts import callees, dispatch
 from contracts.kernels import KERNELS
@@ -23,6 +24,8 @@ from solver.questions import Refused
 PROCESSORS = {X86_64: x86_64, AARCH64: aarch64, None: webassembly}
 # So many questions of each function go to the second solver, too.
 SAMPLE = 100
+# So many characters of a line are shown.
+LONGEST = 300
 
 
 CONTRACTS = (*FUNCTIONS, *MESSAGES, *KERNELS, *dispatch.OR_NULL, *dispatch.CHOICES)
@@ -64,9 +67,9 @@ def prove(content, symbol, contract, which=slice(None)):
 
 def task(job):
     """Proves a function of a file from one part of its starts. Gives which function it is, whether it is refused, and
-    what is to be said of it."""
-    *function, part, is_whole = job
-    (content, symbol, at), contract, fault = function, CONTRACTS[function[2]], None
+    what is to be said of it in a line."""
+    (file, symbol, at), content, part, is_whole = job
+    contract, fault = CONTRACTS[at], None
     try:
         count = prove(content, symbol, contract, slice(part, None, contract.parts))
         outcome = f"proved at every length: {count} paths, {questions.counts['asked']} questions"
@@ -78,4 +81,5 @@ def task(job):
         fault = f"an error in this tool: {error!r}"
     outcome = f"REFUSED: {fault}" if fault else outcome
     name = f"{contract.name}, {part + 1} of {contract.parts}" if contract.parts > 1 else contract.name
-    return tuple(function), bool(fault), f"{symbol}, {name}: {outcome}, {sum(os.times()[:4]):.0f} s"
+    line = textwrap.shorten(f"{symbol}, {name}: {outcome}", LONGEST)
+    return (file, symbol, at), bool(fault), f"{line}, {sum(os.times()[:4]):.0f} s of processor time"

@@ -1,98 +1,118 @@
-"""A linked file for Windows, a DLL or a program, as an image. Its loader writes to sections of any kind: where the
-table of relocations says, and the addresses of what is imported. There nothing is constant, and nothing runs."""
+"""A linked file for Windows, a DLL or a program, as an image. Its loader writes to sections of any kind: where the table
+of relocations says, the addresses of what is imported, and a number for threads. It finds a function in a sorted table
+of names."""
 
 import struct
 
-from reading.image import AARCH64, X86_64, Image, Segment, add_symbol
+from reading.image import AARCH64, CODE, CONSTANTS, HEADER, WRITTEN, X86_64, Image
 
-MACHINES, LONG, LIBRARY = {0x8664: X86_64, 0xAA64: AARCH64}, 0x20B, 0x2000
-EXPORTS, IMPORTS, RELOCATIONS, LOADED, DELAYED = 0, 1, 5, 10, 13
-RUNS, READS, WRITES = 0x20000000, 0x40000000, 0x80000000
-PADDING, ADDRESS, EXTERNAL, STATIC = 0, 10, 2, 3
+MACHINES, PAGE, IN_FILE = {0x8664: X86_64, 0xAA64: AARCH64}, 1 << 12, 512
+# Tables for the loader by their numbers, with those that are harmless: RESOURCE, EXCEPTION, CERTIFICATE, DEBUG, IAT. With
+# others, such as a configuration, the loader writes elsewhere, too.
+EXPORTS, IMPORTS, RELOCATIONS, THREADS, HARMLESS = 0, 1, 5, 9, (2, 3, 4, 6, 12)
+# What a section is, by its flags without those that mean nothing here: what it has, and how it was aligned. In others
+# nothing is known.
+KINDS, NO_MEANING, UNINITIALIZED = {0x60000000: CODE, 0x40000000: CONSTANTS, 0xC0000000: WRITTEN}, 0x00F00060, 0x80
+OTHER = "other"
+ALL, FIXED = (CODE, CONSTANTS, WRITTEN, OTHER), (CODE, CONSTANTS)
+PADDING, ADDRESS = 0, 10  # kinds of relocations
+EXTERNAL, STATIC = 2, 3  # kinds of symbols
 
 
 def read(data):
     [start] = struct.unpack_from("<I", data, 60)
-    machine, count, _, table, symbols, size, kind = struct.unpack_from("<HHIIIHH", data, start + 4)
+    machine, count, _, table, symbols, size, _ = struct.unpack_from("<HHIIIHH", data, start + 4)
     if data[start : start + 4] != b"PE\0\0" or machine not in MACHINES or data[start + 24 : start + 26] != b"\x0b\x02":
-        raise ValueError("no linked file for Windows, for a processor that is known here")
-    image, headers, end = Image(MACHINES[machine]), start + 24 + size, 0
-    directories = [struct.unpack_from("<II", data, start + 24 + 112 + 8 * at) for at in range(16)]
-    sections = [struct.unpack_from("<8sIIIIIIHHI", data, headers + 40 * at) for at in range(count)]
-    for _, in_memory, address, in_file, offset, *_, flags in sections:
-        if address < end or address % 4096 or offset % 512 or len(data) < offset + min(in_file, in_memory):
-            raise ValueError("two sections that share a page, or one at another place of a page")
-        end = address + in_memory
-        content = data[offset : offset + min(in_file, in_memory)].ljust(in_memory, b"\0")
-        is_written = bool(flags & WRITES)
-        image.segments.append(Segment(address, content, bool(flags & RUNS), flags & READS and not is_written,
-                                      is_written))
-    image.is_library = bool(kind & LIBRARY)
-    if directories[DELAYED][0] or _has_dynamic_relocations(image, directories[LOADED]):
-        raise ValueError("imports or relocations of a kind that is not known here")
-    _relocations(image, *directories[RELOCATIONS])
-    _imports(image, directories[IMPORTS][0])
-    _exports(image, *directories[EXPORTS])
-    at, strings = 0, table + 18 * symbols
-    while at < symbols:
-        name, value, section, _, storage, more = struct.unpack_from("<8sIhHBB", data, table + 18 * at)
-        if name.startswith(bytes(4)):
-            first = strings + int.from_bytes(name[4:], "little")
-            name = data[first : data.index(b"\0", first)]
-        if section:
-            where = sections[section - 1][2] + value if section > 0 else value
-            add_symbol(image, name.rstrip(b"\0").decode(errors="replace"), where,
-                       section > 0 and storage in (EXTERNAL, STATIC))
-        at += 1 + more
+        raise ValueError("no DLL and no program of 64 bits for a processor that is known here")
+    image = Image(MACHINES[machine], PAGE)
+    base, alignment, in_file = struct.unpack_from("<QII", data, start + 48)
+    sections = [struct.unpack_from("<8sIIIIIIHHI", data, start + 24 + size + 40 * at) for at in range(count)]
+    for _, in_memory, address, size, offset, *_, flags in sections:
+        kind = KINDS.get(flags & ~(NO_MEANING | (UNINITIALIZED if flags & 0x80000000 else 0)), OTHER)
+        if address % PAGE or offset % IN_FILE or alignment < PAGE or in_file < IN_FILE:
+            raise ValueError("a section that begins in a page, or in a part of the file")
+        image.add_segment(data, address, in_memory, offset, min(size, in_memory), kind)
+    tables = [struct.unpack_from("<II", data, start + 136 + 8 * at) for at in range(16)]
+    if any(where and at not in (EXPORTS, IMPORTS, RELOCATIONS, THREADS, *HARMLESS) for at, (where, _) in enumerate(tables)):
+        raise ValueError("a table for the loader that is not known here")
+    places = _read_relocations(image, *tables[RELOCATIONS])
+    _read_imports(image, tables[IMPORTS][0])
+    if tables[THREADS][0]:
+        _read_threads(image, base, tables[THREADS][0] + 16, places)
+    _read_exports(image, *tables[EXPORTS])
+    _read_symbols(image, data, table, symbols, [section[2] for section in sections])
     return image
 
 
-def _bytes(image, address, size):
-    segment = image.segment_at(address)
-    found = segment.content[address - segment.address :][:size] if segment else b""
-    if len(found) < size:
-        raise ValueError(f"nothing at {address:#x}")
-    return found
+def _numbers(image, form, address, kinds=ALL):
+    """Numbers that the loader reads at an address, where it has written nothing."""
+    content = image.bytes_at(address, kinds)[: struct.calcsize(form)]
+    if len(image.unchanged(address, content)) < struct.calcsize(form):
+        raise ValueError(f"what the loader reads at {address:#x} is written, or nowhere")
+    return struct.unpack(form, content)
 
 
-def _text(image, address):
-    segment = image.segment_at(address)
-    return segment.content[address - segment.address :].split(b"\0", 1)[0].decode()
-
-
-def _has_dynamic_relocations(image, directory):
-    """Whether the loader's configuration is long enough to say what else is changed, such as calls."""
-    return directory[0] and struct.unpack("<I", _bytes(image, directory[0], 4))[0] > 112
-
-
-def _relocations(image, address, size):
-    end = address + size
-    while address < end:
-        page, count = struct.unpack("<II", _bytes(image, address, 8))
-        for [entry] in struct.iter_unpack("<H", _bytes(image, address + 8, count - 8)):
+def _read_relocations(image, address, size):
+    """The places that the loader writes, by pages."""
+    at, places = address, []
+    while at < address + size:
+        page, length = _numbers(image, "<II", at)
+        for entry in _numbers(image, f"<{length // 2 - 4}H", at + 8):
             if entry >> 12 not in (PADDING, ADDRESS):
-                raise ValueError("a relocation of a kind that is not known here")
-            if entry >> 12:
-                image.changed.add(page + (entry & 4095))
-        address += max(count, 8)
+                raise ValueError(f"a relocation of the kind {entry >> 12}")
+            places += [page + (entry & 4095)] if entry >> 12 else []
+        at += length
+    for place in places:
+        image.change(place, 8, ALL)
+    _numbers(image, f"<{size}B", address)
+    return places
 
 
-def _imports(image, address):
-    while address and any(row := struct.unpack("<IIIII", _bytes(image, address, 20))):
+def _read_imports(image, address):
+    """For each file, the loader writes an address for each name in a table."""
+    while address and any(row := _numbers(image, "<IIIII", address)):
         place, names = row[4], row[0] or row[4]
-        while any(_bytes(image, names, 8)):
-            image.changed.add(place)
+        while any(_numbers(image, "<Q", names)):
+            image.change(place, 8, ALL)
             place, names = place + 8, names + 8
         address += 20
 
 
-def _exports(image, address, size):
-    if address:
-        count, places, names, numbers = struct.unpack("<IIII", _bytes(image, address + 24, 16))
-        for at in range(count):
-            [name], [number] = (struct.unpack("<I", _bytes(image, names + 4 * at, 4)),
-                                struct.unpack("<H", _bytes(image, numbers + 2 * at, 2)))
-            [place], name = struct.unpack("<I", _bytes(image, places + 4 * number, 4)), _text(image, name)
-            # One in the directory is the name of a function of another file.
-            add_symbol(image, name, place, not address <= place < address + size)
+def _read_threads(image, base, address, places):
+    """The loader writes a number of 32 bits at an address, which it has relocated as a whole, or not at all."""
+    [place] = struct.unpack_from("<Q", image.bytes_at(address, ALL))
+    if {it for it in places if address - 8 < it < address + 8} - {address}:
+        raise ValueError("what the loader writes for threads is at an unknown place")
+    image.change(place - base, 4, ALL)
+
+
+def _read_exports(image, address, size):
+    """Adds the functions of the header as the loader finds them, in a table of names that is sorted."""
+    if not address:
+        return
+    limit, count, places, names, numbers = _numbers(image, "<IIIII", address + 20, FIXED)
+    found = [image.text(name) for name in _numbers(image, f"<{count}I", names, FIXED)]
+    if found != sorted(set(found)):
+        raise ValueError("a table of names that is not sorted, or has one twice")
+    for name, number in zip(found, _numbers(image, f"<{count}H", numbers, FIXED)):
+        if name in HEADER:
+            # One in the table itself is the name of a function of another file.
+            [place] = _numbers(image, "<I", places + 4 * number, FIXED)
+            if number >= limit or address <= place < address + size:
+                raise ValueError(f"{name} is no plain function for the loader")
+            image.add_symbol(name, place)
             image.exported.add(name)
+
+
+def _read_symbols(image, data, start, count, sections):
+    """The names of all functions, which no loader reads."""
+    at, strings = start, start + 18 * count
+    while at < strings:
+        name, place, section, _, storage, more = struct.unpack_from("<8sIhHBB", data, at)
+        if name.startswith(bytes(4)):
+            first = strings + int.from_bytes(name[4:], "little")
+            name = data[first : data.index(b"\0", first)]
+        if section:
+            image.add_symbol(name.rstrip(b"\0").decode(errors="replace"), sections[section - 1] + place,
+                             section > 0 and storage in (EXTERNAL, STATIC))
+        at += 18 * (1 + more)
