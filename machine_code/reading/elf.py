@@ -52,7 +52,7 @@ def read(data):
         elif kind not in (DYNAMIC, CLOSED, *HARMLESS):
             raise ValueError(f"a header of the kind {kind:#x}")
     end = first + 56 * count
-    if size != 56 or len(image.segments[0].content) < end or image.segments[0].content[:end] != data[:end]:
+    if size != 56 or image.segments[0].content[:end] != data[:end]:
         raise ValueError("the headers do not lie at the start of the first segment")
     for _, address, in_memory in (header for header in headers if header[0] == CLOSED):
         _close(image, address, in_memory)
@@ -67,11 +67,10 @@ def read(data):
 
 def _close(image, address, size):
     """The loader makes whole pages of a segment read-only."""
-    start, segment = address // image.page * image.page, image.segment_at(address)
-    end = -(-(segment.address + segment.size) // image.page) * image.page if segment else 0
-    if not segment or segment.kind != WRITTEN or start < segment.address // image.page * image.page or end < address + size:
-        raise ValueError("a part of no written segment is closed after relocations")
-    image.closed.append((start, address + size))
+    segment = image.segment_at(address)
+    if not segment or segment.kind != WRITTEN or -(-(segment.address + segment.size) // image.page) * image.page < address + size:
+        raise ValueError("what is closed after relocations is no part of a segment that is written")
+    image.closed.append((address // image.page * image.page, address + size))
 
 
 def _read_dynamic(image, address, size):
@@ -160,11 +159,11 @@ def _by_gnu_hash(image, table, name):
     for byte in name:
         number = (number * 33 + byte) & 0xFFFFFFFF
     buckets, first, words, shift = image.numbers("<IIII", table)
-    [bits] = image.numbers("<Q", table + 16 + 8 * (number // 64 & words - 1))
     starts = table + 16 + 8 * words
     [at] = image.numbers("<I", starts + 4 * (number % buckets))
     if words & words - 1 or shift > 31 or at and at < first:
-        raise ValueError("a table of names that begins before itself")
+        raise ValueError("a table of names that begins before itself, or has no known form")
+    [bits] = image.numbers("<Q", table + 16 + 8 * (number // 64 & words - 1))
     is_last = not (at and bits >> number % 64 & bits >> (number >> shift) % 64 & 1)
     while not is_last:
         [entry] = image.numbers("<I", starts + 4 * (buckets + at - first))

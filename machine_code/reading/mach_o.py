@@ -14,6 +14,7 @@ SEGMENT, SYMBOLS, INFO, TRIE, FIXUPS = 0x19, 2, (0x22, 0x80000022), 0x80000033, 
 HARMLESS = (0xB, 0xC, 0xD, 0xE, 0x1B, 0x1D, 0x1E, 0x24, 0x26, 0x29, 0x2A, 0x32, 0x80000018, 0x8000001C, 0x80000028)
 # What a segment is, by its protection and its flags. PAGEZERO is nothing.
 CLOSED = "closed after relocations"
+FIXED_UP = WRITTEN, CLOSED
 KINDS = {(0, 0): None, (1, 0): CONSTANTS, (5, 0): CODE, (3, 0): WRITTEN, (3, 16): CLOSED}
 # By the upper four bits of an opcode: how many numbers follow; and of the lower bits and these, how many words the loader
 # writes, how many bytes it leaves out after each, and by how many bytes it goes on. PLACE sets a place in a segment.
@@ -101,7 +102,7 @@ def _read_opcodes(image, starts, table, opcodes):
             if times > image.size:
                 raise ValueError("a table of opcodes without an end")
             for _ in range(times):
-                image.change(place, 8)
+                image.change(place, 8, FIXED_UP)
                 place = (place + 8 + gap) % (1 << 64)
             place = (place + move) % (1 << 64)
 
@@ -117,8 +118,8 @@ def _read_chains(image, table):
                 raise ValueError("chains of relocations of a form that is not known here")
             place, distance = image.first + first + at * page + link, link != NO_LINK
             while distance:
-                image.change(place, 8)
-                link = int.from_bytes(image.bytes_at(place, (WRITTEN, CLOSED))[:8], "little")
+                image.change(place, 8, FIXED_UP)
+                link = int.from_bytes(image.bytes_at(place, FIXED_UP)[:8], "little")
                 distance = 4 * (link >> 51 & 0xFFF)
                 place += distance
 

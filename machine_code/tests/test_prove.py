@@ -17,7 +17,7 @@ from contracts.messages import MESSAGES
 from execution import proofs
 from reading import library
 from solver.questions import Refused
-from tests.library import ARCHIVE, InFolder, assembled_object
+from tests.library import InFolder, assembled_object, shared
 
 ROOM = pathlib.Path(__file__).resolve().parent.parent
 # A kernel that calls a local function for an invalid character, which never returns.
@@ -42,15 +42,15 @@ class TestProve(InFolder):
         super().setUp()
         self.script = types.ModuleType("prove")
         SourceFileLoader("prove", str(ROOM / "prove")).exec_module(self.script)
-        self.file = self.folder / "libconst_hex.so"
-        command = ["cc", "-shared", "-nostdlib", "-o", self.file, "-Wl,--whole-archive", ARCHIVE]
-        subprocess.run(command, check=True)
+        self.file, self.other = self.folder / "libconst_hex.so", self.folder / "other.so"
+        for file in (self.file, self.other):
+            file.write_bytes(shared())
 
     def said(self, *argv, refused=None):
         """Whether `prove` fails, and what it prints, where each proof succeeds but that of a function."""
         def prove(content, symbol, contract, which):
             if contract.function == refused:
-                raise Refused("it is refused")
+                raise Refused("it is\nrefused " * 1000)
             return 1
 
         with mock.patch.object(sys, "argv", ["prove", *map(str, argv)]), mock.patch.object(proofs, "prove", prove):
@@ -59,14 +59,35 @@ class TestProve(InFolder):
 
     def test_last_lines(self):
         for argv, refused, wanted in (
-            (["/dev/null"], None, "0 passed, 1 failed"), ([ARCHIVE], None, "0 passed, 1 failed"),
+            (["/dev/null"], None, "0 passed, 1 failed"), (["nowhere"], None, "0 passed, 1 failed"),
             ([self.file], None, "42 passed, 0 failed"), ([self.file], "version", "41 passed, 1 failed"),
-            ([self.file, "--call", "version"], None, "1 passed, 0 failed"),
-            ([self.file, "--call", "other"], None, "0 passed, 0 failed"),
+            # Each of two files counts, also if they are the same.
+            ([self.file, self.other, "/dev/null"], "version", "82 passed, 3 failed"),
+            ([self.file, "--call", "version"], None, "1 passed, 0 failed; --call has left out 41 of 42 proofs"),
+            ([self.file, "--call", "kernel_fill"], None, "5 passed, 0 failed; --call has left out 37 of 42 proofs"),
         ):
             has_failed, output = self.said(*argv, refused=refused)
-            self.assertEqual((has_failed, output.splitlines()[-1]), (wanted[-8:] != "0 failed" or wanted[0] == "0",
-                                                                     wanted))
+            self.assertEqual((has_failed, output.splitlines()[-1]), ("0 failed" not in wanted, wanted))
+        with self.assertRaisesRegex(SystemExit, "no function is called other"):
+            self.said(self.file, "--call", "other")
+
+    def test_an_error_is_a_line(self):
+        """However long a fault is, or what is told of a file."""
+        for argv, refused in ([self.file], "version"), (["/dev/null"], None):
+            _, output = self.said(*argv, refused=refused)
+            self.assertTrue(all(len(line) < 400 for line in output.splitlines()))
+            self.assertEqual(output.count("REFUSED"), 1)
+
+    def test_what_the_loader_does_not_find(self):
+        self.file.write_bytes(shared("-Wl,--version-script=/dev/stdin", script="{ local: *; };"))
+        self.assertIn("a loader finds none of these functions", self.said(self.file)[1])
+
+    def test_nobody_reads_on(self):
+        """As after `| head`: it ends without a traceback."""
+        command = [sys.executable, ROOM / "prove", self.file, "--call", "version"]
+        with subprocess.Popen(command, stdout=subprocess.PIPE, stderr=subprocess.PIPE) as process:
+            process.stdout.close()
+            self.assertEqual((process.stderr.read(), process.wait()), (b"", 1))
 
     def test_what_is_called_is_proved(self):
         """Each function that is called by its contract has it."""

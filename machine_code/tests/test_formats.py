@@ -1,0 +1,348 @@
+"""Files for Windows and macOS that are made to be believed, and modules: each is refused where it is read, or where a
+function is proved."""
+
+import pathlib
+import re
+import shutil
+import struct
+import subprocess
+import tempfile
+import unittest
+
+from reading import image, library
+from tests.library import ASM, MODULE, RUST, add_tests, assembled_module, needs_module
+from tests.test_elf import said
+
+MINGW, LLD = "x86_64-w64-mingw32-gcc", next(map(str, pathlib.Path("/usr/lib").glob("llvm-*/bin/ld64.lld")), "ld64.lld")
+NAMES = sorted(image.HEADER)
+
+
+class File(bytearray):
+    """A file whose fields are changed."""
+
+    def put(self, form, place, *values):
+        struct.pack_into(form, self, place, *values)
+
+    def numbers(self, form, place):
+        return struct.unpack_from(form, self, place)
+
+
+class Pe(File):
+    """Its sections are a name, sizes, places in memory and in the file, .., and flags."""
+
+    @property
+    def head(self):
+        return self.numbers("<I", 60)[0]
+
+    def section(self, name):
+        [count], [size] = self.numbers("<H", self.head + 6), self.numbers("<H", self.head + 20)
+        return next(at for at in range(self.head + 24 + size, self.head + 24 + size + 40 * count, 40)
+                    if self[at : at + 8].rstrip(b"\0") == name.encode())
+
+    def table(self, number):
+        return self.head + 136 + 8 * number
+
+    def offset(self, address):
+        sections = [self.numbers("<8sIIII", self.section(name)) for name in (".text", ".rdata", ".edata", ".idata", ".reloc")]
+        return next(at + address - start for _, size, start, _, at in sections if start <= address < start + size)
+
+    def at(self, number, more=0):
+        """Where a table of the loader lies in the file."""
+        return self.offset(self.numbers("<I", self.table(number))[0]) + more
+
+
+def linked_for_windows():
+    """A DLL with the Rust crate's kernels, and with functions that have the names of those for C."""
+    stubs = "".join(f'.globl {name}\n{name}: ret\n.section .drectve, "yn"\n.ascii " -export:{name}"\n.text\n' for name in NAMES)
+    text = "".join((RUST / f"{part}.s").read_text() for part in ("coff", "x86_64_v2", "x86_64_v3", "end"))
+    with tempfile.TemporaryDirectory() as folder:
+        pathlib.Path(folder, "source.s").write_text(f".intel_syntax noprefix\n{text}.text\n{stubs}")
+        subprocess.run([MINGW, "-shared", "source.s", "-o", "library.dll"], check=True, capture_output=True, cwd=folder)
+        return pathlib.Path(folder, "library.dll").read_bytes()
+
+
+def section(name, at, change, form="<I"):
+    return lambda file: file.put(form, file.section(name) + at, *change(*file.numbers(form, file.section(name) + at)))
+
+
+def place_of(file, name):
+    """Where a section begins, or a symbol lies."""
+    return file.numbers("<I", file.section(name) + 12)[0] if name[0] == "." else library.read(bytes(file)).symbols[name]
+
+
+def base_relocation(name, more=0, kind=10):
+    """The first relocation writes to a section, or where a symbol lies."""
+
+    def changed(file):
+        place = place_of(file, name) + more
+        file.put("<I", file.at(5), place & ~4095)
+        file.put("<H", file.at(5, 8), kind << 12 | place & 4095)
+
+    return changed
+
+
+def imported(name):
+    """The address of what is imported is written where a symbol lies."""
+    return lambda file: file.put("<I", file.at(1, 16), place_of(file, name))
+
+
+def threads(file):
+    """The number of a thread is written over a constant."""
+    file.put("<Q", file.at(9, 16), file.numbers("<Q", file.head + 48)[0] + place_of(file, CONSTANT_OF_FILL))
+
+
+def names_of_exports(change):
+    def changed(file):
+        [names] = file.numbers("<I", file.at(0, 32))
+        change(file, file.offset(names))
+
+    return changed
+
+
+def swapped(file, names):
+    file.put("<II", names, *reversed(file.numbers("<II", names)))
+
+
+def twice(file, names):
+    file.put("<I", names, *file.numbers("<I", names + 4))
+
+
+CONSTANT_OF_FILL = "const_hex_1_0_0_constant_4_v2"
+FILL, CONSTANT, ENDS = "const_hex_1_0_0_fill_v2", "a place that has no constant, or may be written", "it leaves the code"
+FLAGS, WRONG = 36, "a place|a wrong character|is left out"
+PES = [
+    ("nothing", lambda file: None, FILL, "accepted"),
+    ("constants that can be written", section(".rdata", FLAGS, lambda old: (old | 1 << 31,)), FILL, CONSTANT),
+    ("constants that others have", section(".rdata", FLAGS, lambda old: (old | 1 << 28,)), "", "is written, or nowhere|accepted"),
+    ("constants that are not in the file", section(".rdata", FLAGS, lambda old: (old | 0x80,)), FILL, CONSTANT),
+    ("code that can be written", section(".text", FLAGS, lambda old: (old | 1 << 31,)), FILL, ENDS),
+    ("code that is discarded", section(".text", FLAGS, lambda old: (old | 1 << 25,)), FILL, ENDS),
+    ("code in a part of the file", section(".text", 20, lambda old: (old + 16,)), "", "begins in a page"),
+    ("code in a page", section(".text", 12, lambda old: (old + 16,)), "", "begins in a page"),
+    ("sections in a page", lambda file: file.put("<I", file.head + 56, 512), "", "begins in a page"),
+    ("parts of the file that are small", lambda file: file.put("<I", file.head + 60, 16), "", "begins in a page"),
+    ("sections that meet", section(".rdata", 12, lambda old: (4096,)), "", "share a page"),
+    ("a configuration", lambda file: file.put("<II", file.table(10), 4096, 320), "", "a table for the loader"),
+    ("imports that are delayed", lambda file: file.put("<II", file.table(13), 4096, 32), "", "a table for the loader"),
+    ("a relocation of constants", base_relocation(CONSTANT_OF_FILL), FILL, WRONG),
+    ("a relocation of code", base_relocation(".text"), "", "accepted"),
+    ("a relocation of an unknown kind", base_relocation(".rdata", 0, 3), "", "a relocation of the kind 3"),
+    ("a relocation of the relocations", base_relocation(".reloc"), "", "is written, or nowhere"),
+    ("a relocation of imports", base_relocation(".idata"), "", "is written, or nowhere"),
+    ("a relocation of exports", base_relocation(".edata", 16), "", "is written, or nowhere"),
+    ("relocations without an end", lambda file: file.put("<I", file.at(5, 4), 0), "", "cut or damaged|without an end"),
+    ("imports over constants", imported(CONSTANT_OF_FILL), FILL, WRONG),
+    ("a number for threads over a constant", threads, FILL, WRONG),
+    ("names that are not sorted", names_of_exports(swapped), "", "not sorted"),
+    ("a name twice", names_of_exports(twice), "", "not sorted"),
+    ("a name that is missing", lambda file: file.put("<I", file.at(0, 24), 9), "", "does not find const_hex_version"),
+    ("a function of another file", lambda file: file.put("<I", file.offset(file.numbers("<I", file.at(0, 28))[0]),
+                                                         file.numbers("<I", file.table(0))[0] + 40), "", "no plain function"),
+    ("another function by a name", lambda file: file.put("<I", file.offset(file.numbers("<I", file.at(0, 28))[0]), 4096), "",
+     "has the places"),
+    ("a file of 32 bits", lambda file: file.put("<H", file.head + 24, 0x10B), "", "no DLL and no program of 64 bits"),
+]
+
+
+class MachO(File):
+    def commands(self, wanted):
+        at, found = 32, []
+        for _ in range(self.numbers("<I", 16)[0]):
+            command, size = self.numbers("<II", at)
+            found += [at] if command == wanted else []
+            at += size
+        return found
+
+    def segment(self, name):
+        return next(at for at in self.commands(0x19) if self[at + 8 : at + 24].rstrip(b"\0") == name.encode())
+
+    def symbol(self, name):
+        [at] = self.commands(2)
+        first, count, strings, _ = self.numbers("<IIII", at + 8)
+        return next(at for at in range(first, first + 16 * count, 16)
+                    if self.startswith(name.encode() + b"\0", strings + self.numbers("<I", at)[0]))
+
+    def add(self, command, content):
+        """What stands after all is named by a command, in the place of LC_FUNCTION_STARTS."""
+        [at] = self.commands(0x26)
+        self.put("<IIII", at, command, 16, len(self), len(content))
+        self += content
+
+
+def linked_for_macos(processor):
+    """A dylib of what c/asm has for a processor, with some data."""
+    files = {"x86_64": ("dispatch", "functions_x86_64", "kernel_x86_64_v2", "kernel_x86_64_v3"),
+             "arm64": ("dispatch", "functions_aarch64", "kernel_aarch64")}[processor]
+    with tempfile.TemporaryDirectory() as folder:
+        pathlib.Path(folder, "more.s").write_text(".data\n.quad _const_hex_decode\n.zerofill __DATA, __bss, _more, 64, 3\n")
+        for source in [*(ASM / f"{name}.S" for name in files), "more.s"]:
+            subprocess.run(["clang", f"--target={processor}-apple-macos11", "-c", source], check=True, cwd=folder)
+        command = [LLD, "-arch", processor, "-platform_version", "macos", "11.0", "11.0", "-dylib", "-o", "library.dylib",
+                   *(f"{name}.o" for name in (*files, "more"))]
+        subprocess.run(command, check=True, capture_output=True, cwd=folder)
+        return pathlib.Path(folder, "library.dylib").read_bytes()
+
+
+def segment(name, at, *values, form="<II"):
+    return lambda file: file.put(form, file.segment(name) + at, *values)
+
+
+def opcodes(number, *table, to="choice"):
+    """One of the tables of opcodes, by its number, in which the first opcode is for a segment and a place in it."""
+
+    def changed(file):
+        names = [file[at + 8 : at + 24].rstrip(b"\0").decode() for at in file.commands(0x19)]
+        name = "__DATA" if to == "choice" else "__TEXT"
+        [place], [start] = file.numbers("<Q", file.symbol(to) + 8), file.numbers("<Q", file.segment(name) + 24)
+        offset, index, [at] = place // 8 * 8 - start, names.index(name), file.commands(0x80000022)
+        content = bytes([(0x70 if number else 0x20) | index, offset & 127 | 128, offset >> 7, *table])
+        file.put("<II", at + 8 + 8 * number, len(file), len(content))
+        file += content
+
+    return changed
+
+
+def chain(place, form=6, flag=0):
+    """A chain with one link, at a place of a segment."""
+
+    def changed(file):
+        [first], [value] = file.numbers("<Q", file.segment("__DATA") + 24), file.numbers("<Q", file.symbol(place) + 8)
+        page = value // 4096 * 4096
+        starts = struct.pack("<IIIIIHHQIHH", 3, 0, 16, 0, 24, 4096, form, page, 0, 1, value % 4096 // 8 * 8 | flag)
+        file.add(0x80000034, struct.pack("<IIIIIII", 0, 28, 0, 0, 0, 0, 0) + starts)
+
+    return changed
+
+
+def tree(change):
+    """The tree of names has one branch for each, as an edge and what stands in its node, of which some are changed."""
+
+    def changed(file):
+        [at] = file.commands(0x80000022)
+        names = {f"_{name}": file.numbers("<Q", file.symbol(f"_{name}") + 8)[0] for name in NAMES}
+        # dyld takes the first edge that fits, so a name stands before its beginning.
+        edges = [(name, bytes([4, 0, place & 127 | 128, place >> 7 & 127 | 128, place >> 14]))
+                 for name, place in sorted(names.items(), reverse=True)]
+        change(edges)
+        content, nodes = bytes([0, len(edges)]), sum(len(name) + 3 for name, _ in edges) + 2
+        for name, node in edges:
+            content += name.encode() + bytes([0, nodes & 127 | 128, nodes >> 7])
+            nodes += len(node) + 1
+        content += b"".join(node + b"\0" for _, node in edges)
+        file.put("<II", at + 40, len(file), len(content))
+        file += content
+
+    return changed
+
+
+def with_flags(flags):
+    return lambda edges: edges.__setitem__(0, (edges[0][0], edges[0][1][:1] + bytes([flags]) + edges[0][1][2:]))
+
+
+CHECK = "const_hex_kernel_check"
+MACH_OS = [
+    ("nothing", "x86_64", lambda file: None, CHECK, "accepted"),
+    ("nothing", "arm64", lambda file: None, "const_hex_version", "accepted"),
+    ("an unknown command", "x86_64", lambda file: file.put("<I", file.commands(0x26)[0], 0x2C), "", "the command 0x2c"),
+    # Of two tables of symbols, linkers take the first.
+    ("a second table of symbols", "x86_64", lambda file: file.put("<I", file.commands(0x26)[0], 2), "", "the command 0x2,"),
+    ("a second tree of names", "x86_64", lambda file: file.add(0x80000033, bytes(8)), "", "two trees of names"),
+    ("code that can be written", "x86_64", segment("__TEXT", 56, 7, 7), "", "a segment that is 7"),
+    ("constants that cannot be read", "x86_64", segment("__TEXT", 56, 4, 4), "", "a segment that is 4"),
+    ("code that is encrypted", "x86_64", segment("__TEXT", 68, 8, form="<I"), "", "a segment that is 5, 8"),
+    ("a choice that is closed", "x86_64", segment("__DATA", 68, 16, form="<I"), CHECK, "a place that has no constant"),
+    ("a segment in a page", "x86_64", segment("__DATA", 24, 0x4010, form="<Q"), "", "no whole pages"),
+    ("a segment in a page of the file", "x86_64", segment("__DATA", 40, 0x4010, form="<Q"), "", "no whole pages"),
+    ("a segment that ends in a page", "x86_64", segment("__DATA", 48, 16, form="<Q"), "", "no whole pages"),
+    ("pages of 16 KB", "arm64", segment("__DATA", 24, 0x5000, form="<Q"), "", "no whole pages"),
+    ("code from another place of the file", "x86_64", segment("__TEXT", 40, 4096, form="<Q"), "", "does not begin with"),
+    ("relocations of the choice", "x86_64", opcodes(0, 0x51), CHECK, "a place that has no constant"),
+    ("many relocations", "x86_64", opcodes(0, 0x60, 2), CHECK, "a place that has no constant"),
+    ("relocations with a distance", "x86_64", opcodes(0, 0x70, 8), CHECK, "a place that has no constant"),
+    ("relocations with gaps", "x86_64", opcodes(0, 0x80, 2, 8), CHECK, "a place that has no constant"),
+    ("a move before a relocation", "x86_64", opcodes(0, 0x30, 8, 0x41, 0x51), CHECK, "accepted"),
+    ("relocations without an end", "x86_64", opcodes(0, 0x60, 255, 255, 255, 127), "", "without an end"),
+    ("a relocation of code", "x86_64", opcodes(0, 0x51, to="_const_hex_version"), "", "what must not be written"),
+    ("a binding of the choice", "x86_64", opcodes(1, 0x11, 0x20, 1, 0x40, 95, 0, 0x51, 0x60, 1, 0x90), CHECK,
+     "a place that has no constant"),
+    ("a binding with a distance", "x86_64", opcodes(2, 0xA0, 8), CHECK, "a place that has no constant"),
+    ("a binding with words", "x86_64", opcodes(3, 0xB1), CHECK, "a place that has no constant"),
+    ("bindings with gaps", "x86_64", opcodes(1, 0xC0, 2, 8), CHECK, "a place that has no constant"),
+    ("a binding of code", "x86_64", opcodes(1, 0x90, to="_const_hex_version"), "", "what must not be written"),
+    ("a chain over the choice", "x86_64", chain("choice"), CHECK, "a place that has no constant"),
+    ("a chain over code", "x86_64", chain("_const_hex_version"), "", "what must not be written"),
+    ("a chain of an unknown form", "x86_64", chain("choice", 1), "", "of a form that is not known"),
+    ("many chains in a page", "x86_64", chain("choice", flag=0x8000), "", "of a form that is not known"),
+    ("a tree of names", "x86_64", tree(lambda edges: None), "", "accepted"),
+    ("a branch to nothing", "x86_64", tree(lambda edges: edges.insert(0, ("_const_hex_v", b"\0"))), "",
+     "does not find const_hex_version"),
+    ("a branch that is missing", "x86_64", tree(lambda edges: edges.pop(0)), "", "does not find const_hex_version"),
+    ("a function of another library", "x86_64", tree(with_flags(8)), "", "is no plain function"),
+    ("a function that others may replace", "x86_64", tree(with_flags(4)), "", "is no plain function"),
+    ("a function that dyld picks", "x86_64", tree(with_flags(16)), "", "is no plain function"),
+    ("another function in the tree", "x86_64", tree(lambda edges: edges.__setitem__(0, (edges[0][0], edges[1][1]))), "",
+     "has the places"),
+    ("a name that is picked", "x86_64", lambda file: file.put("<H", file.symbol("_const_hex_version") + 6, 0x100), "",
+     "a symbol of another kind"),
+    ("an absolute name", "x86_64", lambda file: file.put("<B", file.symbol("_const_hex_version") + 4, 3), "",
+     "a symbol of another kind"),
+    ("another function by a name", "x86_64", lambda file: file.put(
+        "<Q", file.symbol("_const_hex_version") + 8, *file.numbers("<Q", file.symbol("_const_hex_check") + 8)), "",
+     "has the places"),
+    ("an object", "x86_64", lambda file: file.put("<I", 12, 1), "", "no dylib and no program"),
+]
+# What a module has beside the package's functions.
+MODULES = [
+    ("a function that is exported", '(export "const_hex_version" (func 1))', "the export 'const_hex_version'"),
+    ("a function that runs first", "(func $run nop) (start $run)", "not known here: (start"),
+    ("a variable that is exported", '(export "__top" (global 1))', "the export '__top'"),
+    ("a variable that the engine may change", '(export "__top" (global 0))', "__top, which the engine may change"),
+    ("a table of functions", "(table 1 funcref) (elem (i32.const 0) 0)", "not known here: (table"),
+    ("a second name for the memory", '(export "more" (memory 0))', "not known here: (export"),
+    ("data that are written later", '(data "more")', "not known here: (data"),
+    ("an exported function of another name", ("const_hex_encode", "const_hex_encodf"), "the export 'const_hex_encod"),
+    ("another function by a name", ('"const_hex_decoder_finish" (func 8)', '"const_hex_decoder_finisi" (func 8)'),
+     "the export 'const_hex_decoder_finis"),
+    ("an import", ("(module\n", '(module (import "js" "table" (table 1 funcref))\n'), "not known here: (import"),
+    ("a memory that grows", ("(memory (;0;) 1 1)", "(memory (;0;) 1 2)"), "not known here: (memory"),
+]
+
+
+@unittest.skipUnless(shutil.which(MINGW), f"{MINGW} is missing")
+class TestPe(unittest.TestCase):
+    @classmethod
+    def setUpClass(cls):
+        cls.right = linked_for_windows()
+
+    def refuse(self, change, symbol, wanted):
+        file = Pe(self.right)
+        change(file)
+        self.assertRegex(said(bytes(file), symbol), wanted)
+
+
+@unittest.skipUnless(shutil.which(LLD) and shutil.which("clang"), "clang or ld64.lld is missing")
+class TestMachO(unittest.TestCase):
+    @classmethod
+    def setUpClass(cls):
+        cls.right = {processor: linked_for_macos(processor) for processor in ("x86_64", "arm64")}
+
+    def refuse(self, processor, change, symbol, wanted):
+        file = MachO(self.right[processor])
+        change(file)
+        self.assertRegex(said(bytes(file), symbol), wanted)
+
+
+class TestModules(unittest.TestCase):
+    @needs_module
+    def refuse(self, change, wanted):
+        command = ["wasm2wat", "--no-debug-names", MODULE]
+        text = subprocess.run(command, check=True, capture_output=True, text=True).stdout
+        old, new = change if type(change) is tuple else (")\n", f"{change})\n")
+        at = text.rindex(old)
+        with self.assertRaisesRegex(ValueError, re.escape(wanted)):
+            library.whole(assembled_module(text[:at] + new + text[at + len(old) :]))
+
+
+add_tests(TestPe, TestPe.refuse, PES)
+add_tests(TestMachO, TestMachO.refuse, MACH_OS)
+add_tests(TestModules, TestModules.refuse, MODULES)
