@@ -6,7 +6,7 @@ by a name in each of two tables of hashes.
 
 import struct
 
-from reading.image import AARCH64, CODE, CONSTANTS, HEADER, WRITTEN, X86_64, Image
+from reading.image import AARCH64, CODE, CONSTANTS, HEADER, WRITTEN, X86_64, Image, up
 
 PAGES = {X86_64: 1 << 12, AARCH64: 1 << 16}
 PROGRAM, SHARED = 2, 3
@@ -68,14 +68,14 @@ def read(data):
 def _close(image, address, size):
     """The loader makes whole pages of a segment read-only."""
     segment = image.segment_at(address)
-    if not segment or segment.kind != WRITTEN or -(-(segment.address + segment.size) // image.page) * image.page < address + size:
+    if not segment or segment.kind != WRITTEN or up(segment.address + segment.size, image.page) < address + size:
         raise ValueError("what is closed after relocations is no part of a segment that is written")
     image.closed.append((address // image.page * image.page, address + size))
 
 
 def _read_dynamic(image, address, size):
     """Reads the loader's table up to its end, and what it names."""
-    dynamic, content = {}, image.bytes_at(address, (CODE, CONSTANTS, WRITTEN))[: size // 16 * 16]
+    dynamic, content = {}, image.bytes_at(address, size // 16 * 16, (CODE, CONSTANTS, WRITTEN))
     for tag, value in struct.iter_unpack("<QQ", content):
         if not tag:
             break
@@ -84,8 +84,10 @@ def _read_dynamic(image, address, size):
         dynamic[tag] = value
     else:
         raise ValueError("the loader's table has no end")
-    if any(tag in dynamic and not image.bytes_at(dynamic[tag]) for tag in TABLES) or dynamic.get(CALLS_KIND, RELA) != RELA:
-        raise ValueError("a table for the loader that is written, is nowhere, or is of a kind that is not known here")
+    if not all(image.bytes_at(dynamic[tag], 1) for tag in TABLES if tag in dynamic):
+        raise ValueError("a table for the loader that is written, or is nowhere")
+    if dynamic.get(CALLS_KIND, RELA) != RELA:
+        raise ValueError("relocations of calls of a form that is not known here")
     _read_relocations(image, dynamic)
     if len(image.unchanged(address, content)) < len(content):
         raise ValueError("the loader changes its own table")
@@ -119,17 +121,14 @@ def _read_relocations(image, dynamic):
 def _read_exported(image, dynamic, name):
     """Adds a function of the header as the loader finds it, by each table of hashes. Any symbol of this name on the
     loader's way has to be this function."""
-    found, wrong = set(), f"the loader does not find {name} in each of its tables, or finds another symbol, too"
-    for tag, walk in (HASH, _by_hash), (GNU_HASH, _by_gnu_hash):
-        if tag in dynamic:
-            numbers = [at for at in walk(image, dynamic[tag], name.encode())
-                       if image.text(dynamic[STRINGS] + image.numbers("<I", dynamic[SYMBOLS] + 24 * at)[0]) == name]
-            found.add(numbers[0] if len(numbers) == 1 else 0 if not numbers else None)
-    if found == {0}:
+    found = [[at for at in walk(image, dynamic[tag], name.encode())
+              if image.is_text(dynamic[STRINGS] + image.numbers("<I", dynamic[SYMBOLS] + 24 * at)[0], name)]
+             for tag, walk in ((HASH, _by_hash), (GNU_HASH, _by_gnu_hash)) if tag in dynamic]
+    if not any(found):
         return
-    if len(found) > 1 or None in found:
-        raise ValueError(wrong)
-    [at] = found
+    if len(found[0]) != 1 or found[0] != found[-1]:
+        raise ValueError(f"the loader does not find {name} in each of its tables, or finds another symbol, too")
+    [at] = found[0]
     _, info, other, index, place, _ = image.numbers("<IBBHQQ", dynamic[SYMBOLS] + 24 * at)
     is_plain = VERSIONS not in dynamic or image.numbers("<H", dynamic[VERSIONS] + 2 * at) == (1,)
     if info != GLOBAL_FUNCTION or other not in (0, 3) or not 0 < index < RESERVED or not is_plain:
@@ -140,17 +139,18 @@ def _read_exported(image, dynamic, name):
 
 def _by_hash(image, table, name):
     """The symbols that the loader compares with a name, by DT_HASH."""
-    number = 0
+    number, seen = 0, set()
     for byte in name:
         number = number * 16 + byte
         number = (number ^ number >> 24 & 0xF0) & 0xFFFFFFF
-    buckets, count = image.numbers("<II", table)
-    [at], left = image.numbers("<I", table + 8 + 4 * (number % buckets)), count
+    buckets, _ = image.numbers("<II", table)
+    [at] = image.numbers("<I", table + 8 + 4 * (number % buckets))
     while at:
-        if at >= count or not left:
-            raise ValueError("a table of names that has no end, or more symbols than it says")
+        if at in seen:
+            raise ValueError("a table of names that has no end")
         yield at
-        [at], left = image.numbers("<I", table + 8 + 4 * (buckets + at)), left - 1
+        seen.add(at)
+        [at] = image.numbers("<I", table + 8 + 4 * (buckets + at))
 
 
 def _by_gnu_hash(image, table, name):
@@ -175,10 +175,9 @@ def _by_gnu_hash(image, table, name):
 def _read_symbols(image, data, start, count):
     """The names of hidden functions, which no loader reads."""
     headers = [struct.unpack_from("<IIQQQQIIQQ", data, start + 64 * at) for at in range(count)]
-    for _, kind, _, _, offset, size, link, *_ in headers:
-        strings = data[headers[link][4] :][: headers[link][5]] if kind == SYMBOL_TABLE else b""
-        for at in range(offset, offset + size, 24) if kind == SYMBOL_TABLE else ():
-            name, info, _, index, place, _ = struct.unpack_from("<IBBHQQ", data, at)
+    for _, _, _, _, offset, size, link, *_ in (header for header in headers if header[1] == SYMBOL_TABLE):
+        strings = data[headers[link][4] :][: headers[link][5]]
+        for name, info, _, index, place, _ in struct.iter_unpack("<IBBHQQ", data[offset : offset + size]):
             name = strings[name : strings.index(b"\0", name)].decode()
             if index and info & 15 != SOURCE_FILE:
                 image.add_symbol(name, place, info & 15 in PLACED and index < RESERVED)

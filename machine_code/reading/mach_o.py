@@ -16,8 +16,8 @@ HARMLESS = (0xB, 0xC, 0xD, 0xE, 0x1B, 0x1D, 0x1E, 0x24, 0x26, 0x29, 0x2A, 0x32, 
 CLOSED = "closed after relocations"
 FIXED_UP = WRITTEN, CLOSED
 KINDS = {(0, 0): None, (1, 0): CONSTANTS, (5, 0): CODE, (3, 0): WRITTEN, (3, 16): CLOSED}
-# By the upper four bits of an opcode: how many numbers follow; and of the lower bits and these, how many words the loader
-# writes, how many bytes it leaves out after each, and by how many bytes it goes on. PLACE sets a place in a segment.
+# By the upper four bits of an opcode: how many numbers follow; and of the lower bits and these, how many words the
+# loader writes, how many bytes it leaves out after each, and by how many it goes on. PLACE sets a place in a segment.
 NAME, PLACE = (0, None), (1, None)
 NOTHING, NUMBER, MOVE = (0, lambda low: (0, 0, 0)), (1, lambda low, a: (0, 0, 0)), (1, lambda low, a: (0, 0, a))
 THEN_MOVE, TIMES = (1, lambda low, a: (1, 0, a)), (2, lambda low, a, b: (a, b, 0))
@@ -119,7 +119,7 @@ def _read_chains(image, table):
             place, distance = image.first + first + at * page + link, link != NO_LINK
             while distance:
                 image.change(place, 8, FIXED_UP)
-                link = int.from_bytes(image.bytes_at(place, FIXED_UP)[:8], "little")
+                link = int.from_bytes(image.bytes_at(place, 8, FIXED_UP), "little")
                 distance = 4 * (link >> 51 & 0xFFF)
                 place += distance
 

@@ -69,6 +69,11 @@ def relocation(kind, place, table=7):
     return changed
 
 
+def copy_over_the_choice(file):
+    relocation(5 | 3 << 32, lambda file: file.value("choice") - 8)(file)
+    file.put("<Q", file.table(6) + 24 * 3 + 16, 9)
+
+
 def other_header(kind):
     return lambda file: file.put("<I", next(it[0] for it in file.segments if it[1] == 0x6474E551), kind)
 
@@ -168,7 +173,7 @@ CHANGED = [
     ("what is closed is nowhere", closed(1 << 30, 16), "", CLOSED),
     ("what is closed has no end", closed(0, 1 << 20), "", CLOSED),
     ("a program", lambda file: file.put("<H", 16, 2), VERSION, "accepted"),
-    ("calls with relocations of another form", tag(10, 20, -8), "", "a kind that is not known here"),
+    ("calls with relocations of another form", tag(10, 20, -8), "", "of a form that is not known here"),
     ("a protected function", of_the_loader("<B", 5, 3), VERSION, "accepted"),
     ("a file of 32 bits", lambda file: file.put("<B", 4, 1), "", "no shared library and no program"),
     ("another processor", lambda file: file.put("<H", 18, 40), "", "no shared library and no program"),
@@ -177,8 +182,8 @@ CHANGED = [
     ("an auditor", tag(10, 0x6FFFFEFC, -8), "", KNOWN),
     ("code that the loader changes", tag(30, 4), "", KNOWN),
     ("a library before all others", tag(0x6FFFFFFB, 0x400), "", KNOWN),
-    ("a table for the loader without an end", segment(6, lambda f, o, a, b, size, _, e: (f, o, a, b, size, 96, e), kind=2),
-     "", "the loader's table has no end"),
+    ("a table for the loader without an end",
+     segment(6, lambda f, o, a, b, size, _, e: (f, o, a, b, size, 96, e), kind=2), "", "the loader's table has no end"),
     ("a table of names that is nowhere", tag(6, 1 << 20), "", "is nowhere"),
     ("tables of the loader that are written", segment(4, flags(6)), "", "a table for the loader that is written"),
     ("a function without a section", of_the_loader("<H", 6, 0), "", PLAIN),
@@ -209,17 +214,16 @@ CHANGED = [
     ("nothing at all", lambda file: file.clear(), "", "no linked file"),
 ]
 # The same in a library by other options: with both tables of hashes, with relocations, and with those that are packed.
-HASHES, DATA = ("-Wl,--hash-style=both",), ".bss; .space 64; .data; .balign 8; .hidden more; .globl more; more: .quad {0}, {0}; " \
-    ".text; .globl other; .hidden other; other: ret".format("other")
-MORE = {"hashes": shared(*HASHES), "sysv": shared("-Wl,--hash-style=sysv"), "relocations": shared(more=DATA),
-        "packed": shared("-Wl,-z,pack-relative-relocs", more=DATA)}
+DATA = ".bss; .space 64; .data; .balign 8; .hidden more; .globl more; more: .quad other, other; .text; other: ret"
+MORE = {"hashes": shared("-Wl,--hash-style=both"), "sysv": shared("-Wl,--hash-style=sysv"),
+        "relocations": shared(more=DATA), "packed": shared("-Wl,-z,pack-relative-relocs", more=DATA)}
 CHANGED_MORE = [
     ("both tables", "hashes", lambda file: None, VERSION, "accepted"),
     ("tables that differ", "hashes", bucket(lambda file, table, at, number: file.put("<I", at, 0)), "",
      "in each of its tables"),
     ("two functions of a name", "hashes", chain(2), "", "const_hex_check|const_hex_decode in each of its tables"),
     ("a chain without an end", "hashes", chain(None), "", "a table of names that has no end"),
-    ("a chain beyond the table", "hashes", lambda file: (chain(500)(file)), "", "more symbols than it says|cut or damaged"),
+    ("a chain beyond the table", "hashes", chain(500), "", "is written, or nowhere"),
     ("two functions of a name", "sysv", chain(2), "", "const_hex_check|const_hex_decode in each of its tables"),
     ("a function without a section", "sysv", of_the_loader("<H", 6, 0), "", PLAIN),
     ("relocations", "relocations", lambda file: None, CHECK, "accepted"),
@@ -232,9 +236,7 @@ CHANGED_MORE = [
     ("a relocation beyond a segment", "relocations",
      relocation(8, lambda file: max(it[4] + it[7] for it in file.segments if it[1] == 1) - 4), "", "where nothing is"),
     ("a relocation of an unknown kind", "relocations", relocation(33, "more"), "", "a relocation of the kind 33"),
-    ("a copy over the choice", "relocations", lambda file: (
-        relocation(5 | 3 << 32, lambda file: file.value("choice") - 8)(file), file.put("<Q", file.table(6) + 72 + 16, 9)),
-     CHECK, WRITTEN),
+    ("a copy over the choice", "relocations", copy_over_the_choice, CHECK, WRITTEN),
     ("packed relocations", "packed", lambda file: None, CHECK, "accepted"),
     ("a packed relocation of the choice", "packed",
      lambda file: file.put("<Q", file.table(36), file.value("choice") // 8 * 8), CHECK, WRITTEN),
@@ -244,14 +246,15 @@ CHANGED_MORE = [
      "what must not be written"),
 ]
 C, DISPATCH, FALSE = "functions_x86_64", "dispatch", "mov $1, %eax; ret"
+SCRIPT, OTHER = "-Wl,--version-script=/dev/stdin", ".globl other; .type other, @function; other: ret"
 HIDDEN, WRONG = "hidden SYMBOL(const_hex_check_nonnull)", "is left out|must|head of a loop|a register|an address"
 END = f"\tend SYMBOL({VERSION})"
 # What is linked, and of which function: options, lines of files that have another text, more of a source, and a script.
 LINKED = [
-    ("a function that others may replace", "const_hex_check", [], [(C, HIDDEN, "exported SYMBOL(const_hex_check_nonnull)")],
+    ("a function that others may replace", "const_hex_check", [],
+     [(C, HIDDEN, "exported SYMBOL(const_hex_check_nonnull)")], "", "", "without a meaning|is not fixed"),
+    ("a kernel that others may replace", "const_hex_check_raw", [], [(DISPATCH, "hidden \\name", "exported \\name")],
      "", "", "without a meaning|is not fixed"),
-    ("a kernel that others may replace", "const_hex_check_raw", [], [(DISPATCH, "hidden \\name", "exported \\name")], "",
-     "", "without a meaning|is not fixed"),
     # As by a group that another object has, by the first of two objects, or by code for the linker's plugin.
     ("a function of another object", "const_hex_encode", [],
      [(C, "call SYMBOL(const_hex_kernel_fill)", "call SYMBOL(const_hex_kernel_fxll)")],
@@ -260,23 +263,22 @@ LINKED = [
     ("relocations of code", "", ["-Wl,-z,notext"], [(C, END, f"\t.quad const_hex_check_raw; {END}")], "", "", KNOWN),
     ("a choice in a section of data", CHECK, [],
      [(DISPATCH, "variable choice", ".section .data.choice, \"aw\"; choice: .byte 2")], "", "", WRITTEN),
-    ("a version of another function", "", ["-Wl,--version-script=/dev/stdin"], [],
+    ("a version of another function", "", [SCRIPT], [],
      f".globl other; .symver other, {VERSION}@V1; .type other, @function; other: {FALSE}",
      "V1 {}; V2 { const_hex_*; };", "or a version"),
-    ("versions", "", ["-Wl,--version-script=/dev/stdin"], [], "", "V1 { const_hex_*; };", "or a version"),
-    ("versions of others", VERSION, ["-Wl,--version-script=/dev/stdin"], [], ".globl other; .type other, @function; other: ret",
-     "V1 { other; };", "accepted"),
-    ("a function that is not exported", "", ["-Wl,--version-script=/dev/stdin"], [], "", "{ local: const_hex_check_raw; };",
+    ("versions", "", [SCRIPT], [], "", "V1 { const_hex_*; };", "or a version"),
+    ("versions of others", VERSION, [SCRIPT], [], OTHER, "V1 { other; };", "accepted"),
+    ("a function that is not exported", "", [SCRIPT], [], "", "{ local: const_hex_check_raw; };",
      "the loader does not find const_hex_check_raw"),
-    ("none that is exported", VERSION, ["-Wl,--version-script=/dev/stdin"], [], "", "{ local: *; };", "accepted"),
+    ("none that is exported", VERSION, [SCRIPT], [], "", "{ local: *; };", "accepted"),
     ("functions of another file", "", ["-Wl,-F,other.so"], [], "", "", KNOWN),
     ("functions that another file may have", "", ["-Wl,-f,other.so"], [], "", "", KNOWN),
     ("no names", "", ["-Wl,-s"], [], "", "", "it is stripped"),
     ("a symbol in an instruction", VERSION, [], [(C, END.strip(), f".set other, {VERSION} + 1; {END}")], "", "",
      "without a meaning"),
     # No loader reads what a debugger runs.
-    ("a script for a debugger", VERSION, [], [], '.section .debug_gdb_scripts, "MS", @progbits, 1; .asciz "\\1file"', "",
-     "accepted"),
+    ("a script for a debugger", VERSION, [], [],
+     '.section .debug_gdb_scripts, "MS", @progbits, 1; .asciz "\\1file"', "", "accepted"),
 ]
 # On AArch64, where a system may have pages of 64 KB: segments that share one.
 PAGES = """PHDRS { h PT_LOAD FILEHDR PHDRS FLAGS(4); t PT_LOAD FLAGS(5); d PT_LOAD FLAGS(6); dyn PT_DYNAMIC; }
@@ -284,7 +286,8 @@ SECTIONS { . = SIZEOF_HEADERS; .gnu.hash : { *(.gnu.hash) } :h .dynsym : { *(.dy
  . = ALIGN(%d); .text : { *(.text .text.* .rodata .rodata.*) } :t
  . = ALIGN(65536) + 65536; .dynamic : { *(.dynamic) } :d :dyn .got : { *(.got*) } :d
  /DISCARD/ : { *(.comment) *(.note*) *(.eh_frame) } }"""
-OF_AARCH64 = [("pages", "in_aarch64", 65536, "accepted"), ("a page of two segments", "in_aarch64", 4096, "share a page")]
+OF_AARCH64 = [("pages", "in_aarch64", 65536, "accepted"),
+              ("a page of two segments", "in_aarch64", 4096, "share a page")]
 
 
 class TestElf(unittest.TestCase):

@@ -11,10 +11,22 @@ import unittest
 
 from reading import image, library
 from tests.library import ASM, MODULE, RUST, add_tests, assembled_module, needs_module
-from tests.test_elf import said
 
 MINGW, LLD = "x86_64-w64-mingw32-gcc", next(map(str, pathlib.Path("/usr/lib").glob("llvm-*/bin/ld64.lld")), "ld64.lld")
 NAMES = sorted(image.HEADER)
+
+
+def read(data, code, constant=None, kept=None):
+    """What is wrong with a file, or with code, a constant, and the byte that is kept in it, which have these names."""
+    try:
+        found = library.whole(data)
+        if not found.code_at(found.symbols[code]):
+            return NO_CODE
+        if constant and len(found.read(found.symbols[constant] - found.first, 16)) < 16:
+            return NO_CONSTANT
+        return NO_CHOICE if not all(map(found.is_kept, found.places.get(kept, ()))) else "accepted"
+    except ValueError as error:
+        return str(error)
 
 
 class File(bytearray):
@@ -43,7 +55,7 @@ class Pe(File):
         return self.head + 136 + 8 * number
 
     def offset(self, address):
-        sections = [self.numbers("<8sIIII", self.section(name)) for name in (".text", ".rdata", ".edata", ".idata", ".reloc")]
+        sections = [self.numbers("<8sIIII", self.section(name)) for name in (".rdata", ".edata", ".idata", ".reloc")]
         return next(at + address - start for _, size, start, _, at in sections if start <= address < start + size)
 
     def at(self, number, more=0):
@@ -53,7 +65,8 @@ class Pe(File):
 
 def linked_for_windows():
     """A DLL with the Rust crate's kernels, and with functions that have the names of those for C."""
-    stubs = "".join(f'.globl {name}\n{name}: ret\n.section .drectve, "yn"\n.ascii " -export:{name}"\n.text\n' for name in NAMES)
+    stubs = "".join(f'.globl {name}\n{name}: ret\n.section .drectve, "yn"\n.ascii " -export:{name}"\n.text\n'
+                    for name in NAMES)
     text = "".join((RUST / f"{part}.s").read_text() for part in ("coff", "x86_64_v2", "x86_64_v3", "end"))
     with tempfile.TemporaryDirectory() as folder:
         pathlib.Path(folder, "source.s").write_text(f".intel_syntax noprefix\n{text}.text\n{stubs}")
@@ -99,6 +112,11 @@ def names_of_exports(change):
     return changed
 
 
+def exported(place):
+    """The first function that is exported lies at another place."""
+    return lambda file: file.put("<I", file.offset(file.numbers("<I", file.at(0, 28))[0]), place(file))
+
+
 def swapped(file, names):
     file.put("<II", names, *reversed(file.numbers("<II", names)))
 
@@ -107,40 +125,38 @@ def twice(file, names):
     file.put("<I", names, *file.numbers("<I", names + 4))
 
 
-CONSTANT_OF_FILL = "const_hex_1_0_0_constant_4_v2"
-FILL, CONSTANT, ENDS = "const_hex_1_0_0_fill_v2", "a place that has no constant, or may be written", "it leaves the code"
-FLAGS, WRONG = 36, "a place|a wrong character|is left out"
+FILL, CONSTANT_OF_FILL, FLAGS = "const_hex_1_0_0_fill_v2", "const_hex_1_0_0_constant_4_v2", 36
+NO_CONSTANT, NO_CODE, NO_CHOICE = "no constant", "no code", "no byte that is kept"
 PES = [
-    ("nothing", lambda file: None, FILL, "accepted"),
-    ("constants that can be written", section(".rdata", FLAGS, lambda old: (old | 1 << 31,)), FILL, CONSTANT),
-    ("constants that others have", section(".rdata", FLAGS, lambda old: (old | 1 << 28,)), "", "is written, or nowhere|accepted"),
-    ("constants that are not in the file", section(".rdata", FLAGS, lambda old: (old | 0x80,)), FILL, CONSTANT),
-    ("code that can be written", section(".text", FLAGS, lambda old: (old | 1 << 31,)), FILL, ENDS),
-    ("code that is discarded", section(".text", FLAGS, lambda old: (old | 1 << 25,)), FILL, ENDS),
-    ("code in a part of the file", section(".text", 20, lambda old: (old + 16,)), "", "begins in a page"),
-    ("code in a page", section(".text", 12, lambda old: (old + 16,)), "", "begins in a page"),
-    ("sections in a page", lambda file: file.put("<I", file.head + 56, 512), "", "begins in a page"),
-    ("parts of the file that are small", lambda file: file.put("<I", file.head + 60, 16), "", "begins in a page"),
-    ("sections that meet", section(".rdata", 12, lambda old: (4096,)), "", "share a page"),
-    ("a configuration", lambda file: file.put("<II", file.table(10), 4096, 320), "", "a table for the loader"),
-    ("imports that are delayed", lambda file: file.put("<II", file.table(13), 4096, 32), "", "a table for the loader"),
-    ("a relocation of constants", base_relocation(CONSTANT_OF_FILL), FILL, WRONG),
-    ("a relocation of code", base_relocation(".text"), "", "accepted"),
-    ("a relocation of an unknown kind", base_relocation(".rdata", 0, 3), "", "a relocation of the kind 3"),
-    ("a relocation of the relocations", base_relocation(".reloc"), "", "is written, or nowhere"),
-    ("a relocation of imports", base_relocation(".idata"), "", "is written, or nowhere"),
-    ("a relocation of exports", base_relocation(".edata", 16), "", "is written, or nowhere"),
-    ("relocations without an end", lambda file: file.put("<I", file.at(5, 4), 0), "", "cut or damaged|without an end"),
-    ("imports over constants", imported(CONSTANT_OF_FILL), FILL, WRONG),
-    ("a number for threads over a constant", threads, FILL, WRONG),
-    ("names that are not sorted", names_of_exports(swapped), "", "not sorted"),
-    ("a name twice", names_of_exports(twice), "", "not sorted"),
-    ("a name that is missing", lambda file: file.put("<I", file.at(0, 24), 9), "", "does not find const_hex_version"),
-    ("a function of another file", lambda file: file.put("<I", file.offset(file.numbers("<I", file.at(0, 28))[0]),
-                                                         file.numbers("<I", file.table(0))[0] + 40), "", "no plain function"),
-    ("another function by a name", lambda file: file.put("<I", file.offset(file.numbers("<I", file.at(0, 28))[0]), 4096), "",
-     "has the places"),
-    ("a file of 32 bits", lambda file: file.put("<H", file.head + 24, 0x10B), "", "no DLL and no program of 64 bits"),
+    ("nothing", lambda file: None, "accepted"),
+    ("constants that can be written", section(".rdata", FLAGS, lambda old: (old | 1 << 31,)), NO_CONSTANT),
+    ("constants that others have", section(".rdata", FLAGS, lambda old: (old | 1 << 28,)), NO_CONSTANT),
+    ("constants that are not in the file", section(".rdata", FLAGS, lambda old: (old | 0x80,)), NO_CONSTANT),
+    ("code that can be written", section(".text", FLAGS, lambda old: (old | 1 << 31,)), NO_CODE),
+    ("code that is discarded", section(".text", FLAGS, lambda old: (old | 1 << 25,)), NO_CODE),
+    ("code in a part of the file", section(".text", 20, lambda old: (old + 16,)), "begins in a page"),
+    ("code in a page", section(".text", 12, lambda old: (old + 16,)), "begins in a page"),
+    ("sections in a page", lambda file: file.put("<I", file.head + 56, 512), "begins in a page"),
+    ("parts of the file that are small", lambda file: file.put("<I", file.head + 60, 16), "begins in a page"),
+    ("sections that meet", section(".rdata", 12, lambda old: (4096,)), "share a page"),
+    ("a configuration", lambda file: file.put("<II", file.table(10), 4096, 320), "a table for the loader"),
+    ("imports that are delayed", lambda file: file.put("<II", file.table(13), 4096, 32), "a table for the loader"),
+    ("a relocation of constants", base_relocation(CONSTANT_OF_FILL), NO_CONSTANT),
+    ("a relocation of code", base_relocation(FILL), NO_CODE),
+    ("a relocation of an unknown kind", base_relocation(".rdata", 0, 3), "a relocation of the kind 3"),
+    ("a relocation of the relocations", base_relocation(".reloc"), "is written, or nowhere"),
+    ("a relocation of imports", base_relocation(".idata"), "is written, or nowhere"),
+    ("a relocation of exports", base_relocation(".edata", 16), "is written, or nowhere"),
+    ("relocations without an end", lambda file: file.put("<I", file.at(5, 4), 0), "cut or damaged|without an end"),
+    ("imports over constants", imported(CONSTANT_OF_FILL), NO_CONSTANT),
+    ("a number for threads over a constant", threads, NO_CONSTANT),
+    ("names that are not sorted", names_of_exports(swapped), "not sorted"),
+    ("a name twice", names_of_exports(twice), "not sorted"),
+    ("a name that is missing", lambda file: file.put("<I", file.at(0, 24), 9), "does not find const_hex_version"),
+    ("a function of another file", exported(lambda file: file.numbers("<I", file.table(0))[0] + 40),
+     "no plain function"),
+    ("another function by a name", exported(lambda file: 4096), "has the places"),
+    ("a file of 32 bits", lambda file: file.put("<H", file.head + 24, 0x10B), "no DLL and no program of 64 bits"),
 ]
 
 
@@ -174,11 +190,12 @@ def linked_for_macos(processor):
     files = {"x86_64": ("dispatch", "functions_x86_64", "kernel_x86_64_v2", "kernel_x86_64_v3"),
              "arm64": ("dispatch", "functions_aarch64", "kernel_aarch64")}[processor]
     with tempfile.TemporaryDirectory() as folder:
-        pathlib.Path(folder, "more.s").write_text(".data\n.quad _const_hex_decode\n.zerofill __DATA, __bss, _more, 64, 3\n")
+        more = ".data\n.quad _const_hex_decode\n.zerofill __DATA, __bss, _more, 64, 3\n"
+        pathlib.Path(folder, "more.s").write_text(more)
         for source in [*(ASM / f"{name}.S" for name in files), "more.s"]:
             subprocess.run(["clang", f"--target={processor}-apple-macos11", "-c", source], check=True, cwd=folder)
-        command = [LLD, "-arch", processor, "-platform_version", "macos", "11.0", "11.0", "-dylib", "-o", "library.dylib",
-                   *(f"{name}.o" for name in (*files, "more"))]
+        command = [LLD, "-arch", processor, "-platform_version", "macos", "11.0", "11.0", "-dylib", "-o",
+                   "library.dylib", *(f"{name}.o" for name in (*files, "more"))]
         subprocess.run(command, check=True, capture_output=True, cwd=folder)
         return pathlib.Path(folder, "library.dylib").read_bytes()
 
@@ -239,57 +256,57 @@ def with_flags(flags):
     return lambda edges: edges.__setitem__(0, (edges[0][0], edges[0][1][:1] + bytes([flags]) + edges[0][1][2:]))
 
 
-CHECK = "const_hex_kernel_check"
 MACH_OS = [
-    ("nothing", "x86_64", lambda file: None, CHECK, "accepted"),
-    ("nothing", "arm64", lambda file: None, "const_hex_version", "accepted"),
-    ("an unknown command", "x86_64", lambda file: file.put("<I", file.commands(0x26)[0], 0x2C), "", "the command 0x2c"),
+    ("nothing", "x86_64", lambda file: None, "accepted"),
+    ("nothing", "arm64", lambda file: None, "accepted"),
+    ("an unknown command", "x86_64", lambda file: file.put("<I", file.commands(0x26)[0], 0x2C), "the command 0x2c"),
     # Of two tables of symbols, linkers take the first.
-    ("a second table of symbols", "x86_64", lambda file: file.put("<I", file.commands(0x26)[0], 2), "", "the command 0x2,"),
-    ("a second tree of names", "x86_64", lambda file: file.add(0x80000033, bytes(8)), "", "two trees of names"),
-    ("code that can be written", "x86_64", segment("__TEXT", 56, 7, 7), "", "a segment that is 7"),
-    ("constants that cannot be read", "x86_64", segment("__TEXT", 56, 4, 4), "", "a segment that is 4"),
-    ("code that is encrypted", "x86_64", segment("__TEXT", 68, 8, form="<I"), "", "a segment that is 5, 8"),
-    ("a choice that is closed", "x86_64", segment("__DATA", 68, 16, form="<I"), CHECK, "a place that has no constant"),
-    ("a segment in a page", "x86_64", segment("__DATA", 24, 0x4010, form="<Q"), "", "no whole pages"),
-    ("a segment in a page of the file", "x86_64", segment("__DATA", 40, 0x4010, form="<Q"), "", "no whole pages"),
-    ("a segment that ends in a page", "x86_64", segment("__DATA", 48, 16, form="<Q"), "", "no whole pages"),
-    ("pages of 16 KB", "arm64", segment("__DATA", 24, 0x5000, form="<Q"), "", "no whole pages"),
-    ("code from another place of the file", "x86_64", segment("__TEXT", 40, 4096, form="<Q"), "", "does not begin with"),
-    ("relocations of the choice", "x86_64", opcodes(0, 0x51), CHECK, "a place that has no constant"),
-    ("many relocations", "x86_64", opcodes(0, 0x60, 2), CHECK, "a place that has no constant"),
-    ("relocations with a distance", "x86_64", opcodes(0, 0x70, 8), CHECK, "a place that has no constant"),
-    ("relocations with gaps", "x86_64", opcodes(0, 0x80, 2, 8), CHECK, "a place that has no constant"),
-    ("a move before a relocation", "x86_64", opcodes(0, 0x30, 8, 0x41, 0x51), CHECK, "accepted"),
-    ("relocations without an end", "x86_64", opcodes(0, 0x60, 255, 255, 255, 127), "", "without an end"),
-    ("a relocation of code", "x86_64", opcodes(0, 0x51, to="_const_hex_version"), "", "what must not be written"),
-    ("a binding of the choice", "x86_64", opcodes(1, 0x11, 0x20, 1, 0x40, 95, 0, 0x51, 0x60, 1, 0x90), CHECK,
-     "a place that has no constant"),
-    ("a binding with a distance", "x86_64", opcodes(2, 0xA0, 8), CHECK, "a place that has no constant"),
-    ("a binding with words", "x86_64", opcodes(3, 0xB1), CHECK, "a place that has no constant"),
-    ("bindings with gaps", "x86_64", opcodes(1, 0xC0, 2, 8), CHECK, "a place that has no constant"),
-    ("a binding of code", "x86_64", opcodes(1, 0x90, to="_const_hex_version"), "", "what must not be written"),
-    ("a chain over the choice", "x86_64", chain("choice"), CHECK, "a place that has no constant"),
-    ("a chain over code", "x86_64", chain("_const_hex_version"), "", "what must not be written"),
-    ("a chain of an unknown form", "x86_64", chain("choice", 1), "", "of a form that is not known"),
-    ("many chains in a page", "x86_64", chain("choice", flag=0x8000), "", "of a form that is not known"),
-    ("a tree of names", "x86_64", tree(lambda edges: None), "", "accepted"),
-    ("a branch to nothing", "x86_64", tree(lambda edges: edges.insert(0, ("_const_hex_v", b"\0"))), "",
+    ("a second table of symbols", "x86_64", lambda file: file.put("<I", file.commands(0x26)[0], 2),
+     "the command 0x2,"),
+    ("a second tree of names", "x86_64", lambda file: file.add(0x80000033, bytes(8)), "two trees of names"),
+    ("code that can be written", "x86_64", segment("__TEXT", 56, 7, 7), "a segment that is 7"),
+    ("constants that cannot be read", "x86_64", segment("__TEXT", 56, 4, 4), "a segment that is 4"),
+    ("code that is encrypted", "x86_64", segment("__TEXT", 68, 8, form="<I"), "a segment that is 5, 8"),
+    ("a choice that is closed", "x86_64", segment("__DATA", 68, 16, form="<I"), NO_CHOICE),
+    ("a segment in a page", "x86_64", segment("__DATA", 24, 0x4010, form="<Q"), "no whole pages"),
+    ("a segment in a page of the file", "x86_64", segment("__DATA", 40, 0x4010, form="<Q"), "no whole pages"),
+    ("a segment that ends in a page", "x86_64", segment("__DATA", 48, 16, form="<Q"), "no whole pages"),
+    ("pages of 16 KB", "arm64", segment("__DATA", 24, 0x5000, form="<Q"), "no whole pages"),
+    ("code from elsewhere in the file", "x86_64", segment("__TEXT", 40, 4096, form="<Q"), "does not begin with"),
+    ("relocations of the choice", "x86_64", opcodes(0, 0x51), NO_CHOICE),
+    ("many relocations", "x86_64", opcodes(0, 0x60, 2), NO_CHOICE),
+    ("relocations with a distance", "x86_64", opcodes(0, 0x70, 8), NO_CHOICE),
+    ("relocations with gaps", "x86_64", opcodes(0, 0x80, 2, 8), NO_CHOICE),
+    ("a move before a relocation", "x86_64", opcodes(0, 0x30, 8, 0x41, 0x51), "accepted"),
+    ("relocations without an end", "x86_64", opcodes(0, 0x60, 255, 255, 255, 127), "without an end"),
+    ("a relocation of code", "x86_64", opcodes(0, 0x51, to="_const_hex_version"), "what must not be written"),
+    ("a binding of the choice", "x86_64", opcodes(1, 0x11, 0x20, 1, 0x40, 95, 0, 0x51, 0x60, 1, 0x90),
+     NO_CHOICE),
+    ("a binding with a distance", "x86_64", opcodes(2, 0xA0, 8), NO_CHOICE),
+    ("a binding with words", "x86_64", opcodes(3, 0xB1), NO_CHOICE),
+    ("bindings with gaps", "x86_64", opcodes(1, 0xC0, 2, 8), NO_CHOICE),
+    ("a binding of code", "x86_64", opcodes(1, 0x90, to="_const_hex_version"), "what must not be written"),
+    ("a chain over the choice", "x86_64", chain("choice"), NO_CHOICE),
+    ("a chain over code", "x86_64", chain("_const_hex_version"), "what must not be written"),
+    ("a chain of an unknown form", "x86_64", chain("choice", 1), "of a form that is not known"),
+    ("many chains in a page", "x86_64", chain("choice", flag=0x8000), "of a form that is not known"),
+    ("a tree of names", "x86_64", tree(lambda edges: None), "accepted"),
+    ("a branch to nothing", "x86_64", tree(lambda edges: edges.insert(0, ("_const_hex_v", b"\0"))),
      "does not find const_hex_version"),
-    ("a branch that is missing", "x86_64", tree(lambda edges: edges.pop(0)), "", "does not find const_hex_version"),
-    ("a function of another library", "x86_64", tree(with_flags(8)), "", "is no plain function"),
-    ("a function that others may replace", "x86_64", tree(with_flags(4)), "", "is no plain function"),
-    ("a function that dyld picks", "x86_64", tree(with_flags(16)), "", "is no plain function"),
-    ("another function in the tree", "x86_64", tree(lambda edges: edges.__setitem__(0, (edges[0][0], edges[1][1]))), "",
+    ("a branch that is missing", "x86_64", tree(lambda edges: edges.pop(0)), "does not find const_hex_version"),
+    ("a function of another library", "x86_64", tree(with_flags(8)), "is no plain function"),
+    ("a function that others may replace", "x86_64", tree(with_flags(4)), "is no plain function"),
+    ("a function that dyld picks", "x86_64", tree(with_flags(16)), "is no plain function"),
+    ("another function in the tree", "x86_64", tree(lambda edges: edges.__setitem__(0, (edges[0][0], edges[1][1]))),
      "has the places"),
-    ("a name that is picked", "x86_64", lambda file: file.put("<H", file.symbol("_const_hex_version") + 6, 0x100), "",
+    ("a name that is picked", "x86_64", lambda file: file.put("<H", file.symbol("_const_hex_version") + 6, 0x100),
      "a symbol of another kind"),
-    ("an absolute name", "x86_64", lambda file: file.put("<B", file.symbol("_const_hex_version") + 4, 3), "",
+    ("an absolute name", "x86_64", lambda file: file.put("<B", file.symbol("_const_hex_version") + 4, 3),
      "a symbol of another kind"),
     ("another function by a name", "x86_64", lambda file: file.put(
-        "<Q", file.symbol("_const_hex_version") + 8, *file.numbers("<Q", file.symbol("_const_hex_check") + 8)), "",
+        "<Q", file.symbol("_const_hex_version") + 8, *file.numbers("<Q", file.symbol("_const_hex_check") + 8)),
      "has the places"),
-    ("an object", "x86_64", lambda file: file.put("<I", 12, 1), "", "no dylib and no program"),
+    ("an object", "x86_64", lambda file: file.put("<I", 12, 1), "no dylib and no program"),
 ]
 # What a module has beside the package's functions.
 MODULES = [
@@ -314,10 +331,10 @@ class TestPe(unittest.TestCase):
     def setUpClass(cls):
         cls.right = linked_for_windows()
 
-    def refuse(self, change, symbol, wanted):
+    def refuse(self, change, wanted):
         file = Pe(self.right)
         change(file)
-        self.assertRegex(said(bytes(file), symbol), wanted)
+        self.assertRegex(read(bytes(file), FILL, CONSTANT_OF_FILL), wanted)
 
 
 @unittest.skipUnless(shutil.which(LLD) and shutil.which("clang"), "clang or ld64.lld is missing")
@@ -326,10 +343,10 @@ class TestMachO(unittest.TestCase):
     def setUpClass(cls):
         cls.right = {processor: linked_for_macos(processor) for processor in ("x86_64", "arm64")}
 
-    def refuse(self, processor, change, symbol, wanted):
+    def refuse(self, processor, change, wanted):
         file = MachO(self.right[processor])
         change(file)
-        self.assertRegex(said(bytes(file), symbol), wanted)
+        self.assertRegex(read(bytes(file), "const_hex_version", kept="choice"), wanted)
 
 
 class TestModules(unittest.TestCase):
