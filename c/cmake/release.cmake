@@ -12,11 +12,10 @@ set(CPACK_EXTERNAL_PACKAGE_SCRIPT ${PROJECT_SOURCE_DIR}/cmake/archive.cmake)
 set(CPACK_PACKAGE_FILE_NAME ${RELEASE})
 set(CPACK_PACKAGE_CHECKSUM SHA256)
 set(CPACK_INSTALL_CMAKE_PROJECTS ${PROJECT_BINARY_DIR} const_hex ALL / ${PROJECT_BINARY_DIR} const_hex archive /)
-set(CPACK_CONST_HEX_ARCHIVE ${PROJECT_BINARY_DIR}/libconst_hex.a)
 set(CPACK_VERBATIM_VARIABLES ON)
 # `cpack -G DEB` makes a Debian package of what is installed, with its copyright and changelog as Debian wants them. It is
 # for a build with the prefix /usr. What lintian still says has reasons: the library is not stripped, since
-# `machine_code/prove --sums` finds its code by names; it needs no other, not even that of C; and one package has the
+# `machine_code/prove` finds its functions by names; it needs no other, not even that of C; and one package has the
 # library, its link and its header, so it is not named after the library's version.
 set(CPACK_PROJECT_CONFIG_FILE ${PROJECT_SOURCE_DIR}/cmake/debian.cmake)
 set(CPACK_DEBIAN_PACKAGE_NAME libconst-hex-dev)

@@ -1,7 +1,5 @@
 # Tests of the files of both libraries.
 set(SHARED $<TARGET_FILE:const_hex>)
-test(library.names_of_parameters NEEDS python3 COMMAND python3 -E ${SOURCE}/names.py
-  ${PROJECT_SOURCE_DIR}/const_hex.h ${PROJECT_SOURCE_DIR}/../crates/const_hex_c/src/lib.rt)
 # The loader binds all at once, and then closes what it has filled in.
 foreach(row "soname=SONAME.*\\[libconst_hex.so.1\\]" bind_now=BIND_NOW relro=GNU_RELRO
     "stack_is_not_executable=GNU_STACK.* RW ")
@@ -28,21 +26,11 @@ if(NOT CONST_HEX_CARGO)
   test(library.variables COMMAND sh -c "'${CMAKE_NM}' '$<TARGET_FILE:const_hex_static>' > variables &&
     grep -q ' T const_hex_decode$' variables || exit
     grep -i ' [bcdgs] ' variables | grep -v ' b choice$'; test $? -eq 1")
-  # Both libraries, and a program with one of them, have the code that was proved.
-  set(PROVED python3 -EB ${PROJECT_SOURCE_DIR}/../machine_code/prove --sums)
-  test(library.static_code NEEDS python3 COMMAND ${PROVED} $<TARGET_FILE:const_hex_static>)
-  test(library.shared_code NEEDS python3 COMMAND ${PROVED} ${SHARED})
-  test(library.linked_code NEEDS python3 COMMAND ${PROVED} $<TARGET_FILE:linked_static>)
-  # So has what clang makes of the files, for ELF and for Mach-O.
-  set(files dispatch functions_x86_64 kernel_x86_64_v2 kernel_x86_64_v3)
-  if(NOT processors MATCHES "x86_64|amd64")
-    set(files dispatch functions_aarch64 kernel_aarch64)
-  endif()
   # Each kernel works on whole vectors. A loop over bytes would return the same.
   foreach(row "kernel_x86_64_v2=pshufb.*xmm" "kernel_x86_64_v3=vpshufb.*ymm" "kernel_aarch64=[.]16b")
     string(REGEX MATCH "^(.*)=(.*)" row "${row}")
     set(file ${CMAKE_MATCH_1})
-    if(file IN_LIST files)
+    if(asm/${file}.S IN_LIST sources)
       test(library.vectors_in_${file} COMMAND sh -ec
         "ar p '$<TARGET_FILE:const_hex_static>' ${file}.S.o > ${file}.o
          '${CMAKE_OBJDUMP}' -d --no-show-raw-insn ${file}.o > ${file}.code
@@ -50,14 +38,6 @@ if(NOT CONST_HEX_CARGO)
            sed -n \"/<const_hex_kernel_$name\\(_v[23]\\)\\{0,1\\}>:/,/^$/p\" ${file}.code | grep -q '${CMAKE_MATCH_2}'
          done")
     endif()
-  endforeach()
-  foreach(format linux-gnu unknown-freebsd apple-macos)
-    foreach(file ${files})
-      set(name code_for_${format}.${file})
-      test(library.${name} NEEDS python3 clang COMMAND sh -ec
-        "clang --target=${CMAKE_SYSTEM_PROCESSOR}-${format} -c '${PROJECT_SOURCE_DIR}/asm/${file}.S' -o ${name}.o
-         python3 -EB '${PROJECT_SOURCE_DIR}/../machine_code/prove' --sums ${name}.o")
-    endforeach()
   endforeach()
 endif()
 if(NOT CMAKE_CROSSCOMPILING)

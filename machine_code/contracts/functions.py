@@ -103,9 +103,8 @@ class Function:
     def starts(self, code):
         """The states at the call of the function, with any arguments."""
         state = code.processor.State()
-        at = code.function(self.symbol, self.is_local, self.level)
         regions = [part.region(state) if isinstance(part, Object) else part for part in self.regions]
-        state.start(code, self, at, regions, list(self.arguments))
+        state.start(code, self, code.start, regions, list(self.arguments))
         for condition in self.requires:
             state.assume(condition)
         nulls = [(base(name) != 0, z3.And(base(name) == 0, size == 0)) for name, size in self.empty]

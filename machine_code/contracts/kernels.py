@@ -14,7 +14,7 @@ from solver.questions import holds, require
 class Kernel(Function):
     """A function with a text of 2n characters or n bytes, and perhaps an output."""
 
-    is_called, name = True, "any text"
+    is_called, name, imported = True, "any text", {}
     # Each of the two has less than 2^63 bytes.
     requires = z3.ULT(N, 1 << 62),
     input_size, output_size = simple(2 * N), N

@@ -13,7 +13,7 @@ from contracts.functions import (FAILED, FOUND, INVALID_CHARACTER, INVALID_LENGT
                                  must_be_digits, must_be_size, must_be_unchanged, must_cover, must_find_first_invalid,
                                  of_32_bits, size_max)
 from contracts.kernels import Check as CheckKernel, Fill, must_be_decoded, must_be_digits_of
-from contracts.names import HEADER
+from contracts.names import HEADER, WITH_ERROR
 from execution.state import Region, byte, joined, simple, split, word
 from solver.questions import require
 
@@ -28,7 +28,7 @@ class Exported(Function):
 
     @property
     def symbol(self):
-        return f"const_hex_{self.function}(_nonnull)?"
+        return f"const_hex_{self.function}{'_nonnull' if self.function in WITH_ERROR else ''}"
 
 
 class Version(Exported):
@@ -114,6 +114,7 @@ class CheckRaw(CheckKernel):
     """check_raw(text, length): whether all characters are digits."""
 
     is_called, function, symbol, empty = False, "check_raw", "const_hex_check_raw", (("input", N),)
+    imported = None
     regions = TEXT,
 
     def result(self, state):

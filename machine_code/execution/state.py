@@ -1,6 +1,6 @@
 """What a machine holds: registers, memory, and what is known of them.
 
-Memory is regions at unknown bases: the input, the output, objects such as the stack or an error, and each section of
+Memory is regions at unknown bases: the input, the output, objects such as the stack or an error, and the file with its
 constants. An address is a term of 64 bits; an access has to lie inside of one region, whatever the bases are. The bytes
 of objects are kept by their offsets, those of the input have names, and the output is never read. If `_place` or `load`
 were wrong, an access outside of a buffer or a wrong byte could be accepted.
@@ -73,15 +73,18 @@ def chosen(table, index):
 
 
 class Region:
-    """So many bytes of memory at an unknown base that is a multiple of `align`. Constants have their bytes, and a table
-    of jumps where they lead. The "input", the "output" and what is "kept" between calls have these names; each other
-    region is an object."""
+    """So many bytes of memory at an unknown base that is a multiple of `align`. The constants are those of a file. The
+    "input", the "output" and what is "kept" between calls have these names; each other region is an object."""
 
-    def __init__(self, name, size, align=1, data=None, targets=None, is_writable=True):
-        self.name, self.size, self.align, self.data, self.targets = name, size, align, data, targets
+    def __init__(self, name, size, align=1, data=None, is_writable=True):
+        self.name, self.size, self.align, self.data = name, size, align, data
         self.base = z3.BitVec(f"p_{name}", 64)
         self.is_writable = is_writable and data is None and name != "input"
         self.is_object = data is None and name not in ("input", "output", "kept")
+
+
+# What is kept between calls; and how many values the offset of a constant may have, or a jump.
+KEPT, MOST = Region("kept", word(1)), 64
 
 
 class State:
@@ -100,20 +103,20 @@ class State:
         self.STACK, self.STACK_OF_CALLED = contract.stacks(self)
         on_stack = arguments[len(self.ARGUMENTS) :]
         regions = [*regions, Region("stack", word(self.STACK + self.RETURN + 8 * len(on_stack)), 16)]
-        regions += [region for _, region in code.constants.values() if region.name != "kept" or contract.is_keeping]
+        regions += [code.constants]
         self.regions = {region.name: region for region in regions}
         self.facts = [fact for region in regions for fact in facts_of(region.base & region.align - 1 == 0)]
         self.general = {name: z3.BitVec(f"g_{name}", 64) for name in self.GENERAL}
         self.vectors = {at: [z3.BitVec(f"g_v{at}_{lane}", 8) for lane in range(self.WIDTH)]
                         for at in range(self.VECTORS)}
         self.general |= dict(zip(self.ARGUMENTS, arguments))
-        # Bytes of objects by their names and offsets, the input's by the terms of their offsets, entries of tables of
-        # jumps, and where a call returns to.
+        # Bytes of objects by their names and offsets, the input's by the terms of their offsets, and where a call
+        # returns to.
         self.cells = {(region.name, at): z3.BitVec(f"g_{region.name}_{at}", 8) for region in regions
                       if region.is_object and region.name != "stack" for at in range(region.size.as_long())}
         for at, argument in enumerate(on_stack):
             self.put_cells("stack", self.STACK + self.RETURN + 8 * at, split(argument))
-        self.input, self.entries, self.calls = {}, {}, {}
+        self.input, self.calls = {}, {}
         # The parts of products that have a tenth, by their factors.
         self.tenths = {}
         # What was read of what is kept between calls, and what was stored there.
@@ -209,12 +212,11 @@ class State:
         self.must(z3.And(z3.UGE(region.size, count), z3.ULE(offset, region.size - count)),
                   f"an access may lie outside of {region.name}: {offset}")
         require(not aligned or self.holds(address & count - 1 == 0), "an access may not be aligned")
-        return region, offset
+        is_kept = region is self.code.constants and self.contract.is_keeping and self.code.keeps(offset, count)
+        return KEPT if is_kept else region, offset
 
     def load(self, address, count, aligned=False):
         region, offset = self._place(address, count, aligned)
-        if region.targets:
-            return self._entry(region, offset, count)
         if region.data is not None:
             return self._constants(region, offset, count)
         if region.name == "input":
@@ -231,38 +233,29 @@ class State:
         return known
 
     def _constants(self, region, offset, count):
-        if is_secret(offset):
-            # Where the table begins, unless that is at 0, and an index.
-            is_sum = z3.is_app_of(offset, z3.Z3_OP_BADD) and z3.is_bv_value(offset.arg(0))
-            first = offset.arg(0).as_long() if is_sum else 0
+        if is_secret(offset) and count == 1:
+            # A guess of where the table begins: the offset where all that is unknown is 0.
+            solver = z3.Solver()
+            solver.check()
+            first = solver.model().eval(offset, True).as_long()
             index = simple(offset - first)
-            is_table = count == 1 and first < len(region.data) and self.holds(z3.ULT(index, 256))
-            require(is_table, "a table that is not one of bytes")
-            table = region.data[first:][:256].ljust(256, b"\0")
-            return [simple(chosen([*map(byte, table)], z3.Extract(7, 0, index)))]
-        first, *others = values(self.facts, offset, 8)
-        lane = [byte(region.data[first + at]) for at in range(count)]
-        for value in others:
-            lane = [z3.If(offset == value, byte(region.data[value + at]), old) for at, old in enumerate(lane)]
+            table = region.data.read(first, 256)
+            require(table and self.holds(z3.ULT(index, len(table))), "a place beyond a table, or that may be written")
+            return [simple(chosen([*map(byte, table.ljust(256, b"\0"))], z3.Extract(7, 0, index)))]
+        lane = None
+        for value in values(self.facts, offset, MOST):
+            data = [byte(part) for part in region.data.read(value, count)]
+            require(len(data) == count, "a place that has no constant, or may be written")
+            lane = [z3.If(offset == value, new, old) for new, old in zip(data, lane)] if lane else data
         return list(map(simple, lane))
 
-    def _entry(self, region, offset, count):
-        """The distance of 32 bits from a table of jumps to where one leads: a number of which nothing else is known."""
-        require(count == 4, "a part of an entry")
-        entry = fresh("g" if is_secret(offset) else "p", 32)
-        self.entries |= {entry.decl().name(): (region, offset, entry)}
-        return split(entry)
-
     def jumps(self, address):
-        """The conditions under which a jump leads to places that a table has, and these places."""
-        found = [self.entries[name] for name in names(address) if name in self.entries]
-        require(len(found) == 1, "a jump to a place that is not fixed")
-        region, offset, entry = found[0]
-        self.must(address == region.base + z3.SignExt(32, entry), "a jump to a place that no table has")
-        self.must(z3.Or(*[offset == at for at in region.targets]), "a jump by a part of an entry")
-        places = {target: [offset == at for at in region.targets if region.targets[at] == target]
-                  for target in region.targets.values()}
-        return [(z3.Or(*conditions), target) for target, conditions in places.items()]
+        """The conditions under which a jump leads to places of the file, and these places."""
+        require(self.may_leak or not is_secret(address), "a jump depends on bytes that are secret")
+        base = self.code.constants.base
+        require(base.decl().name() in names(address), "a jump to a place that is not fixed")
+        offset = simple(address - base)
+        return [(offset == value, self.code.object.first + value) for value in values(self.facts, offset, MOST)]
 
     def store(self, address, lane, aligned=False):
         region, offset = self._place(address, len(lane), aligned)

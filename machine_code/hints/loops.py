@@ -18,7 +18,7 @@ def heads(code, start):
     while work:
         at, above = work.pop()
         found |= {at} & above
-        if at not in done and at in code.instructions:
+        if at not in done and at not in code.callees and at in code.instructions:
             done.add(at)
             work += [(to, above | {at}) for to in code.processor.follows(code.instructions[at])]
     return found

@@ -11,19 +11,16 @@ import z3
 
 from execution import state
 from execution.paths import Branch
-from execution.state import byte, fresh, joined, simple, split, word
+from execution.state import byte, joined, simple, split, word
 from meanings.aarch64_vectors import (by_units, constant, duplicate, either, extract, look_up, mixed, move, narrow,
                                       shift_right, widen)
 from meanings.lanes import ADD, AND, MINIMUM, MULTIPLY, OR, SUBTRACT, SUBTRACT_SATURATED, XOR
 from reading import assembled
-from reading.objects import AARCH64
+from reading.image import AARCH64
 from solver.questions import require
 
-# By what a relocation is for, as ELF numbers them.
-PAGE, LOW, LOW16, JUMP, CALL = 275, 277, 299, 282, 283
 # An address, registers in braces, or anything else without a comma.
 OPERAND = re.compile(r"\[[^]]*\]!?|\{[^}]*\}(?:\[\d+\])?|[^,\s][^,]*")
-NO_RELOCATION = "an address without its relocation, or a relocation without an address"
 SIZES = {"b": 1, "h": 2, "s": 4, "d": 8, "q": 16}
 # Of a general register: not x18, which belongs to the platform.
 NUMBER = r"(?!18\b)\d+"
@@ -67,32 +64,21 @@ def _operands(text):
 
 
 def _is_page(i, old, new):
-    """The linker writes which page the instruction has."""
-    words = [int.from_bytes(code[:4], "little") & ~0x60FFFFE0 for code in (old, new)]
-    return i.mnemonic == "adrp" and words[0] == words[1]
+    """The assembler leaves it to the linker which page the instruction has."""
+    words = [int.from_bytes(code[:4], "little") for code in (old, new)]
+    pages = words[0] >> 29 & 3 | words[0] >> 3 & 0x1FFFFC
+    to = (i.address >> 12) + pages - (pages >> 20 << 21) << 12
+    return i.mnemonic == "adrp" and (words[0] ^ words[1]) & ~0x60FFFFE0 == 0 and i.operands[1].value == to
 
 
 def _is_target(i):
     return i.mnemonic in ("b", "bl", "cbz", "cbnz", "tbz", "tbnz") or i.mnemonic.startswith("b.")
 
 
-def instructions(code, section, level):
-    """Those of a section by their addresses. One with a relocation must be what the relocation is for."""
+def instructions(code, part, level):
+    """Those of some code by their addresses."""
     command = ["aarch64-linux-gnu-as", "-march=armv8-a"]
-    found = assembled.read(section, AARCH64, _operands, command, assembled.with_distance, _is_page)
-    for address, i in found.items():
-        references = code.references_in(address, i.size)
-        kinds = {"adrp": (PAGE,), "add": (None, LOW), "ldr": (None, LOW16), "b": (None, JUMP), "bl": (CALL,)}
-        kind = references[0][1] if references else None
-        is_right = len(references) <= 1 and kind in kinds.get(i.mnemonic, (None,))
-        if references:
-            is_right &= references[0][0] == address
-        if _is_target(i):
-            to = i.operands[-1].value
-            is_right &= to == references[0][2] if references else section.address <= to < section.end
-        if not is_right:
-            found[address] = i._replace(refused=i.refused or NO_RELOCATION)
-    return found
+    return assembled.read(part, AARCH64, _operands, command, assembled.with_distance, _is_page)
 
 
 def follows(i):
@@ -205,24 +191,8 @@ def general(function, flags=None, is_kept=True):
     return handler
 
 
-def page(s, i):
-    """The page of a constant is any number, to which only the lower bits of the same constant may be added."""
-    _, _, place = s.code.references_in(i.address, i.size)[0]
-    require(s.code.constant_at(place), "an address without a constant")
-    return z3.BitVec(f"p_page_of_{place:x}", 64), s.code.constant_at(place)
-
-
 def adrp(s, i):
-    s.put(i.operands[0], page(s, i)[0])
-
-
-def add(s, i):
-    if not s.code.references_in(i.address, i.size):
-        return general(ADD)(s, i)
-    to, base, more = i.operands
-    number, (region, offset) = page(s, i)
-    require(to.size == 8 and s.number(base).eq(number) and more.kind == "number", "the page of another constant")
-    s.put(to, simple(region.base + offset))
+    s.put(i.operands[0], s.code.at(i.operands[1].value))
 
 
 def invert(s, i):
@@ -280,9 +250,6 @@ def set_if(s, i):
 def jump(s, i):
     if i.mnemonic == "bl":
         s.general["x30"] = s.return_to(s.next)
-    if s.code.references_in(i.address, i.size):
-        # The linker may put code of its own between, which changes these.
-        s.general |= {name: fresh("g", 64) for name in ("x16", "x17")}
     return i.operands[0].value
 
 
@@ -317,11 +284,6 @@ def address(s, i, registers):
     base = s.general[o.base]
     if o.base == "sp":
         s.must(base & 15 == 0, "the stack pointer is not aligned")
-    if s.code.references_in(i.address, i.size):
-        number, (region, offset) = page(s, i)
-        require(registers[0].size == 16, "a relocation for another size")
-        require(base.eq(number), "the page of another constant")
-        return region.base + offset, None
     at = simple(base + (s.general[o.index] * (1 << o.count) if o.index else o.offset))
     return at, simple(base + s.number(o.after, 8)) if o.after else at if o.is_moved else None
 
@@ -339,9 +301,8 @@ def move_base(s, i, base):
 
 
 def load(s, i):
-    """One by a relocation is aligned, or the relocation can't be applied."""
     targets, size, at, base = accessed(s, i, LOADS)
-    lane = s.load(at, size * len(targets), bool(s.code.references_in(i.address, i.size)))
+    lane = s.load(at, size * len(targets))
     move_base(s, i, base)
     for number, target in enumerate(targets):
         s.put_lane(target, lane[size * number :][:size] + [byte(0)] * (target.size - size))
@@ -356,7 +317,7 @@ def store(s, i):
 
 
 HANDLERS = {
-    "add": either(add, by_units(ADD)), "adds": general(ADD, sum_flags), "cmn": general(ADD, sum_flags, is_kept=False),
+    "add": either(general(ADD), by_units(ADD)), "adds": general(ADD, sum_flags), "cmn": general(ADD, sum_flags, is_kept=False),
     "sub": either(general(SUBTRACT), by_units(SUBTRACT)), "subs": general(SUBTRACT, difference_flags),
     "cmp": general(SUBTRACT, difference_flags, is_kept=False), "and": either(general(AND), by_units(AND)),
     "tst": general(AND, logic_flags, is_kept=False), "orr": either(general(OR), by_units(OR)),

@@ -135,7 +135,7 @@ class State(state.State):
 
     def _lay_out(self, module):
         """The stack, the data, and what the caller may use follow each other."""
-        data = sorted((section.address, section.end) for section in module.sections if not section.is_code)
+        data = [(part.address, part.address + len(part.content)) for part in module.data]
         places = [module.globals[0], *sum(data, ())]
         places += [module.places.get(name, -1) for name in ("__data_end", "__heap_base")]
         is_right = len(data) == 1 and places[0] == State.STACK and places == sorted(places) and places[-1] <= MEMORY
@@ -211,8 +211,7 @@ class State(state.State):
     def _place(self, address, count, aligned):
         """An address without a base is one of data, which lie where the module says."""
         if not any(region.base.decl().name() in names(address) for region in self.regions.values()):
-            (section, region), = self.code.constants.values()
-            address = address - section.address + region.base
+            address = self.code.at(address)
         return super()._place(address, count, aligned)
 
 

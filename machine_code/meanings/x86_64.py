@@ -15,7 +15,7 @@ from execution.state import byte, joined, simple, split, word
 from meanings.lanes import ADD, AND, OR, SUBTRACT, XOR
 from meanings.x86_64_vectors import HANDLERS as VECTORS
 from reading import assembled
-from reading.objects import X86_64
+from reading.image import X86_64
 from solver.questions import require
 
 # What a CPU has, by the levels of the x86-64 psABI, as GNU as names it.
@@ -25,7 +25,6 @@ LEVELS = {"v3": f"{V2}+xsave+avx+avx2+bmi+bmi2+f16c+fma+lzcnt+movbe", "dispatch"
 # What assemblers put between instructions, and assemble otherwise from its text.
 NOPS = "0f1f4000 0f1f440000 660f1f440000 0f1f8000000000 0f1f840000000000 660f1f840000000000".split()
 NOPS += ["66" * count + "2e0f1f840000000000" for count in range(1, 7)]
-NO_RELOCATION = "an address without its relocation, or a relocation without an address"
 SIZES = {"BYTE": 1, "WORD": 2, "DWORD": 4, "QWORD": 8, "XMMWORD": 16, "YMMWORD": 32}
 # The register that a name means, the first of its bytes, and how many.
 GENERAL = {}
@@ -63,25 +62,13 @@ def _is_jump(instruction):
     return instruction.mnemonic.startswith("j") or instruction.mnemonic == "call"
 
 
-def instructions(code, section, level):
-    """Those of a section by their addresses, for the least CPU of a level. One with a relocation has the place that
-    the linker will make of it: at its end, it is so far from there."""
+def instructions(code, part, level):
+    """Those of some code by their addresses, for the least CPU of a level."""
     operands = lambda text: [Operand(part.strip()) for part in text.split(",") if part]
     command = ["as", "--64", "-msyntax=intel", "-mnaked-reg", f"-march={LEVELS.get(level, V2)}"]
-    text_of = lambda i: assembled.with_distance(i) if _is_jump(i) else i.text
+    text_of = lambda i: ("{disp32} " if i.size > 4 else "") + assembled.with_distance(i) if _is_jump(i) else i.text
     is_same = lambda i, old, new: i.mnemonic == "nop" and old.hex() in NOPS
-    found = assembled.read(section, X86_64, operands, command, text_of, is_same)
-    for address, i in found.items():
-        after, references = address + i.size, code.references_in(address, i.size)
-        wanted = [o.offset + after for o in i.operands if o.kind == "memory" and ("rip", 1) in o.terms]
-        if _is_jump(i) and i.operands and i.operands[0].kind == "number":
-            to = i.operands[0].value
-            wanted += [to] if references or not section.address <= to < section.end else []
-        # That of the kinds 2 and 4 is the distance of 32 bits from a place to what is named.
-        named = [to + after - at for at, kind, to in references if kind in (2, 4) and at + 4 <= after]
-        if wanted != named or len(references) > 1:
-            found[address] = i._replace(refused=i.refused or NO_RELOCATION)
-    return found
+    return assembled.read(part, X86_64, operands, command, text_of, is_same)
 
 
 def follows(i):
@@ -122,9 +109,8 @@ class State(state.State):
     # Operands
     def address(self, o, i):
         if ("rip", 1) in o.terms:
-            found = self.code.constant_at(i.address + i.size + o.offset)
-            require(found and len(o.terms) == 1, "an address without a constant")
-            return found[0].base + found[1]
+            require(len(o.terms) == 1, "an address by another register")
+            return simple(self.code.at(i.address + i.size + o.offset))
         return simple(sum([self.general[name] * scale for name, scale in o.terms], word(o.offset)))
 
     def lane(self, o, i, size=None):

@@ -12,14 +12,14 @@ import re
 import subprocess
 import tempfile
 
-from reading import objects
-from reading.objects import AARCH64, X86_64
+from reading.image import AARCH64, X86_64
 
 # `refused` says why it must not be run, or is None.
 Instruction = collections.namedtuple("Instruction", "address size mnemonic operands text refused", defaults=[None])
 # By the processor: what prints its instructions, and what begins a comment there.
 COMMANDS = {X86_64: (["objdump", "-m", "i386:x86-64", "-M", "intel", "-w"], "[#<]"),
             AARCH64: (["aarch64-linux-gnu-objdump", "-m", "aarch64"], "//|<")}
+COPY = {X86_64: "objcopy", AARCH64: "aarch64-linux-gnu-objcopy"}
 LINE = re.compile(r"^\s*([0-9a-f]+):\t((?:(?:[0-9a-f]{2})+ )+)\s*\t(.*)$")
 # Each text is assembled in a place of its own, which has more bytes than an instruction, and these where none is.
 PLACE, FILL = 16, b"\xcc"
@@ -31,28 +31,29 @@ def with_distance(instruction):
     return ADDRESS.sub(lambda found: f".{int(found[1], 16) - instruction.address:+d}", instruction.text)
 
 
-def read(section, processor, operands, command, text_of, is_same):
-    """The instructions of a section, by address. `operands` reads what stands after a mnemonic. Those that the
+def read(part, processor, operands, command, text_of, is_same):
+    """The instructions of some code, by address. `operands` reads what stands after a mnemonic. Those that the
     assembler makes otherwise have a reason why they are refused: `text_of` gives what is assembled for one, and
     `is_same` says of one whose bytes differ that they are right."""
-    found = printed(section, processor, operands)
-    made, said = _assembled(command, [text_of(i) for i in found.values()])
+    (first, content), found = part, printed(part, processor, operands)
+    made, said = _assembled(processor, command, [text_of(i) for i in found.values()])
     for at, (address, i) in enumerate(found.items()):
-        start = address - section.address
-        old, new = bytes(section.content[start : start + i.size]), made[PLACE * at :][:PLACE]
+        start = address - first
+        old, new = content[start : start + i.size], made[PLACE * at :][:PLACE]
         if (said[at] or new != old.ljust(PLACE, FILL)) and not is_same(i, old, new):
             what = "; ".join(said[at]) or new.rstrip(FILL).hex()
             found[address] = i._replace(refused=f"{old.hex()} is not what the assembler makes of it: {what}")
     return found
 
 
-def printed(section, processor, operands=lambda text: ()):
-    """The instructions of a section, by address, as `objdump` prints them."""
+def printed(part, processor, operands=lambda text: ()):
+    """The instructions of some code, by address, as `objdump` prints them."""
+    first, content = part
     command, comment = COMMANDS[processor]
     with tempfile.NamedTemporaryFile() as file:
-        file.write(section.content)
+        file.write(content)
         file.flush()
-        command = [*command, "-D", "-b", "binary", f"--adjust-vma={section.address:#x}", file.name]
+        command = [*command, "-D", "-b", "binary", f"--adjust-vma={first:#x}", file.name]
         listing = subprocess.run(command, check=True, capture_output=True, text=True).stdout
     found = {}
     for match in filter(None, map(LINE.match, listing.splitlines())):
@@ -68,7 +69,7 @@ def printed(section, processor, operands=lambda text: ()):
     return found
 
 
-def _assembled(command, texts):
+def _assembled(processor, command, texts):
     """The places with what the assembler makes of each text, and what it says of each."""
     lines = [f".org {PLACE * at}, {FILL[0]}; {text}" for at, text in enumerate(texts)]
     lines += [f".org {PLACE * len(texts)}, {FILL[0]}", ""]
@@ -79,9 +80,9 @@ def _assembled(command, texts):
         run = subprocess.run(command, input="\n".join(lines), capture_output=True, text=True, env=english)
         if not file.exists():
             raise OSError(f"{command[0]} fails: {run.stderr}")
-        obj = objects.read(file.read_bytes())
+        subprocess.run([COPY[processor], "-O", "binary", "-j", ".text", file, f"{folder}/text"], check=True)
+        made = pathlib.Path(folder, "text").read_bytes()
     said = collections.defaultdict(list)
     for line, words in SAID.findall(run.stderr):
         said[int(line) - 1].append(words)
-    [made] = [section.bytes for section in obj.sections + obj.left_out if section.is_code]
     return made, said

@@ -6,8 +6,7 @@ memory. The data lie where the memory has them.
 
 import re
 import subprocess
-
-from reading.objects import ALLOCATED, Object, Section
+from collections import namedtuple
 
 SIZES = {"i32": 4, "i64": 8, "v128": 16}
 SPACE, FAIL = 1 << 32, "const_hex_decoder_fail"
@@ -15,25 +14,50 @@ SPACE, FAIL = 1 << 32, "const_hex_decoder_fail"
 OTHERS = (")", "(module", "(type", '(export "memory" (memory 0))', "(memory (;0;) 1 1)")
 
 
-class Function(Section):
+Data = namedtuple("Data", "address content")
+
+
+class Function:
     """A function with this head. Its content is a line for each instruction."""
 
     def __init__(self, name, address, head, lines):
         self.name, self.address, self.content = name, address, lines
-        self.is_code, self.is_writable, self.references = True, False, []
         self.parameters, self.results, self.locals = (
             [SIZES[type_] for part in re.findall(rf"\({kind}([^)]*)\)", head) for type_ in part.split()]
             for kind in ("param", "result", "local")
         )
 
 
-class Module(Object):
+class Module:
     """`globals` are their values at the start. Number 0 is the stack pointer, below which the stack lies.
     `mutable` has the numbers of those that may change, and `places` the addresses that it exports."""
 
     def __init__(self, content):
-        super().__init__(None, [])
-        self.content, self.functions, self.globals, self.mutable, self.places = content, [], [], set(), {}
+        self.content, self.machine, self.functions, self.data = content, None, [], []
+        self.symbols, self.exported, self.globals, self.mutable, self.places = {}, set(), [], set(), {}
+
+    @property
+    def first(self):
+        """Where the data lie, which have so many bytes."""
+        return self.data[0].address
+
+    @property
+    def size(self):
+        return len(self.data[0].content) if self.data else 0
+
+    def read(self, offset, count):
+        return self.data[0].content[offset : offset + count]
+
+    def is_kept(self, address):
+        return False
+
+    def code_at(self, address):
+        """The function with an address."""
+        return next((it for it in self.functions if it.address == address // SPACE * SPACE), None)
+
+    def name_at(self, address):
+        function = self.code_at(address)
+        return f"{function.name}+{address - function.address:#x}" if function else hex(address)
 
     def function_at(self, address):
         return next(function for function in self.functions if function.address == address)
@@ -86,10 +110,9 @@ def _add_function(module, part):
     instructions = [*lines[heads:], "return"]
     function = Function(f"function {number}", SPACE * (number + 1), " ".join(lines[:heads]), instructions)
     module.functions.append(function)
-    module.sections.append(function)
 
 
 def _add_data(module, place, text):
     characters = re.findall(r"\\([0-9a-f]{2})|([^\\])", text)
     content = bytes(int(code, 16) if code else ord(character) for code, character in characters)
-    module.sections.append(Section("data", ALLOCATED, place, 1, bytearray(content)))
+    module.data.append(Data(place, content))

@@ -1,5 +1,6 @@
-"""The archives that are tested, in the folders of build, and the module; or what these variables name."""
+"""Sources that are assembled and linked, and the module, or what this variable names."""
 
+import functools
 import os
 import pathlib
 import re
@@ -9,28 +10,19 @@ import subprocess
 import tempfile
 import unittest
 
-from reading import objects
-
-# Each run of the tests has the same layout.
-objects.SEED = 0
 TOP = pathlib.Path(__file__).resolve().parents[2]
 ASM, RUST = TOP / "c" / "asm", TOP / "rust" / "src" / "asm"
-ARCHIVE = os.environ.get("CONST_HEX_ARCHIVE", TOP / "build" / "c" / "libconst_hex.a")
-AARCH64 = os.environ.get("CONST_HEX_AARCH64", TOP / "build" / "aarch64" / "libconst_hex.a")
-KERNELS = os.environ.get("CONST_HEX_KERNELS", TOP / "build" / "rust" / "libkernels.a")
 MODULE = os.environ.get("CONST_HEX_MODULE", TOP / "js" / "src" / "const_hex.wasm")
-COMPILERS = {62: "cc", 183: "aarch64-linux-gnu-gcc"}
+X86_64, AARCH64 = "cc", "aarch64-linux-gnu-gcc"
+MEMBERS = {X86_64: ("dispatch", "kernel_x86_64_v2", "kernel_x86_64_v3", "functions_x86_64"),
+           AARCH64: ("dispatch", "kernel_aarch64", "functions_aarch64")}
 
 
-def _has(file, *programs):
-    return pathlib.Path(file).exists() and all(map(shutil.which, programs))
+needs_aarch64 = unittest.skipUnless(shutil.which(AARCH64), f"{AARCH64} is missing")
+needs_module = unittest.skipUnless(shutil.which("wat2wasm"), "wat2wasm is missing")
 
 
-needs_aarch64 = unittest.skipUnless(_has(AARCH64, COMPILERS[183]), f"{AARCH64} or its compiler is missing")
-needs_module = unittest.skipUnless(_has(MODULE, "wat2wasm"), "wat2wasm is missing")
-
-
-def assembled(text, compiler="cc"):
+def assembled(text, compiler=X86_64):
     """The bytes of the object that a source makes."""
     with tempfile.NamedTemporaryFile() as file:
         command = [compiler, "-c", "-x", "assembler-with-cpp", "-I", ASM, "-o", file.name, "-"]
@@ -38,9 +30,24 @@ def assembled(text, compiler="cc"):
         return file.read()
 
 
+def linked(text, compiler=X86_64):
+    """The bytes of the program that a source makes. A function that it calls and does not have only returns."""
+    with tempfile.TemporaryDirectory() as folder:
+        source = pathlib.Path(folder, "source.o")
+        source.write_bytes(assembled(text, compiler))
+        said = subprocess.run(["nm", "-u", source], check=True, capture_output=True, text=True).stdout
+        stub = ".globl {0}\n.hidden {0}\n.type {0}, %function\n{0}: ret\n"
+        stubs = "".join(map(stub.format, re.findall(r"\bconst_hex_\w+", said)))
+        pathlib.Path(folder, "stubs.o").write_bytes(assembled(stubs, compiler))
+        command = [compiler, "-static-pie", "-nostdlib", "-Wl,-e,0", "-Wl,--unresolved-symbols=ignore-all", "-o",
+                   "linked", "source.o", "stubs.o"]
+        subprocess.run(command, check=True, capture_output=True, cwd=folder)
+        return pathlib.Path(folder, "linked").read_bytes()
+
+
 def assembled_object(text):
     """That of a source for x86-64."""
-    return assembled(f".intel_syntax noprefix\n{text}\n")
+    return linked(f".intel_syntax noprefix\n{text}\n")
 
 
 def assembled_module(text):
@@ -57,16 +64,68 @@ class InFolder(unittest.TestCase):
         self.folder = pathlib.Path(folder.name)
 
 
-def headers_of(data):
-    """The headers of the sections of an ELF file, each after its place."""
-    [first], [size, count] = struct.unpack_from("<Q", data, 40), struct.unpack_from("<HH", data, 58)
-    return [(at, *struct.unpack_from("<IIQQQQIIQQ", data, at)) for at in range(first, first + size * count, size)]
+@functools.lru_cache(None)
+def member(name, compiler, old="", new=""):
+    """The object of a file in c/asm, in which a line has another text."""
+    text = re.sub("  +", " ", (ASM / f"{name}.S").read_text())
+    assert old in text, old
+    return assembled(re.sub(re.escape(old) + "$", lambda _: new.replace("; ", "\n"), text, flags=re.M), compiler)
 
 
-def segments_of(data):
-    """The headers of its segments, each after its place."""
-    [first], [count] = struct.unpack_from("<Q", data, 32), struct.unpack_from("<H", data, 56)
-    return [(at, *struct.unpack_from("<IIQQQQQQ", data, at)) for at in range(first, first + 56 * count, 56)]
+def shared(*options, changes=(), more="", compiler=X86_64, script=""):
+    """The shared library for C, in which lines of files have another text, with more of a source, and a script for the
+    linker, which options name as /dev/stdin."""
+    with tempfile.TemporaryDirectory() as folder:
+        texts = {name: (old, new) for name, old, new in changes}
+        objects = [member(name, compiler, *texts.get(name, ())) for name in MEMBERS[compiler]]
+        objects += [assembled(more.replace("; ", "\n"), compiler)] if more else []
+        for at, content in enumerate(objects):
+            pathlib.Path(folder, f"{at}.o").write_bytes(content)
+        command = [compiler, "-shared", "-nostdlib", "-Wl,-z,relro,-z,now", "-o", "library.so",
+                   *(f"{at}.o" for at in range(len(objects))), *options]
+        subprocess.run(command, check=True, capture_output=True, input=script.encode(), cwd=folder)
+        return pathlib.Path(folder, "library.so").read_bytes()
+
+
+class Elf(bytearray):
+    """A linked file whose fields are changed."""
+
+    def put(self, form, place, *values):
+        struct.pack_into(form, self, place, *values)
+
+    def numbers(self, form, place):
+        return struct.unpack_from(form, self, place)
+
+    @property
+    def segments(self):
+        """Their headers: place, kind, flags, offset, address, .., size in the file, and in memory."""
+        [first], [count] = self.numbers("<Q", 32), self.numbers("<H", 56)
+        return [(at, *self.numbers("<IIQQQQQQ", at)) for at in range(first, first + 56 * count, 56)]
+
+    def offset(self, address):
+        """Where a byte of memory lies in the file."""
+        return next(it[3] + address - it[4] for it in self.segments if it[1] == 1 and it[4] <= address < it[4] + it[6])
+
+    def tag(self, wanted):
+        """Where the loader's table has the value of a tag."""
+        [at] = [it[3] for it in self.segments if it[1] == 2]
+        while self.numbers("<Q", at)[0] != wanted:
+            at += 16
+        return at + 8
+
+    def table(self, tag):
+        """Where a table of the loader begins in the file."""
+        return self.offset(*self.numbers("<Q", self.tag(tag)))
+
+    def symbols(self, name, kinds=(2, 11)):
+        """The entries of a name: that of all names is a table of kind 2, and the loader's of kind 11."""
+        [first], [count] = self.numbers("<Q", 40), self.numbers("<H", 60)
+        sections = [self.numbers("<IIQQQQIIQQ", at) for at in range(first, first + 64 * count, 64)]
+        return [at for it in sections if it[1] in kinds for at in range(it[4], it[4] + it[5], 24)
+                if self.startswith(name.encode() + b"\0", sections[it[6]][4] + self.numbers("<I", at)[0])]
+
+    def value(self, name):
+        return self.numbers("<Q", self.symbols(name)[0] + 8)[0]
 
 
 def add_tests(case, check, rows):

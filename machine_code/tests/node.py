@@ -124,7 +124,7 @@ class Node:
     run in Node, and by the meanings."""
 
     def __init__(self):
-        code = Code(pathlib.Path(MODULE).read_bytes(), {None: webassembly})
+        code = Code(pathlib.Path(MODULE).read_bytes(), {None: webassembly}, "const_hex_encode", {})
         texts = sorted({i.text for function in code.object.functions
                         for i in webassembly.instructions(code, function, None).values() if i.mnemonic not in CONTROL})
         self.names = {text: f"f{at}" for at, text in enumerate(texts)}
@@ -140,9 +140,7 @@ class Node:
 
     def read(self, meanings):
         """The code as these meanings read it."""
-        code = Code(self.content, {None: meanings})
-        code.function("call")
-        return code
+        return Code(self.content, {None: meanings}, "call", {})
 
     def close(self):
         self.process.communicate()

@@ -1,182 +1,365 @@
-"""Objects that other assemblers make: they have what was proved, and are refused where a linker would change it."""
+"""Files for Windows and macOS that are made to be believed, and modules: each is refused where it is read, or where a
+function is proved."""
 
+import pathlib
 import re
 import shutil
 import struct
 import subprocess
+import tempfile
 import unittest
 
-from reading import images
-from tests.library import ASM, RUST, InFolder, add_tests
-from tests.test_linked import COUNTS, KERNELS, fault, faults
+from reading import image, library
+from tests.library import ASM, MODULE, RUST, add_tests, assembled_module, needs_module
 
-# Other objects than those of ELF that `as` makes: how clang names the system, and the directives of the Rust crate.
-SYSTEMS = [("x86_64", system, directives) for system, directives in (
-    ("linux-gnu", "elf"), ("unknown-freebsd", "elf"), ("apple-macos", "mach_o"), ("pc-windows-msvc", "coff"))]
-SYSTEMS += [*(("aarch64", *row) for _, *row in SYSTEMS), ("aarch64", "apple-ios", "mach_o")]
+MINGW, LLD = "x86_64-w64-mingw32-gcc", next(map(str, pathlib.Path("/usr/lib").glob("llvm-*/bin/ld64.lld")), "ld64.lld")
+NAMES = sorted(image.HEADER)
 
 
-@unittest.skipUnless(shutil.which("clang"), "clang is missing")
-class TestFormats(InFolder):
-    def setUp(self):
-        super().setUp()
-        self.file = self.folder / "object.o"
-
-    def assemble(self, target, text, language="assembler"):
-        command = ["clang", f"--target={target}", "-Werror", "-c", "-I", ASM, "-o", self.file, "-x", language, "-"]
-        subprocess.run(command, input=text.encode(), check=True, capture_output=True)
-
-    def of_rust(self, *parts):
-        return "".join((RUST / f"{part}.s").read_text() for part in parts)
-
-    def accept(self, is_rust, processor, system, directives):
-        """Each function of each file, by its call and its build."""
-        found = {}
-        of_c = "dispatch", f"functions_{processor}", *(f"kernel_{name}" for name in KERNELS[processor])
-        for name in KERNELS[processor] if is_rust else of_c:
-            text = self.of_rust(directives, name, "end") if is_rust else (ASM / f"{name}.S").read_text()
-            self.assemble(f"{processor}-{system}", text, "assembler" if is_rust else "assembler-with-cpp")
-            found |= faults(self.file)
-        count = 3 * len(KERNELS[processor]) if is_rust else COUNTS[processor]
-        self.assertEqual((len(found), set(found.values())), (count, {None}))
-
-    def test_symbols_of_other_kinds(self):
-        name, text = "const_hex_decode", "{0}: ret\n.globl {0}\n"
-        for system, name, text in (
-            ("apple-macos", f"_{name}", text + ".weak_definition {0}"),
-            ("apple-macos", f"_{name}", ".globl {0}\n{0} = 9"),
-            ("pc-windows-msvc", name, text + ".weak {0}"), ("pc-windows-msvc", name, ".globl {0}\n{0} = 9"),
-        ):
-            self.assemble(f"x86_64-{system}", f"{text.format(name)}\n")
-            with self.subTest(system, text=text):
-                self.assertRegex(fault(self.file), "is a symbol of another kind")
-        data = bytearray(self.file.read_bytes())
-        with self.assertRaisesRegex(ValueError, "Mach-O that is no object"):
-            images.read(b"\xcf\xfa\xed\xfe" + struct.pack("<III", 0x01000007, 3, 2) + data)
-
-    def test_addend_in_an_instruction(self):
-        """COFF has it there, and the linker adds it. Some add what Mach-O has there."""
-        text = self.of_rust("coff", "aarch64", "end")
-        old = re.search("\tadd_label .*", text)[0]
-        self.assemble("aarch64-pc-windows-msvc", text.replace(old, f"{old} + 4", 1))
-        self.assertEqual(fault(self.file), "an addend in an instruction")
-        self.assemble("aarch64-apple-macos", self.of_rust("mach_o", "aarch64", "end"))
-        data = bytearray(self.file.read_bytes())
-        [start], [table] = struct.unpack_from("<I", data, 32 + 72 + 48), struct.unpack_from("<I", data, 32 + 72 + 56)
-        # The last relocation of the code, which stands first.
-        data[start + struct.unpack_from("<I", data, table)[0] + 1] |= 4
-        self.file.write_bytes(data)
-        self.assertEqual(fault(self.file), "an addend in an instruction")
-
-    def made(self, system, change=lambda text: text):
-        """The object with the kernels for x86-64-v3 that another assembler makes."""
-        directives = {"apple-macos": "mach_o", "pc-windows-msvc": "coff"}[system]
-        self.assemble(f"x86_64-{system}", change(self.of_rust(directives, "x86_64_v3", "end")))
-        return self.file
-
-    def places(self, system):
-        """Where the functions and constants lie."""
-        places = images.read(self.made(system).read_bytes()).places
-        return {name[16:-3]: min(places[name]) for name in places if name.startswith("const_hex_1_0_0_")}
-
-    def refuse_relocation(self, system, old, new, said):
-        """The object has the same bytes where its sections lie, but the linker puts others there, or other sections.
-        Names have no beginning here, and in braces stands how many bytes come after `check` where a constant lies."""
-        places = self.places(system)
-        old, new = [re.sub(r"\b(check|fill|constant)(\w*)", r"const_hex_1_0_0_\1\2_v3", text) for text in (old, new)]
-        new = new.format(places["constant_1"] - places["check"], places["constant_1"] - places["fill"])
-        self.assertRegex(fault(self.made(system, lambda text: text.replace(old, new, 1))), said)
-
-    def test_fields_of_coff(self):
-        """A field that two relocations write, and a section that says that it has more of them."""
-        data = bytearray(self.made("pc-windows-msvc").read_bytes())
-        [count] = struct.unpack_from("<H", data, 2)
-        headers = [20 + 40 * at for at in range(count)]
-        header = next(at for at in headers if struct.unpack_from("<H", data, at + 32)[0] > 2)
-        [table], first = struct.unpack_from("<I", data, header + 24), struct.unpack_from("<H", data, header + 32)
-        twice = data.copy()
-        struct.pack_into("<I", twice, table + 10, *struct.unpack_from("<I", data, table))
-        data[header + 39] |= 1
-        for content, said in ((twice, "a relocation at 0x"), (data, "more relocations than its header says")):
-            self.file.write_bytes(content)
-            self.assertRegex(fault(self.file), said)
-
-    def test_table_of_jumps(self):
-        """Mach-O has its distances by two symbols, of which one is the table's."""
-        text = (ASM / "functions_x86_64.S").read_text()
-        table, version = "const_hex_constant_1", "SYMBOL(const_hex_version)"
-        entry = re.search(rf"\.long\s+\d+b - {table}\n", text)[0]
-        for new, said in ((entry, None), (entry.replace(table, f"{version} - {{}}"), "a relocation at 0x0")):
-            if said:
-                places = images.read(self.file.read_bytes()).places
-                new = new.format(min(places[table]) - min(places["const_hex_version"]))
-            self.assemble("x86_64-apple-macos", text.replace(entry, new, 1), "assembler-with-cpp")
-            self.assertRegex(str(fault(self.file)), str(said))
-
-    def test_alignment(self):
-        """The linker may place a section at any multiple of what its header says, wherever it lies in the object."""
-        no_alignment = lambda text: text.replace(".p2align \\alignment", ".p2align 0")
-        file = self.made("pc-windows-msvc", no_alignment)
-        self.assertRegex(fault(file), "is not aligned, or")
-        data = bytearray(file.read_bytes())
-        for at in range(20, 20 + 40 * struct.unpack_from("<H", data, 2)[0], 40):
-            data[at + 38] &= 0x0F
-        file.write_bytes(data)
-        self.assertRegex(fault(file), "is not aligned, or")
-        file = self.made("apple-macos")
-        data = bytearray(file.read_bytes())
-        # Of the second section, which has the constants.
-        for alignment, said in ((0, "is not aligned, or"), (12, "a section that is not aligned")):
-            struct.pack_into("<I", data, 32 + 72 + 80 + 52, alignment)
-            file.write_bytes(data)
-            self.assertRegex(fault(file), said)
-
-    def test_sections_of_other_kinds(self):
-        constants = "__TEXT,__const"
-        for system, old, new, said in (
-            ("apple-macos", constants, "__TEXT,__literal16,16byte_literals", "the linker may merge"),
-            ("apple-macos", constants, "OTHER,__const", "or can be written"),
-            ("pc-windows-msvc", '"dr"', '"dr", discard, \\name', "or take from another object"),
-        ):
-            with self.subTest(new):
-                self.assertRegex(fault(self.made(system, lambda text: text.replace(old, new))), said)
-
-    def test_symbol_within_a_function(self):
-        """A file of Mach-O may say that the linker can move what comes after each symbol."""
-        file = self.made("apple-macos", lambda text: text + "other = const_hex_1_0_0_check_v3 + 6\n")
-        self.assertEqual(fault(file), None)
-        data = bytearray(file.read_bytes())
-        data[25] |= 0x20
-        file.write_bytes(data)
-        self.assertRegex(fault(file), "a symbol within it")
-
-    def test_field_of_a_section_of_mach_o(self):
-        """It has the number of the section, beside which the linker leaves it."""
-        data, places = bytearray(self.made("apple-macos").read_bytes()), self.places("apple-macos")
-        # Of the first section of the first segment: where the first relocation is, which stands last.
-        [table, count] = struct.unpack_from("<II", data, 32 + 72 + 56)
-        [start] = struct.unpack_from("<I", data, 32 + 72 + 48)
-        at = table + 8 * (count - 1)
-        [offset] = struct.unpack_from("<I", data, at)
-        struct.pack_into("<i", data, start + offset, places["constant_1"] - offset - 4)
-        for number, said in ((2, None), (1, f"a relocation at {offset:#x}")):
-            struct.pack_into("<I", data, at + 4, number | 1 << 24 | 2 << 25 | 1 << 28)
-            self.file.write_bytes(data)
-            self.assertRegex(str(fault(self.file)), said or "None")
+def read(data, code, constant=None, kept=None):
+    """What is wrong with a file, or with code, a constant, and the byte that is kept in it, which have these names."""
+    try:
+        found = library.whole(data)
+        if not found.code_at(found.symbols[code]):
+            return NO_CODE
+        if constant and len(found.read(found.symbols[constant] - found.first, 16)) < 16:
+            return NO_CONSTANT
+        return NO_CHOICE if not all(map(found.is_kept, found.places.get(kept, ()))) else "accepted"
+    except ValueError as error:
+        return str(error)
 
 
-COFF, MACH_O, CONSTANT, NUMBER = "pc-windows-msvc", "apple-macos", "[rip + constant_1]", "cmp    rsi,0x81"
-add_tests(TestFormats, TestFormats.refuse_relocation, [
-    ("a number by its distance to the program", COFF, NUMBER, ".byte 0x48,0x81,0xfe; .rva check + 0x81",
-     "a relocation at 0x35"),
-    ("a number by its distance to a constant", COFF, NUMBER,
-     ".byte 0x48,0x81,0xfe; .long constant_1 - . + 0xb6 - {0}", "a relocation at 0x35"),
-    *((f"{what} on {system}", system, CONSTANT, new, said) for system in (COFF, MACH_O) for what, new, said in (
-        ("a constant by its distance to the function", "[rip + check + {0}]", "no relocation"),
-        ("a constant by its distance to another function", "[rip + fill + {1}]",
-         "a relocation at 0x45|no relocation"))),
-])
-# Rust has COFF, too.
-add_tests(TestFormats, TestFormats.accept, [
-    (f"{'Rust' if is_rust else 'C'} for {row[1]} on {row[0]}", is_rust, *row)
-    for is_rust in (False, True) for row in SYSTEMS if is_rust or row[2] != "coff"])
+class File(bytearray):
+    """A file whose fields are changed."""
+
+    def put(self, form, place, *values):
+        struct.pack_into(form, self, place, *values)
+
+    def numbers(self, form, place):
+        return struct.unpack_from(form, self, place)
+
+
+class Pe(File):
+    """Its sections are a name, sizes, places in memory and in the file, .., and flags."""
+
+    @property
+    def head(self):
+        return self.numbers("<I", 60)[0]
+
+    def section(self, name):
+        [count], [size] = self.numbers("<H", self.head + 6), self.numbers("<H", self.head + 20)
+        return next(at for at in range(self.head + 24 + size, self.head + 24 + size + 40 * count, 40)
+                    if self[at : at + 8].rstrip(b"\0") == name.encode())
+
+    def table(self, number):
+        return self.head + 136 + 8 * number
+
+    def offset(self, address):
+        sections = [self.numbers("<8sIIII", self.section(name)) for name in (".rdata", ".edata", ".idata", ".reloc")]
+        return next(at + address - start for _, size, start, _, at in sections if start <= address < start + size)
+
+    def at(self, number, more=0):
+        """Where a table of the loader lies in the file."""
+        return self.offset(self.numbers("<I", self.table(number))[0]) + more
+
+
+def linked_for_windows():
+    """A DLL with the Rust crate's kernels, and with functions that have the names of those for C."""
+    stubs = "".join(f'.globl {name}\n{name}: ret\n.section .drectve, "yn"\n.ascii " -export:{name}"\n.text\n'
+                    for name in NAMES)
+    text = "".join((RUST / f"{part}.s").read_text() for part in ("coff", "x86_64_v2", "x86_64_v3", "end"))
+    with tempfile.TemporaryDirectory() as folder:
+        pathlib.Path(folder, "source.s").write_text(f".intel_syntax noprefix\n{text}.text\n{stubs}")
+        subprocess.run([MINGW, "-shared", "source.s", "-o", "library.dll"], check=True, capture_output=True, cwd=folder)
+        return pathlib.Path(folder, "library.dll").read_bytes()
+
+
+def section(name, at, change, form="<I"):
+    return lambda file: file.put(form, file.section(name) + at, *change(*file.numbers(form, file.section(name) + at)))
+
+
+def place_of(file, name):
+    """Where a section begins, or a symbol lies."""
+    return file.numbers("<I", file.section(name) + 12)[0] if name[0] == "." else library.read(bytes(file)).symbols[name]
+
+
+def base_relocation(name, more=0, kind=10):
+    """The first relocation writes to a section, or where a symbol lies."""
+
+    def changed(file):
+        place = place_of(file, name) + more
+        file.put("<I", file.at(5), place & ~4095)
+        file.put("<H", file.at(5, 8), kind << 12 | place & 4095)
+
+    return changed
+
+
+def imported(name):
+    """The address of what is imported is written where a symbol lies."""
+    return lambda file: file.put("<I", file.at(1, 16), place_of(file, name))
+
+
+def threads(file):
+    """The number of a thread is written over a constant."""
+    file.put("<Q", file.at(9, 16), file.numbers("<Q", file.head + 48)[0] + place_of(file, CONSTANT_OF_FILL))
+
+
+def names_of_exports(change):
+    def changed(file):
+        [names] = file.numbers("<I", file.at(0, 32))
+        change(file, file.offset(names))
+
+    return changed
+
+
+def exported(place):
+    """The first function that is exported lies at another place."""
+    return lambda file: file.put("<I", file.offset(file.numbers("<I", file.at(0, 28))[0]), place(file))
+
+
+def swapped(file, names):
+    file.put("<II", names, *reversed(file.numbers("<II", names)))
+
+
+def twice(file, names):
+    file.put("<I", names, *file.numbers("<I", names + 4))
+
+
+FILL, CONSTANT_OF_FILL, FLAGS = "const_hex_1_0_0_fill_v2", "const_hex_1_0_0_constant_4_v2", 36
+NO_CONSTANT, NO_CODE, NO_CHOICE = "no constant", "no code", "no byte that is kept"
+PES = [
+    ("nothing", lambda file: None, "accepted"),
+    ("constants that can be written", section(".rdata", FLAGS, lambda old: (old | 1 << 31,)), NO_CONSTANT),
+    ("constants that others have", section(".rdata", FLAGS, lambda old: (old | 1 << 28,)), NO_CONSTANT),
+    ("constants that are not in the file", section(".rdata", FLAGS, lambda old: (old | 0x80,)), NO_CONSTANT),
+    ("code that can be written", section(".text", FLAGS, lambda old: (old | 1 << 31,)), NO_CODE),
+    ("code that is discarded", section(".text", FLAGS, lambda old: (old | 1 << 25,)), NO_CODE),
+    ("code in a part of the file", section(".text", 20, lambda old: (old + 16,)), "begins in a page"),
+    ("code in a page", section(".text", 12, lambda old: (old + 16,)), "begins in a page"),
+    ("sections in a page", lambda file: file.put("<I", file.head + 56, 512), "begins in a page"),
+    ("parts of the file that are small", lambda file: file.put("<I", file.head + 60, 16), "begins in a page"),
+    ("sections that meet", section(".rdata", 12, lambda old: (4096,)), "share a page"),
+    ("a configuration", lambda file: file.put("<II", file.table(10), 4096, 320), "a table for the loader"),
+    ("imports that are delayed", lambda file: file.put("<II", file.table(13), 4096, 32), "a table for the loader"),
+    ("a relocation of constants", base_relocation(CONSTANT_OF_FILL), NO_CONSTANT),
+    ("a relocation of code", base_relocation(FILL), NO_CODE),
+    ("a relocation of an unknown kind", base_relocation(".rdata", 0, 3), "a relocation of the kind 3"),
+    ("a relocation of the relocations", base_relocation(".reloc"), "is written, or nowhere"),
+    ("a relocation of imports", base_relocation(".idata"), "is written, or nowhere"),
+    ("a relocation of exports", base_relocation(".edata", 16), "is written, or nowhere"),
+    ("relocations without an end", lambda file: file.put("<I", file.at(5, 4), 0), "cut or damaged|without an end"),
+    ("imports over constants", imported(CONSTANT_OF_FILL), NO_CONSTANT),
+    ("a number for threads over a constant", threads, NO_CONSTANT),
+    ("names that are not sorted", names_of_exports(swapped), "not sorted"),
+    ("a name twice", names_of_exports(twice), "not sorted"),
+    ("a name that is missing", lambda file: file.put("<I", file.at(0, 24), 9), "does not find const_hex_version"),
+    ("a function of another file", exported(lambda file: file.numbers("<I", file.table(0))[0] + 40),
+     "no plain function"),
+    ("another function by a name", exported(lambda file: 4096), "has the places"),
+    ("a file of 32 bits", lambda file: file.put("<H", file.head + 24, 0x10B), "no DLL and no program of 64 bits"),
+]
+
+
+class MachO(File):
+    def commands(self, wanted):
+        at, found = 32, []
+        for _ in range(self.numbers("<I", 16)[0]):
+            command, size = self.numbers("<II", at)
+            found += [at] if command == wanted else []
+            at += size
+        return found
+
+    def segment(self, name):
+        return next(at for at in self.commands(0x19) if self[at + 8 : at + 24].rstrip(b"\0") == name.encode())
+
+    def symbol(self, name):
+        [at] = self.commands(2)
+        first, count, strings, _ = self.numbers("<IIII", at + 8)
+        return next(at for at in range(first, first + 16 * count, 16)
+                    if self.startswith(name.encode() + b"\0", strings + self.numbers("<I", at)[0]))
+
+    def add(self, command, content):
+        """What stands after all is named by a command, in the place of LC_FUNCTION_STARTS."""
+        [at] = self.commands(0x26)
+        self.put("<IIII", at, command, 16, len(self), len(content))
+        self += content
+
+
+def linked_for_macos(processor):
+    """A dylib of what c/asm has for a processor, with some data."""
+    files = {"x86_64": ("dispatch", "functions_x86_64", "kernel_x86_64_v2", "kernel_x86_64_v3"),
+             "arm64": ("dispatch", "functions_aarch64", "kernel_aarch64")}[processor]
+    with tempfile.TemporaryDirectory() as folder:
+        more = ".data\n.quad _const_hex_decode\n.zerofill __DATA, __bss, _more, 64, 3\n"
+        pathlib.Path(folder, "more.s").write_text(more)
+        for source in [*(ASM / f"{name}.S" for name in files), "more.s"]:
+            subprocess.run(["clang", f"--target={processor}-apple-macos11", "-c", source], check=True, cwd=folder)
+        command = [LLD, "-arch", processor, "-platform_version", "macos", "11.0", "11.0", "-dylib", "-o",
+                   "library.dylib", *(f"{name}.o" for name in (*files, "more"))]
+        subprocess.run(command, check=True, capture_output=True, cwd=folder)
+        return pathlib.Path(folder, "library.dylib").read_bytes()
+
+
+def segment(name, at, *values, form="<II"):
+    return lambda file: file.put(form, file.segment(name) + at, *values)
+
+
+def opcodes(number, *table, to="choice"):
+    """One of the tables of opcodes, by its number, in which the first opcode is for a segment and a place in it."""
+
+    def changed(file):
+        names = [file[at + 8 : at + 24].rstrip(b"\0").decode() for at in file.commands(0x19)]
+        name = "__DATA" if to == "choice" else "__TEXT"
+        [place], [start] = file.numbers("<Q", file.symbol(to) + 8), file.numbers("<Q", file.segment(name) + 24)
+        offset, index, [at] = place // 8 * 8 - start, names.index(name), file.commands(0x80000022)
+        content = bytes([(0x70 if number else 0x20) | index, offset & 127 | 128, offset >> 7, *table])
+        file.put("<II", at + 8 + 8 * number, len(file), len(content))
+        file += content
+
+    return changed
+
+
+def chain(place, form=6, flag=0):
+    """A chain with one link, at a place of a segment."""
+
+    def changed(file):
+        [first], [value] = file.numbers("<Q", file.segment("__DATA") + 24), file.numbers("<Q", file.symbol(place) + 8)
+        page = value // 4096 * 4096
+        starts = struct.pack("<IIIIIHHQIHH", 3, 0, 16, 0, 24, 4096, form, page, 0, 1, value % 4096 // 8 * 8 | flag)
+        file.add(0x80000034, struct.pack("<IIIIIII", 0, 28, 0, 0, 0, 0, 0) + starts)
+
+    return changed
+
+
+def tree(change):
+    """The tree of names has one branch for each, as an edge and what stands in its node, of which some are changed."""
+
+    def changed(file):
+        [at] = file.commands(0x80000022)
+        names = {f"_{name}": file.numbers("<Q", file.symbol(f"_{name}") + 8)[0] for name in NAMES}
+        # dyld takes the first edge that fits, so a name stands before its beginning.
+        edges = [(name, bytes([4, 0, place & 127 | 128, place >> 7 & 127 | 128, place >> 14]))
+                 for name, place in sorted(names.items(), reverse=True)]
+        change(edges)
+        content, nodes = bytes([0, len(edges)]), sum(len(name) + 3 for name, _ in edges) + 2
+        for name, node in edges:
+            content += name.encode() + bytes([0, nodes & 127 | 128, nodes >> 7])
+            nodes += len(node) + 1
+        content += b"".join(node + b"\0" for _, node in edges)
+        file.put("<II", at + 40, len(file), len(content))
+        file += content
+
+    return changed
+
+
+def with_flags(flags):
+    return lambda edges: edges.__setitem__(0, (edges[0][0], edges[0][1][:1] + bytes([flags]) + edges[0][1][2:]))
+
+
+MACH_OS = [
+    ("nothing", "x86_64", lambda file: None, "accepted"),
+    ("nothing", "arm64", lambda file: None, "accepted"),
+    ("an unknown command", "x86_64", lambda file: file.put("<I", file.commands(0x26)[0], 0x2C), "the command 0x2c"),
+    # Of two tables of symbols, linkers take the first.
+    ("a second table of symbols", "x86_64", lambda file: file.put("<I", file.commands(0x26)[0], 2),
+     "the command 0x2,"),
+    ("a second tree of names", "x86_64", lambda file: file.add(0x80000033, bytes(8)), "two trees of names"),
+    ("code that can be written", "x86_64", segment("__TEXT", 56, 7, 7), "a segment that is 7"),
+    ("constants that cannot be read", "x86_64", segment("__TEXT", 56, 4, 4), "a segment that is 4"),
+    ("code that is encrypted", "x86_64", segment("__TEXT", 68, 8, form="<I"), "a segment that is 5, 8"),
+    ("a choice that is closed", "x86_64", segment("__DATA", 68, 16, form="<I"), NO_CHOICE),
+    ("a segment in a page", "x86_64", segment("__DATA", 24, 0x4010, form="<Q"), "no whole pages"),
+    ("a segment in a page of the file", "x86_64", segment("__DATA", 40, 0x4010, form="<Q"), "no whole pages"),
+    ("a segment that ends in a page", "x86_64", segment("__DATA", 48, 16, form="<Q"), "no whole pages"),
+    ("pages of 16 KB", "arm64", segment("__DATA", 24, 0x5000, form="<Q"), "no whole pages"),
+    ("code from elsewhere in the file", "x86_64", segment("__TEXT", 40, 4096, form="<Q"), "does not begin with"),
+    ("relocations of the choice", "x86_64", opcodes(0, 0x51), NO_CHOICE),
+    ("many relocations", "x86_64", opcodes(0, 0x60, 2), NO_CHOICE),
+    ("relocations with a distance", "x86_64", opcodes(0, 0x70, 8), NO_CHOICE),
+    ("relocations with gaps", "x86_64", opcodes(0, 0x80, 2, 8), NO_CHOICE),
+    ("a move before a relocation", "x86_64", opcodes(0, 0x30, 8, 0x41, 0x51), "accepted"),
+    ("relocations without an end", "x86_64", opcodes(0, 0x60, 255, 255, 255, 127), "without an end"),
+    ("a relocation of code", "x86_64", opcodes(0, 0x51, to="_const_hex_version"), "what must not be written"),
+    ("a binding of the choice", "x86_64", opcodes(1, 0x11, 0x20, 1, 0x40, 95, 0, 0x51, 0x60, 1, 0x90),
+     NO_CHOICE),
+    ("a binding with a distance", "x86_64", opcodes(2, 0xA0, 8), NO_CHOICE),
+    ("a binding with words", "x86_64", opcodes(3, 0xB1), NO_CHOICE),
+    ("bindings with gaps", "x86_64", opcodes(1, 0xC0, 2, 8), NO_CHOICE),
+    ("a binding of code", "x86_64", opcodes(1, 0x90, to="_const_hex_version"), "what must not be written"),
+    ("a chain over the choice", "x86_64", chain("choice"), NO_CHOICE),
+    ("a chain over code", "x86_64", chain("_const_hex_version"), "what must not be written"),
+    ("a chain of an unknown form", "x86_64", chain("choice", 1), "of a form that is not known"),
+    ("many chains in a page", "x86_64", chain("choice", flag=0x8000), "of a form that is not known"),
+    ("a tree of names", "x86_64", tree(lambda edges: None), "accepted"),
+    ("a branch to nothing", "x86_64", tree(lambda edges: edges.insert(0, ("_const_hex_v", b"\0"))),
+     "does not find const_hex_version"),
+    ("a branch that is missing", "x86_64", tree(lambda edges: edges.pop(0)), "does not find const_hex_version"),
+    ("a function of another library", "x86_64", tree(with_flags(8)), "is no plain function"),
+    ("a function that others may replace", "x86_64", tree(with_flags(4)), "is no plain function"),
+    ("a function that dyld picks", "x86_64", tree(with_flags(16)), "is no plain function"),
+    ("another function in the tree", "x86_64", tree(lambda edges: edges.__setitem__(0, (edges[0][0], edges[1][1]))),
+     "has the places"),
+    ("a name that is picked", "x86_64", lambda file: file.put("<H", file.symbol("_const_hex_version") + 6, 0x100),
+     "a symbol of another kind"),
+    ("an absolute name", "x86_64", lambda file: file.put("<B", file.symbol("_const_hex_version") + 4, 3),
+     "a symbol of another kind"),
+    ("another function by a name", "x86_64", lambda file: file.put(
+        "<Q", file.symbol("_const_hex_version") + 8, *file.numbers("<Q", file.symbol("_const_hex_check") + 8)),
+     "has the places"),
+    ("an object", "x86_64", lambda file: file.put("<I", 12, 1), "no dylib and no program"),
+]
+# What a module has beside the package's functions.
+MODULES = [
+    ("a function that is exported", '(export "const_hex_version" (func 1))', "the export 'const_hex_version'"),
+    ("a function that runs first", "(func $run nop) (start $run)", "not known here: (start"),
+    ("a variable that is exported", '(export "__top" (global 1))', "the export '__top'"),
+    ("a variable that the engine may change", '(export "__top" (global 0))', "__top, which the engine may change"),
+    ("a table of functions", "(table 1 funcref) (elem (i32.const 0) 0)", "not known here: (table"),
+    ("a second name for the memory", '(export "more" (memory 0))', "not known here: (export"),
+    ("data that are written later", '(data "more")', "not known here: (data"),
+    ("an exported function of another name", ("const_hex_encode", "const_hex_encodf"), "the export 'const_hex_encod"),
+    ("another function by a name", ('"const_hex_decoder_finish" (func 8)', '"const_hex_decoder_finisi" (func 8)'),
+     "the export 'const_hex_decoder_finis"),
+    ("an import", ("(module\n", '(module (import "js" "table" (table 1 funcref))\n'), "not known here: (import"),
+    ("a memory that grows", ("(memory (;0;) 1 1)", "(memory (;0;) 1 2)"), "not known here: (memory"),
+]
+
+
+@unittest.skipUnless(shutil.which(MINGW), f"{MINGW} is missing")
+class TestPe(unittest.TestCase):
+    @classmethod
+    def setUpClass(cls):
+        cls.right = linked_for_windows()
+
+    def refuse(self, change, wanted):
+        file = Pe(self.right)
+        change(file)
+        self.assertRegex(read(bytes(file), FILL, CONSTANT_OF_FILL), wanted)
+
+
+@unittest.skipUnless(shutil.which(LLD) and shutil.which("clang"), "clang or ld64.lld is missing")
+class TestMachO(unittest.TestCase):
+    @classmethod
+    def setUpClass(cls):
+        cls.right = {processor: linked_for_macos(processor) for processor in ("x86_64", "arm64")}
+
+    def refuse(self, processor, change, wanted):
+        file = MachO(self.right[processor])
+        change(file)
+        self.assertRegex(read(bytes(file), "const_hex_version", kept="choice"), wanted)
+
+
+class TestModules(unittest.TestCase):
+    @needs_module
+    def refuse(self, change, wanted):
+        command = ["wasm2wat", "--no-debug-names", MODULE]
+        text = subprocess.run(command, check=True, capture_output=True, text=True).stdout
+        old, new = change if type(change) is tuple else (")\n", f"{change})\n")
+        at = text.rindex(old)
+        with self.assertRaisesRegex(ValueError, re.escape(wanted)):
+            library.whole(assembled_module(text[:at] + new + text[at + len(old) :]))
+
+
+add_tests(TestPe, TestPe.refuse, PES)
+add_tests(TestMachO, TestMachO.refuse, MACH_OS)
+add_tests(TestModules, TestModules.refuse, MODULES)

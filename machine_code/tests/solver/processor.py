@@ -18,6 +18,7 @@ from execution.code import Code
 from execution.paths import Branch
 from execution.proofs import PROCESSORS
 from execution.state import byte, simple, word
+from reading import library
 from solver.questions import require
 
 FOLDER = pathlib.Path(__file__).resolve().parents[1]
@@ -50,14 +51,17 @@ def _random_bytes(some, count):
 
 class Processor:
     def __init__(self, content, function):
-        self.code = Code(content, PROCESSORS)
-        self.code.function(function)
+        found = library.read(content)
+        symbol = next(symbol for symbol in found.symbols if re.fullmatch(function, symbol))
+        self.code = Code(content, PROCESSORS, symbol, {})
+        for start in found.starts:
+            start in self.code.instructions  # which reads them
         self.meanings = self.code.processor
         name = self.meanings.__name__.rpartition(".")[2]
         self.names, compiler, emulator, self.bits, self.jump, self.not_form = KINDS[name]
-        self.memory = bytearray(max(section.end for section in self.code.object.sections))
-        for section in self.code.object.sections:
-            self.memory[section.address : section.end] = section.content
+        self.memory = bytearray(found.size)
+        for part in found.segments:
+            self.memory[part.address : part.address + len(part.content)] = part.content
         with tempfile.TemporaryDirectory() as folder:
             sources = [FOLDER / "run.c", FOLDER / f"run_{name}.S"]
             subprocess.run([*compiler, "-O1", "-no-pie", "-o", f"{folder}/run", *sources], check=True,
@@ -77,12 +81,9 @@ class Processor:
         for i in self.code.instructions.values():
             if i.mnemonic in self.meanings.HANDLERS and i.mnemonic not in NOT_ALONE and not i.refused:
                 target = self._target(i)
-                if not target or not i.address - self.jump < target < i.address + i.size + self.jump:
+                is_near = i.address - self.jump < target < i.address + i.size + self.jump
+                if not target or not is_near and self.code.object.code_at(target):
                     operands = "" if target else re.sub(self.not_form, "", i.text.partition(" ")[2])
-                    # A constant's own address, or one after it. On x86-64 it counts from the field.
-                    named = [self.code.constant_at(to + (i.address + i.size - at if self.jump == 5 else 0))
-                             for at, _, to in self.code.references_in(i.address, i.size)]
-                    operands += "".join(f" {bool(found[1])}" for found in named if found)
                     forms.setdefault(f"{i.mnemonic} {operands}", []).append(i)
         return {form: found[:: max(1, len(found) // PLACES)][:PLACES] for form, found in forms.items()}
 
@@ -117,18 +118,13 @@ class Processor:
         return state, raw
 
     def _known(self, term):
-        """The number of a term of bases and pages."""
-        if z3.is_bv_value(term):
-            return term
-        bases = [(region.base, word(TEXT + section.address)) for section, region in self.code.constants.values()]
-        pages = [(z3.BitVec(name, 64), word(TEXT + int(name[10:], 16) & -4096)) for name in
-                 {part.decl().name() for part in _constants(term)} if name.startswith("p_page_of_")]
-        return simple(z3.substitute(term, *bases, *pages))
+        """The number of a term of the base of the program."""
+        return simple(z3.substitute(term, (self.code.constants.base, word(TEXT + self.code.object.first))))
 
     def _point(self, state, i, some):
         """Lets an address lie in the scratch area, aligned for any access."""
         for o in i.operands if i.mnemonic != "lea" else ():
-            if o.kind == "memory" and not self.code.references_in(i.address, i.size):
+            if o.kind == "memory" and ("rip", 1) not in getattr(o, "terms", ()):
                 terms = getattr(o, "terms", None) or [(o.base, 1)] + ([(o.index, 1 << o.count)] if o.index else [])
                 rest = o.offset
                 for name, scale in terms[1:]:
@@ -148,10 +144,6 @@ class Processor:
         self._point(state, i, some)
         given = {name: value % (1 << 64) for name, value in state.general.items()}
         state.general = {name: word(value) for name, value in state.general.items()}
-        if self.code.references_in(i.address, i.size) and i.mnemonic in ("add", "ldr") and self.jump == 4:
-            base = i.operands[1].name if i.mnemonic == "add" else i.operands[1].base
-            state.general[base] = self.meanings.page(state, i)[0]
-            given[base] = self._known(state.general[base]).as_long()
         flags = {name: some.random() < 0.5 for name in self.bits}
         state.flags = {name: z3.BoolVal(bit) for name, bit in flags.items()}
         state.flags = tuple(state.flags.values()) if self.jump == 4 else state.flags
@@ -208,9 +200,3 @@ class Processor:
                         what = f"{type(error).__name__}: {error}"
                     if what:
                         yield f"{form}: {i.text}: {what}"
-
-
-def _constants(term):
-    if z3.is_const(term):
-        return [term]
-    return [part for child in term.children() for part in _constants(child)]

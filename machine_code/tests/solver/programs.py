@@ -9,7 +9,9 @@ from contracts.kernels import KERNELS
 from contracts.library import FUNCTIONS
 from contracts.messages import MESSAGES
 from execution import proofs
-from tests.library import ASM, MODULE, RUST, assembled, assembled_module
+from reading import library
+from solver.questions import require
+from tests.library import ASM, MODULE, RUST, assembled_module, linked as assembled
 
 COMPILERS = {"v2": "cc", "v3": "cc", "aarch64": "aarch64-linux-gnu-gcc"}
 # Where it begins, a character in eax, whether it is a digit, what is done in a round, and where it returns.
@@ -135,4 +137,8 @@ def prove(content, call, contracts=KERNELS, name=None, which=slice(None)):
     """Proves the first contract of a call, or that of a name, from all starts or from some."""
     contract = next(contract for contract in contracts
                     if contract.function == call and contract.name == (name or contract.name))
-    return proofs.prove(content, "functions_" if contract in (*FUNCTIONS, *MESSAGES) else "", contract, which)
+    found = [symbol for symbol in library.read(content).symbols
+             if re.fullmatch(contract.symbol if not library.is_module(content) else
+                             contract.symbol.removesuffix("_nonnull"), symbol)]
+    require(len(found) == 1, f"{len(found)} functions {contract.symbol}")
+    return proofs.prove(content, found[0], contract, which)

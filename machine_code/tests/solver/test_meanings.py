@@ -6,7 +6,7 @@ import unittest
 
 from processor import NOT_ALONE, STATES, Processor  # noqa: F401
 from programs import COMPILERS, edited, text_of
-from tests.library import assembled
+from tests.library import linked as assembled
 
 FUNCTION = r"const_hex_(.*_check(_v[23])?|version)"
 # Instructions with a meaning that are not in each kernel of today.

@@ -22,7 +22,7 @@ CALLS = {contract.function: contract for contract in FUNCTIONS}
 
 @functools.cache
 def starts(call):
-    code = Code(edited("functions_x86_64", call, "", ""), PROCESSORS)
+    code = Code(edited("functions_x86_64", call, "", ""), PROCESSORS, CALLS[call].symbol, {})
     return CALLS[call].starts(code)
 
 

@@ -17,7 +17,7 @@ from contracts.library import FUNCTIONS
 from contracts.messages import MESSAGES
 from programs import COMMITTED, edited, program, prove
 from solver.questions import Refused
-from tests.library import assembled
+from tests.library import linked as assembled
 
 ROOM = pathlib.Path(__file__).resolve().parents[2]
 # What refuses a program.

@@ -6,7 +6,7 @@ import re
 from contracts.library import HEADER, Version
 from meanings.x86_64 import NOPS
 from programs import COMPILERS
-from tests.library import assembled
+from tests.library import linked as assembled
 
 VERSION = re.search(r"#define CONST_HEX_VERSION (\d+)", HEADER.read_text())[1]
 X86_64 = """

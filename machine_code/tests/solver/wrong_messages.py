@@ -2,7 +2,7 @@
 
 from contracts.dispatch import CHOICES, OR_NULL
 from contracts.messages import MESSAGES
-from tests.library import ASM, assembled
+from tests.library import ASM, linked as assembled
 
 MESSAGE = """
     .intel_syntax noprefix

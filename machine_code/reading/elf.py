@@ -1,0 +1,183 @@
+"""A linked file of ELF, a shared library or a program, as an image.
+
+A loader is the kernel, glibc's or musl's. It writes where the file's relocations say, and finds a function of a library
+by a name in each of two tables of hashes.
+"""
+
+import struct
+
+from reading.image import AARCH64, CODE, CONSTANTS, HEADER, WRITTEN, X86_64, Image, up
+
+PAGES = {X86_64: 1 << 12, AARCH64: 1 << 16}
+PROGRAM, SHARED = 2, 3
+# Headers of segments: what is loaded, the loader's table, and what is closed after relocations; others that are
+# harmless: nothing, INTERP, NOTE, PHDR, TLS, EH_FRAME, STACK, PROPERTY.
+LOAD, DYNAMIC, CLOSED, HARMLESS = 1, 2, 0x6474E552, (0, 3, 4, 6, 7, 0x6474E550, 0x6474E551, 0x6474E553)
+KINDS = {4: CONSTANTS, 5: CODE, 6: WRITTEN}  # of segments, by their flags
+# Tags of the loader's table. Each may stand there once, but for NEEDED; with what else is harmless: PLTGOT, STRSZ,
+# SYMENT, INIT, FINI, SONAME, RPATH, SYMBOLIC, DEBUG, BIND_NOW, the arrays of INIT and FINI, RUNPATH; and from
+# TLSDESC_PLT on what a processor or a version of symbols has.
+NEEDED, HASH, STRINGS, SYMBOLS, RELA, RELA_SIZE, RELA_ENTRY = 1, 4, 5, 6, 7, 8, 9
+CALLS, CALLS_SIZE, CALLS_KIND, RELR, RELR_SIZE, RELR_ENTRY = 23, 2, 20, 36, 35, 37
+FLAGS, FLAGS_1, GNU_HASH, VERSIONS = 30, 0x6FFFFFFB, 0x6FFFFEF5, 0x6FFFFFF0
+TABLES = HASH, STRINGS, SYMBOLS, RELA, CALLS, RELR, GNU_HASH, VERSIONS
+KNOWN = {*TABLES, NEEDED, RELA_SIZE, RELA_ENTRY, CALLS_SIZE, CALLS_KIND, RELR_SIZE, RELR_ENTRY, FLAGS, FLAGS_1, 3,
+         *range(10, 17), 21, *range(24, 30), 32, 33, 0x6FFFFEF6, 0x6FFFFEF7, 0x6FFFFFF9, *range(0x6FFFFFFC, 0x70000000),
+         0x70000001, 0x70000003, 0x70000005}
+# ORIGIN, SYMBOLIC, BIND_NOW, STATIC_TLS; and NOW, GLOBAL, NODELETE, INITFIRST, ORIGIN, PIE.
+KNOWN_FLAGS = {FLAGS: 0x1B, FLAGS_1: 0x80000AB}
+# How many bytes relocations write, by their kinds, and those that copy as much as a symbol has.
+SIZES = {X86_64: {0: 0, **dict.fromkeys((1, 6, 7, 8, 16, 17, 18, 37), 8), 36: 16},
+         AARCH64: {0: 0, **dict.fromkeys((257, *range(1025, 1031), 1032), 8), 1031: 16}}
+COPY = {X86_64: 5, AARCH64: 1024}
+# Symbols: a table of them, a function that all see, a file's name, no section's number, and kinds that have a place.
+SYMBOL_TABLE, GLOBAL_FUNCTION, SOURCE_FILE, RESERVED, PLACED = 2, 0x12, 4, 0xFF00, (0, 1, 2)
+
+
+def read(data):
+    """The image of these bytes."""
+    kind, machine = struct.unpack_from("<HH", data, 16)
+    if data[:6] != b"\x7fELF\x02\x01" or machine not in PAGES or kind not in (PROGRAM, SHARED):
+        raise ValueError("no shared library and no program for a processor that is known here; "
+                         "an object has to be linked, as machine_code/README.md says")
+    [first, sections], [size, count] = struct.unpack_from("<QQ", data, 32), struct.unpack_from("<HH", data, 54)
+    image, headers = Image(machine, PAGES[machine]), []
+    for at in range(count):
+        kind, flags, offset, address, _, in_file, in_memory, _ = struct.unpack_from("<IIQQQQQQ", data, first + 56 * at)
+        headers.append((kind, address, in_memory))
+        if kind == LOAD and (flags not in KINDS or (address - offset) % image.page):
+            raise ValueError(f"a segment with the flags {flags}, or at another place of a page than in the file")
+        if kind == LOAD:
+            image.add_segment(data, address, in_memory, offset, in_file, KINDS[flags])
+        elif kind not in (DYNAMIC, CLOSED, *HARMLESS):
+            raise ValueError(f"a header of the kind {kind:#x}")
+    end = first + 56 * count
+    if size != 56 or image.segments[0].content[:end] != data[:end]:
+        raise ValueError("the headers do not lie at the start of the first segment")
+    for _, address, in_memory in (header for header in headers if header[0] == CLOSED):
+        _close(image, address, in_memory)
+    tables = [header for header in headers if header[0] == DYNAMIC]
+    if len(tables) > 1:
+        raise ValueError("two tables for the loader")
+    for _, address, in_memory in tables:
+        _read_dynamic(image, address, in_memory)
+    _read_symbols(image, data, sections, *struct.unpack_from("<H", data, 60))
+    return image
+
+
+def _close(image, address, size):
+    """The loader makes whole pages of a segment read-only."""
+    segment = image.segment_at(address)
+    if not segment or segment.kind != WRITTEN or up(segment.address + segment.size, image.page) < address + size:
+        raise ValueError("what is closed after relocations is no part of a segment that is written")
+    image.closed.append((address // image.page * image.page, address + size))
+
+
+def _read_dynamic(image, address, size):
+    """Reads the loader's table up to its end, and what it names."""
+    dynamic, content = {}, image.bytes_at(address, size // 16 * 16, (CODE, CONSTANTS, WRITTEN))
+    for tag, value in struct.iter_unpack("<QQ", content):
+        if not tag:
+            break
+        if tag in dynamic and tag != NEEDED or tag not in KNOWN or value & ~KNOWN_FLAGS.get(tag, value):
+            raise ValueError(f"the loader's table has the tag {tag:#x} with {value:#x}, twice or not known here")
+        dynamic[tag] = value
+    else:
+        raise ValueError("the loader's table has no end")
+    if not all(image.bytes_at(dynamic[tag], 1) for tag in TABLES if tag in dynamic):
+        raise ValueError("a table for the loader that is written, or is nowhere")
+    if dynamic.get(CALLS_KIND, RELA) != RELA:
+        raise ValueError("relocations of calls of a form that is not known here")
+    _read_relocations(image, dynamic)
+    if len(image.unchanged(address, content)) < len(content):
+        raise ValueError("the loader changes its own table")
+    if HASH in dynamic or GNU_HASH in dynamic:
+        for name in sorted(HEADER):
+            _read_exported(image, dynamic, name)
+
+
+def _read_relocations(image, dynamic):
+    """What the loader writes: by two tables of places and kinds, and by one of bits for the words after a place."""
+    for table, size in (RELA, RELA_SIZE), (CALLS, CALLS_SIZE):
+        for at in range(0, dynamic.get(size, 0), 24):
+            place, kind, symbol = image.numbers("<QII", dynamic[table] + at)
+            if kind == COPY[image.machine]:
+                image.change(place, *image.numbers("<Q", dynamic[SYMBOLS] + 24 * symbol + 16))
+            elif kind not in SIZES[image.machine]:
+                raise ValueError(f"a relocation of the kind {kind}")
+            elif kind:
+                image.change(place, SIZES[image.machine][kind])
+    place = 0
+    for at in range(0, dynamic.get(RELR_SIZE, 0), 8):
+        [entry] = image.numbers("<Q", dynamic[RELR] + at)
+        for bit in range(1, 64) if entry & 1 else ():
+            if entry >> bit & 1:
+                image.change(place + 8 * (bit - 1), 8)
+        if not entry & 1:
+            image.change(entry, 8)
+        place = place + 8 * 63 if entry & 1 else entry + 8
+
+
+def _read_exported(image, dynamic, name):
+    """Adds a function of the header as the loader finds it, by each table of hashes. Any symbol of this name on the
+    loader's way has to be this function."""
+    found = [[at for at in walk(image, dynamic[tag], name.encode())
+              if image.is_text(dynamic[STRINGS] + image.numbers("<I", dynamic[SYMBOLS] + 24 * at)[0], name)]
+             for tag, walk in ((HASH, _by_hash), (GNU_HASH, _by_gnu_hash)) if tag in dynamic]
+    if not any(found):
+        return
+    if len(found[0]) != 1 or found[0] != found[-1]:
+        raise ValueError(f"the loader does not find {name} in each of its tables, or finds another symbol, too")
+    [at] = found[0]
+    _, info, other, index, place, _ = image.numbers("<IBBHQQ", dynamic[SYMBOLS] + 24 * at)
+    is_plain = VERSIONS not in dynamic or image.numbers("<H", dynamic[VERSIONS] + 2 * at) == (1,)
+    if info != GLOBAL_FUNCTION or other not in (0, 3) or not 0 < index < RESERVED or not is_plain:
+        raise ValueError(f"{name} is no plain function for the loader: another kind, no section, or a version")
+    image.add_symbol(name, place)
+    image.exported.add(name)
+
+
+def _by_hash(image, table, name):
+    """The symbols that the loader compares with a name, by DT_HASH."""
+    number, seen = 0, set()
+    for byte in name:
+        number = number * 16 + byte
+        number = (number ^ number >> 24 & 0xF0) & 0xFFFFFFF
+    buckets, _ = image.numbers("<II", table)
+    [at] = image.numbers("<I", table + 8 + 4 * (number % buckets))
+    while at:
+        if at in seen:
+            raise ValueError("a table of names that has no end")
+        yield at
+        seen.add(at)
+        [at] = image.numbers("<I", table + 8 + 4 * (buckets + at))
+
+
+def _by_gnu_hash(image, table, name):
+    """The symbols whose hashes are that of a name, by DT_GNU_HASH."""
+    number = 5381
+    for byte in name:
+        number = (number * 33 + byte) & 0xFFFFFFFF
+    buckets, first, words, shift = image.numbers("<IIII", table)
+    starts = table + 16 + 8 * words
+    [at] = image.numbers("<I", starts + 4 * (number % buckets))
+    if words & words - 1 or shift > 31 or at and at < first:
+        raise ValueError("a table of names that begins before itself, or has no known form")
+    [bits] = image.numbers("<Q", table + 16 + 8 * (number // 64 & words - 1))
+    is_last = not (at and bits >> number % 64 & bits >> (number >> shift) % 64 & 1)
+    while not is_last:
+        [entry] = image.numbers("<I", starts + 4 * (buckets + at - first))
+        if (entry ^ number) >> 1 == 0:
+            yield at
+        is_last, at = entry & 1, at + 1
+
+
+def _read_symbols(image, data, start, count):
+    """The names of hidden functions, which no loader reads."""
+    headers = [struct.unpack_from("<IIQQQQIIQQ", data, start + 64 * at) for at in range(count)]
+    for _, _, _, _, offset, size, link, *_ in (header for header in headers if header[1] == SYMBOL_TABLE):
+        strings = data[headers[link][4] :][: headers[link][5]]
+        for name, info, _, index, place, _ in struct.iter_unpack("<IBBHQQ", data[offset : offset + size]):
+            name = strings[name : strings.index(b"\0", name)].decode()
+            if index and info & 15 != SOURCE_FILE:
+                image.add_symbol(name, place, info & 15 in PLACED and index < RESERVED)

@@ -1,0 +1,143 @@
+"""A linked file as it lies in memory: its segments at fixed distances, and the places of its names. What runs is what
+is proved, so no linker is trusted.
+
+elf.py, mach_o.py and pe.py read one. Each says what it knows to be harmless, and refuses all else. Code and constants
+lie in segments that nobody writes to, not even the loader. A name says what has to be proved of which place, so a wrong
+one is no danger; but a function that the loader finds by a name has to be the one that is proved. What else a file runs
+is not read.
+"""
+
+import bisect
+import functools
+import struct
+from collections import namedtuple
+
+from contracts.names import FUNCTIONS
+
+X86_64, AARCH64 = 62, 183  # processors, by their numbers in ELF
+ALIGNMENT = {X86_64: 1, AARCH64: 4}  # of code
+MOST = 1 << 14  # Code from a place on is read up to the next symbol, or so many bytes.
+PREFIX = "const_hex_"
+HEADER = {PREFIX + name for name in FUNCTIONS}
+# What a segment is. Code can be read, too.
+CODE, CONSTANTS, WRITTEN = "code", "constants", "written"
+FIXED = CODE, CONSTANTS
+# Where it lies, how large it is there, and its bytes in the file, after which it has zeros.
+Segment = namedtuple("Segment", "address size content kind")
+
+
+def up(address, page):
+    return -(-address // page) * page
+
+
+class Image:
+    """A file for a processor. `page` is the greatest page that a system may have, in which no two segments may lie."""
+
+    def __init__(self, machine, page):
+        self.machine, self.page, self.segments = machine, page, []
+        # The places of each name, and the functions of the header that the loader finds.
+        self.places, self.exported = {}, set()
+        # What the loader writes, by eight bytes; and what it makes read-only afterwards, by places.
+        self.changed, self.closed = set(), []
+
+    def add_segment(self, data, address, size, offset, in_file, kind):
+        if self.segments and up(self.segments[-1].address + self.segments[-1].size, self.page) > address:
+            raise ValueError("two segments that share a page")
+        if not in_file <= size < 1 << 62 or len(data) < offset + in_file:
+            raise ValueError("a segment that is larger in the file than in memory, or not in it")
+        self.segments.append(Segment(address, size, data[offset : offset + in_file], kind))
+
+    def add_symbol(self, name, place, is_known=True):
+        """Adds a symbol, if it is of a kind that has a place."""
+        if is_known:
+            self.places.setdefault(name, set()).add(place)
+        elif name.startswith(PREFIX):
+            raise ValueError(f"{name} is a symbol of another kind")
+
+    def change(self, place, size, kinds=(WRITTEN,)):
+        """The loader writes so many bytes, in a segment of these kinds."""
+        segment = self.segment_at(place)
+        if not segment or segment.kind not in kinds or segment.address + segment.size < place + size:
+            raise ValueError(f"the loader writes to {place:#x}, where nothing is, or what must not be written")
+        self.changed |= {*range(place // 8, up(place + size, 8) // 8)}
+
+    def unchanged(self, address, content):
+        """The bytes at an address up to those that the loader writes."""
+        return next((content[:at] for at in range(len(content)) if (address + at) // 8 in self.changed), content)
+
+    @functools.cached_property
+    def symbols(self):
+        """The only place of each function of the library, and of what is named after one."""
+        found = {name: places for name, places in self.places.items() if name.startswith(PREFIX)}
+        for name, places in found.items():
+            if len(places) > 1:
+                raise ValueError(f"{name} has the places {sorted(map(hex, places))}")
+        return {name: place for name, [place] in found.items()}
+
+    @functools.cached_property
+    def starts(self):
+        return sorted({place for places in self.places.values() for place in places})
+
+    @property
+    def first(self):
+        return self.segments[0].address // self.page * self.page
+
+    @property
+    def size(self):
+        return self.segments[-1].address + self.segments[-1].size - self.first
+
+    def segment_at(self, address):
+        return next((it for it in self.segments if it.address <= address < it.address + it.size), None)
+
+    def bytes_at(self, address, size, kinds=FIXED):
+        """So many bytes of the file at an address, in a segment of these kinds, or fewer."""
+        segment = self.segment_at(address)
+        start = address - segment.address if segment else 0
+        return segment.content[start : start + size] if segment and segment.kind in kinds else b""
+
+    def numbers(self, form, address, kinds=FIXED):
+        """Numbers that the loader reads at an address, where it has written nothing."""
+        content = self.unchanged(address, self.bytes_at(address, struct.calcsize(form), kinds))
+        if len(content) < struct.calcsize(form):
+            raise ValueError(f"what the loader reads at {address:#x} is written, or nowhere")
+        return struct.unpack(form, content)
+
+    def is_text(self, address, text):
+        return self.bytes_at(address, len(text) + 1) == text.encode() + b"\0"
+
+    def read(self, offset, count):
+        """The constants at an offset, which may be fewer."""
+        return self.unchanged(self.first + offset, self.bytes_at(self.first + offset, count))
+
+    def is_kept(self, address):
+        """Whether a byte may change, and is 0 at the start."""
+        segment = self.segment_at(address)
+        return bool(segment and segment.kind == WRITTEN and not any(self.bytes_at(address, 1, (WRITTEN,)))
+                    and address // 8 not in self.changed
+                    and not any(start <= address < end for start, end in self.closed))
+
+    def code_at(self, address):
+        """The place, and the code from there on, if it is code."""
+        after = bisect.bisect(self.starts, address)
+        end = min([address + MOST, *self.starts[after : after + 1]])
+        found = self.unchanged(address, self.bytes_at(address, end - address, (CODE,)))
+        return (address, found) if found and address % ALIGNMENT[self.machine] == 0 else None
+
+    def name_at(self, address):
+        """Where an address is, for messages."""
+        names = {place: name for name, place in self.symbols.items() if place <= address}
+        start = max(names, default=0)
+        return f"{names.get(start, 'the file')}+{address - start:#x}"
+
+
+def whole(read):
+    """A reader of bytes, which refuses those that end too early, or say that something lies where nothing is."""
+
+    @functools.wraps(read)
+    def wrapped(*given):
+        try:
+            return read(*given)
+        except (struct.error, LookupError, ArithmeticError, UnicodeDecodeError, MemoryError) as error:
+            raise ValueError(f"a file that is cut or damaged: {error!r}")
+
+    return wrapped

@@ -1,0 +1,147 @@
+"""A linked file of Mach-O, a dylib or a program, as an image. Its loader is dyld, which writes where tables of opcodes
+or chains say, and finds a function by a tree of names."""
+
+import struct
+
+from reading.image import AARCH64, CODE, CONSTANTS, HEADER, WRITTEN, X86_64, Image
+
+MACHINES, PAGES = {0x01000007: X86_64, 0x0100000C: AARCH64}, {X86_64: 1 << 12, AARCH64: 1 << 14}
+PROGRAM, LIBRARY = 2, 6
+# Commands that are read, each once but for segments; and those that are harmless: DYSYMTAB, LOAD_DYLIB, ID_DYLIB,
+# LOAD_DYLINKER, UUID, CODE_SIGNATURE, SPLIT_INFO, VERSION_MIN, FUNCTION_STARTS, DATA_IN_CODE, SOURCE_VERSION,
+# BUILD_VERSION, LOAD_WEAK_DYLIB, RPATH, MAIN.
+SEGMENT, SYMBOLS, INFO, TRIE, FIXUPS = 0x19, 2, (0x22, 0x80000022), 0x80000033, 0x80000034
+HARMLESS = (0xB, 0xC, 0xD, 0xE, 0x1B, 0x1D, 0x1E, 0x24, 0x26, 0x29, 0x2A, 0x32, 0x80000018, 0x8000001C, 0x80000028)
+# What a segment is, by its protection and its flags. PAGEZERO is nothing.
+CLOSED = "closed after relocations"
+FIXED_UP = WRITTEN, CLOSED
+KINDS = {(0, 0): None, (1, 0): CONSTANTS, (5, 0): CODE, (3, 0): WRITTEN, (3, 16): CLOSED}
+# By the upper four bits of an opcode: how many numbers follow; and of the lower bits and these, how many words the
+# loader writes, how many bytes it leaves out after each, and by how many it goes on. PLACE sets a place in a segment.
+NAME, PLACE = (0, None), (1, None)
+NOTHING, NUMBER, MOVE = (0, lambda low: (0, 0, 0)), (1, lambda low, a: (0, 0, 0)), (1, lambda low, a: (0, 0, a))
+THEN_MOVE, TIMES = (1, lambda low, a: (1, 0, a)), (2, lambda low, a, b: (a, b, 0))
+REBASES = [NOTHING, NOTHING, PLACE, MOVE, (0, lambda low: (0, 0, 8 * low)), (0, lambda low: (low, 0, 0)),
+           (1, lambda low, a: (a, 0, 0)), THEN_MOVE, TIMES]
+BINDS = [NOTHING, NOTHING, NUMBER, NOTHING, NAME, NOTHING, NUMBER, PLACE, MOVE, (0, lambda low: (1, 0, 0)), THEN_MOVE,
+         (0, lambda low: (1, 0, 8 * low)), TIMES]
+# Chains: no first link in a page, and the forms of links that have the distance to the next one at the same bits.
+NO_LINK, FORMS = 0xFFFF, (2, 6)
+DEBUG, TYPE, IN_SECTION, RESOLVED = 0xE0, 0xE, 0xE, 0x100  # of symbols
+
+
+def read(data):
+    machine, _, kind, count = struct.unpack_from("<IIII", data, 4)
+    if machine not in MACHINES or kind not in (PROGRAM, LIBRARY):
+        raise ValueError("no dylib and no program for a processor that is known here")
+    image, at, commands, starts = Image(MACHINES[machine], PAGES[MACHINES[machine]]), 32, {}, []
+    for _ in range(count):
+        command, size = struct.unpack_from("<II", data, at)
+        if command == SEGMENT:
+            starts.append(_add_segment(image, data, at))
+        elif command in commands or command not in (SYMBOLS, *INFO, TRIE, FIXUPS, *HARMLESS):
+            raise ValueError(f"the command {command:#x}, twice or not known here")
+        elif command not in HARMLESS:
+            commands[command] = struct.unpack_from(f"<{size // 4 - 2}I", data, at + 8)
+        at += size
+    if image.segments[0].content[:at] != data[:at] or sum(tag in commands for tag in (*INFO, TRIE)) > 1:
+        raise ValueError("the first segment does not begin with the file, or there are two trees of names")
+    tables = next((commands[tag] for tag in INFO if tag in commands), (0,) * 10)
+    for number, opcodes in enumerate((REBASES, BINDS, BINDS, BINDS)):
+        first, size = tables[2 * number :][:2]
+        _read_opcodes(image, starts, data[first : first + size], opcodes)
+    if FIXUPS in commands:
+        first, size = commands[FIXUPS]
+        _read_chains(image, data[first : first + size])
+    first, size = commands.get(TRIE, tables[8:])
+    for name in sorted(HEADER) if size else ():
+        _read_exported(image, data[first : first + size], name)
+    first, count, strings, _ = commands.get(SYMBOLS, (0, 0, 0, 0))
+    for at in range(first, first + 16 * count, 16):
+        name, kind, _, flags, place = struct.unpack_from("<IBBHQ", data, at)
+        if not kind & DEBUG and kind & TYPE:
+            name = data[strings + name : data.index(b"\0", strings + name)].decode()
+            image.add_symbol(name.removeprefix("_"), place, kind & TYPE == IN_SECTION and not flags & RESOLVED)
+    return image
+
+
+def _add_segment(image, data, at):
+    """Adds a segment, if it is in memory, and gives where it begins."""
+    address, in_memory, offset, in_file, _, protection, _, flags = struct.unpack_from("<QQQQIIII", data, at + 24)
+    kind = KINDS.get((protection, flags), "unknown")
+    if kind == "unknown" or address % image.page or offset % image.page or kind == WRITTEN and in_file % image.page:
+        raise ValueError(f"a segment that is {protection}, {flags}, or is no whole pages in the file or in memory")
+    if protection:
+        image.add_segment(data, address, in_memory, offset, in_file, kind)
+    return address
+
+
+def _number(data, at):
+    """A number of 7 bits in each byte, and the place after it."""
+    value = shift = 0
+    while True:
+        value, shift, at = value | (data[at] & 127) << shift, shift + 7, at + 1
+        if not data[at - 1] & 128:
+            return value, at
+
+
+def _read_opcodes(image, starts, table, opcodes):
+    """What the loader writes by a table of opcodes."""
+    at = place = 0
+    while at < len(table):
+        opcode, low, at, numbers = opcodes[table[at] >> 4], table[at] & 15, at + 1, []
+        for _ in range(opcode[0]):
+            number, at = _number(table, at)
+            numbers.append(number)
+        if opcode is NAME:
+            at = table.index(b"\0", at) + 1
+        elif opcode is PLACE:
+            place = starts[low] + numbers[0]
+        else:
+            times, gap, move = opcode[1](low, *numbers)
+            if times > image.size:
+                raise ValueError("a table of opcodes without an end")
+            for _ in range(times):
+                image.change(place, 8, FIXED_UP)
+                place = (place + 8 + gap) % (1 << 64)
+            place = (place + move) % (1 << 64)
+
+
+def _read_chains(image, table):
+    """What the loader writes by chains of links, of which each page of a segment may have one."""
+    [start] = struct.unpack_from("<I", table, 4)
+    [count] = struct.unpack_from("<I", table, start)
+    for offset in filter(None, struct.unpack_from(f"<{count}I", table, start + 4)):
+        _, page, form, first, _, pages = struct.unpack_from("<IHHQIH", table, start + offset)
+        for at, link in enumerate(struct.unpack_from(f"<{pages}H", table, start + offset + 22)):
+            if form not in FORMS or link >> 15 and link != NO_LINK:
+                raise ValueError("chains of relocations of a form that is not known here")
+            place, distance = image.first + first + at * page + link, link != NO_LINK
+            while distance:
+                image.change(place, 8, FIXED_UP)
+                link = int.from_bytes(image.bytes_at(place, 8, FIXED_UP), "little")
+                distance = 4 * (link >> 51 & 0xFFF)
+                place += distance
+
+
+def _read_exported(image, tree, name):
+    """Adds a function of the header as the loader finds it: it takes the first branch of each node that fits."""
+    at, rest = 0, b"_" + name.encode()
+    while True:
+        size, at = _number(tree, at)
+        if size and not rest:
+            flags, at = _number(tree, at)
+            if flags:
+                raise ValueError(f"{name} is no plain function for the loader")
+            image.exported.add(name)
+            return image.add_symbol(name, image.first + _number(tree, at)[0])
+        at, node = at + size + 1, 0
+        for _ in range(tree[at - 1]):
+            end = tree.index(b"\0", at)
+            to, after = _number(tree, end + 1)
+            if not node and rest.startswith(tree[at:end]):
+                node, rest = to, rest[end - at :]
+            at = after
+        if not node:
+            return None
+        at = node

@@ -1,0 +1,317 @@
+"""Shared libraries of ELF that are made to be believed, by a linker or by an editor of bytes. Each is refused where it
+is read, or where a function is proved; a linker's other inputs are right where what it has made of them is."""
+
+import struct
+import unittest
+
+from execution import proofs
+from reading import library
+from solver.questions import Refused
+from tests.library import AARCH64, X86_64, Elf, add_tests, shared
+
+
+def said(data, symbol):
+    """Why a function is not proved, or a file not read."""
+    try:
+        rows = [contract for name, contract in proofs.contracts_of(library.whole(data)) if name == symbol]
+        for contract in rows:
+            proofs.prove(data, symbol, proofs.CONTRACTS[contract])
+        return "accepted" if rows or not symbol else "no contract"
+    except (ValueError, Refused) as error:
+        return str(error)
+
+
+# Changes of a file: those of segments take a header's fields, which are flags, offset, address, .., sizes, alignment.
+def segment(wanted, change, kind=1, place=0):
+    """A change of the first segment of a kind with some flags, from a place on."""
+
+    def changed(file):
+        at, _, *fields = next(it for it in file.segments if it[1:3] == (kind, wanted) and it[4] >= place)
+        file.put("<IIQQQQQQ", at, kind, *change(*fields))
+
+    return changed
+
+
+def flags(new):
+    return lambda old, *rest: (new, *rest)
+
+
+def entry(form, at, change, name="const_hex_decode", kinds=(2, 11)):
+    """A change of a field of a symbol."""
+
+    def changed(file):
+        for place in file.symbols(name, kinds):
+            file.put(form, place + at, *change(*file.numbers(form, place + at)))
+
+    return changed
+
+
+def value(more, name="const_hex_decode", kinds=(2, 11)):
+    return entry("<Q", 8, lambda old: (old + more,), name, kinds)
+
+
+def of_the_loader(form, at, new):
+    return entry(form, at, lambda old: (new,), kinds=(11,))
+
+
+def tag(wanted, new, more=0):
+    """A change of a tag of the loader's table, or of what follows it."""
+    return lambda file: file.put("<Q", file.tag(wanted) + more, new)
+
+
+def relocation(kind, place, table=7):
+    """The first relocation writes to a place, which may be that of a symbol."""
+
+    def changed(file):
+        at = file.value(place) if type(place) is str else place(file)
+        file.put("<QQ", file.table(table), at, kind)
+
+    return changed
+
+
+def copy_over_the_choice(file):
+    relocation(5 | 3 << 32, lambda file: file.value("choice") - 8)(file)
+    file.put("<Q", file.table(6) + 24 * 3 + 16, 9)
+
+
+def other_header(kind):
+    return lambda file: file.put("<I", next(it[0] for it in file.segments if it[1] == 0x6474E551), kind)
+
+
+def headers_elsewhere(file):
+    start, count = file.numbers("<Q", 32)[0], 56 * len(file.segments)
+    file.put("<Q", 32, len(file))
+    file += file[start : start + count]
+
+
+def begins_chosen(file):
+    """The byte that is kept lies in the file, and is 2."""
+    choice = file.value("choice")
+    segment(6, lambda *fields: (*fields[:4], choice + 1 - fields[2], choice + 1 - fields[2], fields[6]))(file)
+    file[file.offset(choice)] = 2
+
+
+def closed(start, size):
+    """What the loader closes begins at a place, if it is another one, or where a symbol lies, and has a size."""
+
+    def changed(file):
+        at, _, _, offset, address, *_ = next(it for it in file.segments if it[1] == 0x6474E552)
+        first = file.value(start) if type(start) is str else start or address
+        file.put("<IIQQQQQ", at, 0x6474E552, 4, offset, first, first, size, size)
+
+    return changed
+
+
+def bucket(change):
+    """A bucket of the loader's table of hashes has another number."""
+
+    def changed(file):
+        table, number = file.table(0x6FFFFEF5), 5381
+        for byte in b"const_hex_decode":
+            number = (number * 33 + byte) & 0xFFFFFFFF
+        buckets, first, words, shift = file.numbers("<IIII", table)
+        starts = table + 16 + 8 * words
+        change(file, table, starts + 4 * (number % buckets), number)
+
+    return changed
+
+
+def chain(index):
+    """By DT_HASH, another symbol follows `decode`, or stands before it, which has its name."""
+
+    def changed(file):
+        table, [first, decode] = file.table(4), [file.table(6), file.symbols("const_hex_decode", (11,))[0]]
+        buckets, _ = file.numbers("<II", table)
+        number = (decode - first) // 24 if index is None else index
+        file.put("<I", table + 8 + 4 * (buckets + (decode - first) // 24), number)
+        if index:
+            file.put("<I", first + 24 * index, *file.numbers("<I", decode))
+
+    return changed
+
+
+def other_call(file):
+    """A call of a function goes to another one."""
+    start, old, new = [file.value(f"const_hex_{name}") for name in ("check_raw", "kernel_check", "kernel_read")]
+    at = file.index(b"\xe9" if b"\xe9" in file[file.offset(start) :][:32] else b"\xe8", file.offset(start)) + 1
+    assert file.numbers("<i", at)[0] == old - (start + at - file.offset(start)) - 4
+    file.put("<i", at, file.numbers("<i", at)[0] + new - old)
+
+
+def without_relocation(file):
+    """What a linker makes that leaves out a relocation: a distance of 0 to a constant."""
+    [constants] = [it for it in file.segments if it[1:3] == (1, 4) and it[4]]
+    start = file.value("const_hex_kernel_fill_v3")
+    at = next(at for at in range(start, start + 400)
+              if 0 <= at + 4 + file.numbers("<i", file.offset(at))[0] - constants[4] < constants[6])
+    file.put("<i", file.offset(at), 0)
+
+
+WRITTEN, ENDS, PLAIN = "a place that has no constant, or may be written", "it leaves the code", "is no plain function"
+VERSION, CHECK, FILL = "const_hex_version", "const_hex_kernel_check", "const_hex_kernel_fill_v3"
+CLOSED, KNOWN, PLACES = "is no part of a segment", "twice or not known here", "const_hex_decode has the places"
+PAGE = 1 << 12
+# What is forged in the bytes of a right library, how, of which function, and what the tool says.
+CHANGED = [
+    ("nothing", lambda file: None, "const_hex_decode", "accepted"),
+    ("constants that can be written", segment(4, flags(6), place=PAGE), FILL, WRITTEN),
+    ("constants that cannot be read", segment(4, flags(0), place=PAGE), "", "with the flags 0"),
+    ("code that can be written", segment(5, flags(7)), "", "with the flags 7"),
+    ("code that cannot run", segment(5, flags(4)), VERSION, ENDS),
+    ("segments that meet", segment(6, lambda f, o, a, *rest: (f, o - PAGE, a - PAGE, *rest)), "", "share a page"),
+    ("code at another place of a page", segment(5, lambda f, o, *rest: (f, o + 16, *rest)), "", "another place of a"),
+    ("constants that end early", segment(4, lambda f, o, a, b, size, *rest: (f, o, a, b, 1, *rest), place=PAGE), FILL,
+     WRITTEN),
+    ("a segment larger than in memory", segment(5, lambda f, o, a, b, c, d, e: (f, o, a, b, c, c - 1, e)), "",
+     "larger in the file"),
+    ("a segment with random bytes", other_header(0x65A3DBE6), "", "a header of the kind 0x65a3dbe6"),
+    ("a second table for the loader", other_header(2), "", "two tables for the loader"),
+    ("other headers in memory", headers_elsewhere, "", "the headers do not lie at the start"),
+    ("headers of another size", lambda file: file.put("<H", 54, 64), "", "the headers do not lie at the start"),
+    ("a choice that is closed", closed(0, 4096), CHECK, WRITTEN),
+    ("code that is closed", closed(VERSION, 16), "", CLOSED),
+    ("what is closed is nowhere", closed(1 << 30, 16), "", CLOSED),
+    ("what is closed has no end", closed(0, 1 << 20), "", CLOSED),
+    ("a program", lambda file: file.put("<H", 16, 2), VERSION, "accepted"),
+    ("calls with relocations of another form", tag(10, 20, -8), "", "of a form that is not known here"),
+    ("a protected function", of_the_loader("<B", 5, 3), VERSION, "accepted"),
+    ("a file of 32 bits", lambda file: file.put("<B", 4, 1), "", "no shared library and no program"),
+    ("another processor", lambda file: file.put("<H", 18, 40), "", "no shared library and no program"),
+    ("a choice that is made before", begins_chosen, CHECK, WRITTEN),
+    ("a tag of the loader's table twice", tag(10, 6, -8), "", KNOWN),
+    ("an auditor", tag(10, 0x6FFFFEFC, -8), "", KNOWN),
+    ("code that the loader changes", tag(30, 4), "", KNOWN),
+    ("a library before all others", tag(0x6FFFFFFB, 0x400), "", KNOWN),
+    ("a table for the loader without an end",
+     segment(6, lambda f, o, a, b, size, _, e: (f, o, a, b, size, 96, e), kind=2), "", "the loader's table has no end"),
+    ("a table of names that is nowhere", tag(6, 1 << 20), "", "is nowhere"),
+    ("tables of the loader that are written", segment(4, flags(6)), "", "a table for the loader that is written"),
+    ("a function without a section", of_the_loader("<H", 6, 0), "", PLAIN),
+    ("a function at a number", of_the_loader("<H", 6, 0xFFF1), "", PLAIN),
+    ("a local function", of_the_loader("<B", 4, 2), "", PLAIN),
+    ("a function that the loader picks", of_the_loader("<B", 4, 0x1A), "", PLAIN),
+    ("a hidden function", of_the_loader("<B", 5, 2), "", PLAIN),
+    ("a name at a number", entry("<H", 6, lambda old: (0xFFF1,), kinds=(2,)), "", "is a symbol of another kind"),
+    ("a name of a function that is picked", entry("<B", 4, lambda old: (0x1A,), kinds=(2,)), "", "of another kind"),
+    ("a function that is elsewhere for the loader", value(32, kinds=(11,)), "", PLACES),
+    ("a function that begins later", value(4), "const_hex_decode", "depends on bytes that are secret"),
+    ("a function that begins in an instruction", value(1, VERSION), VERSION, "without a meaning"),
+    ("a local name of other code", value(32, CHECK, (2,)), "const_hex_check_raw",
+     "leaves the code|an address|is not as before|a place"),
+    ("a bucket before the table", bucket(lambda file, table, at, number: file.put("<I", table + 4, 512)), "",
+     "begins before itself"),
+    ("a filter of three words", bucket(lambda file, table, at, number: file.put("<I", table + 8, 3)), "",
+     "no known form"),
+    ("a filter with a great shift", bucket(lambda file, table, at, number: file.put("<I", table + 12, 32)), "",
+     "no known form"),
+    ("an empty bucket", bucket(lambda file, table, at, number: file.put("<I", at, 0)), "", "does not find"),
+    ("a filter that lets a name not pass", bucket(lambda file, table, at, number: file.put(
+        "<Q", table + 16, file.numbers("<Q", table + 16)[0] & ~(1 << number % 64))), "", "does not find"),
+    ("a call of another function", other_call, "const_hex_check_raw", "lies? in|an address|a register|argument|input"),
+    ("a relocation that is left out", without_relocation, FILL, "a wrong character|a place|an address"),
+    ("a file that is cut", lambda file: file.__delitem__(slice(5000, None)), "", "or not in it|cut or damaged"),
+    ("an object", lambda file: file.put("<H", 16, 1), "", "no shared library and no program"),
+    ("nothing at all", lambda file: file.clear(), "", "no linked file"),
+]
+# The same in a library by other options: with both tables of hashes, with relocations, and with those that are packed.
+DATA = ".bss; .space 64; .data; .balign 8; .hidden more; .globl more; more: .quad other, other; .text; other: ret"
+MORE = {"hashes": shared("-Wl,--hash-style=both"), "sysv": shared("-Wl,--hash-style=sysv"),
+        "relocations": shared(more=DATA), "packed": shared("-Wl,-z,pack-relative-relocs", more=DATA)}
+CHANGED_MORE = [
+    ("both tables", "hashes", lambda file: None, VERSION, "accepted"),
+    ("tables that differ", "hashes", bucket(lambda file, table, at, number: file.put("<I", at, 0)), "",
+     "in each of its tables"),
+    ("two functions of a name", "hashes", chain(2), "", "const_hex_check|const_hex_decode in each of its tables"),
+    ("a chain without an end", "hashes", chain(None), "", "a table of names that has no end"),
+    ("a chain beyond the table", "hashes", chain(500), "", "is written, or nowhere"),
+    ("two functions of a name", "sysv", chain(2), "", "const_hex_check|const_hex_decode in each of its tables"),
+    ("a function without a section", "sysv", of_the_loader("<H", 6, 0), "", PLAIN),
+    ("relocations", "relocations", lambda file: None, CHECK, "accepted"),
+    ("a relocation of the choice", "relocations", relocation(8, "choice"), CHECK, WRITTEN),
+    ("a relocation of code", "relocations", relocation(8, VERSION), "", "what must not be written"),
+    ("a relocation of a name for the loader", "relocations",
+     relocation(8, lambda file: file.numbers("<Q", file.tag(6))[0] + 32), "", "what must not be written"),
+    ("a relocation of the loader's table", "relocations",
+     relocation(8, lambda file: next(it[4] for it in file.segments if it[1] == 2) + 8), "", "changes its own table"),
+    ("a relocation beyond a segment", "relocations",
+     relocation(8, lambda file: max(it[4] + it[7] for it in file.segments if it[1] == 1) - 4), "", "where nothing is"),
+    ("a relocation of an unknown kind", "relocations", relocation(33, "more"), "", "a relocation of the kind 33"),
+    ("a copy over the choice", "relocations", copy_over_the_choice, CHECK, WRITTEN),
+    ("packed relocations", "packed", lambda file: None, CHECK, "accepted"),
+    ("a packed relocation of the choice", "packed",
+     lambda file: file.put("<Q", file.table(36), file.value("choice") // 8 * 8), CHECK, WRITTEN),
+    ("a packed bit for the choice", "packed",
+     lambda file: file.put("<QQ", file.table(36), file.value("choice") // 8 * 8 - 8, 3), CHECK, WRITTEN),
+    ("a packed relocation of code", "packed", lambda file: file.put("<Q", file.table(36), file.value(VERSION)), "",
+     "what must not be written"),
+]
+C, DISPATCH, FALSE = "functions_x86_64", "dispatch", "mov $1, %eax; ret"
+SCRIPT, OTHER = "-Wl,--version-script=/dev/stdin", ".globl other; .type other, @function; other: ret"
+HIDDEN, WRONG = "hidden SYMBOL(const_hex_check_nonnull)", "is left out|must|head of a loop|a register|an address"
+END = f"\tend SYMBOL({VERSION})"
+# What is linked, and of which function: options, lines of files that have another text, more of a source, and a script.
+LINKED = [
+    ("a function that others may replace", "const_hex_check", [],
+     [(C, HIDDEN, "exported SYMBOL(const_hex_check_nonnull)")], "", "", "without a meaning|is not fixed"),
+    ("a kernel that others may replace", "const_hex_check_raw", [], [(DISPATCH, "hidden \\name", "exported \\name")],
+     "", "", "without a meaning|is not fixed"),
+    # As by a group that another object has, by the first of two objects, or by code for the linker's plugin.
+    ("a function of another object", "const_hex_encode", [],
+     [(C, "call SYMBOL(const_hex_kernel_fill)", "call SYMBOL(const_hex_kernel_fxll)")],
+     ".weak const_hex_kernel_fxll; .hidden const_hex_kernel_fxll; .type const_hex_kernel_fxll, @function; "
+     f"const_hex_kernel_fxll: {FALSE}", "", WRONG),
+    ("relocations of code", "", ["-Wl,-z,notext"], [(C, END, f"\t.quad const_hex_check_raw; {END}")], "", "", KNOWN),
+    ("a choice in a section of data", CHECK, [],
+     [(DISPATCH, "variable choice", ".section .data.choice, \"aw\"; choice: .byte 2")], "", "", WRITTEN),
+    ("a version of another function", "", [SCRIPT], [],
+     f".globl other; .symver other, {VERSION}@V1; .type other, @function; other: {FALSE}",
+     "V1 {}; V2 { const_hex_*; };", "or a version"),
+    ("versions", "", [SCRIPT], [], "", "V1 { const_hex_*; };", "or a version"),
+    ("versions of others", VERSION, [SCRIPT], [], OTHER, "V1 { other; };", "accepted"),
+    ("a function that is not exported", "", [SCRIPT], [], "", "{ local: const_hex_check_raw; };",
+     "the loader does not find const_hex_check_raw"),
+    ("none that is exported", VERSION, [SCRIPT], [], "", "{ local: *; };", "accepted"),
+    ("functions of another file", "", ["-Wl,-F,other.so"], [], "", "", KNOWN),
+    ("functions that another file may have", "", ["-Wl,-f,other.so"], [], "", "", KNOWN),
+    ("no names", "", ["-Wl,-s"], [], "", "", "it is stripped"),
+    ("a symbol in an instruction", VERSION, [], [(C, END.strip(), f".set other, {VERSION} + 1; {END}")], "", "",
+     "without a meaning"),
+    # No loader reads what a debugger runs.
+    ("a script for a debugger", VERSION, [], [],
+     '.section .debug_gdb_scripts, "MS", @progbits, 1; .asciz "\\1file"', "", "accepted"),
+]
+# On AArch64, where a system may have pages of 64 KB: segments that share one.
+PAGES = """PHDRS { h PT_LOAD FILEHDR PHDRS FLAGS(4); t PT_LOAD FLAGS(5); d PT_LOAD FLAGS(6); dyn PT_DYNAMIC; }
+SECTIONS { . = SIZEOF_HEADERS; .gnu.hash : { *(.gnu.hash) } :h .dynsym : { *(.dynsym) } :h .dynstr : { *(.dynstr) } :h
+ . = ALIGN(%d); .text : { *(.text .text.* .rodata .rodata.*) } :t
+ . = ALIGN(65536) + 65536; .dynamic : { *(.dynamic) } :d :dyn .got : { *(.got*) } :d
+ /DISCARD/ : { *(.comment) *(.note*) *(.eh_frame) } }"""
+OF_AARCH64 = [("pages", "in_aarch64", 65536, "accepted"),
+              ("a page of two segments", "in_aarch64", 4096, "share a page")]
+
+
+class TestElf(unittest.TestCase):
+    @classmethod
+    def setUpClass(cls):
+        cls.right = shared()
+
+    def refuse(self, change, symbol, wanted):
+        self.refuse_more(None, change, symbol, wanted)
+
+    def refuse_more(self, build, change, symbol, wanted):
+        file = Elf(MORE.get(build, self.right))
+        change(file)
+        self.assertRegex(said(bytes(file), symbol), wanted)
+
+    def refuse_linked(self, symbol, options, changes, more, script, wanted):
+        self.assertRegex(said(shared(*options, changes=changes, more=more, script=script), symbol), wanted)
+
+    def refuse_pages(self, build, page, wanted):
+        self.assertRegex(said(shared("-Wl,-T,/dev/stdin", "-Wl,-z,max-page-size=65536", compiler=AARCH64,
+                                     script=PAGES % page), VERSION), wanted)
+
+
+add_tests(TestElf, TestElf.refuse, CHANGED)
+add_tests(TestElf, TestElf.refuse_more, CHANGED_MORE)
+add_tests(TestElf, TestElf.refuse_linked, LINKED)
+add_tests(TestElf, TestElf.refuse_pages, OF_AARCH64)
