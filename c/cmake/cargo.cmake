@@ -29,7 +29,7 @@ foreach(library const_hex const_hex_static)
 endforeach()
 # The archive is that of cargo.
 add_custom_command(TARGET const_hex_static POST_BUILD
-  COMMAND ${CMAKE_COMMAND} -E copy ${made} $<TARGET_FILE:const_hex_static>)
+  COMMAND ${CMAKE_COMMAND} -E copy ${made} $<TARGET_FILE:const_hex_static> VERBATIM)
 # The shared library exports the functions of the header, and nothing else.
 target_link_libraries(const_hex PRIVATE ${made})
 set_target_properties(const_hex PROPERTIES LINK_DEPENDS ${made})

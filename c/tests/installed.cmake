@@ -1,5 +1,5 @@
-# Tests of the installed library, in a folder with a blank in its name, and of the archive of a release.
-set(INSTALLED "${HERE}/in stalled")
+# Tests of the installed library, in a folder whose name has a blank and parentheses, and of the archive of a release.
+set(INSTALLED "${HERE}/in (stalled)")
 set(LIB ${INSTALLED}/${CMAKE_INSTALL_LIBDIR})
 set(WITH PROPERTIES FIXTURES_REQUIRED installed)
 test(installed PROPERTIES FIXTURES_SETUP installed COMMAND sh -c
@@ -36,18 +36,19 @@ function(made_by how line)
     PROPERTIES FIXTURES_REQUIRED "installed;unpacked" ENVIRONMENT
     "PKG_CONFIG_PATH=${LIB}/pkgconfig;LD_LIBRARY_PATH=${LIB}")
 endfunction()
-# By a compiler's line, in which `rest` says where the library is.
+# By a compiler's line, in which `rest` says where the library is, or pkg-config does, whose words xargs reads.
 function(compiled how compiler language rest)
   set(flags "${TARGET} -Wall -Wextra -Werror -O2 -x ${language} '${EXAMPLES}/unhex.c' -x none -o unhex")
-  made_by(installed.${how} "eval \"'${compiler}' ${flags} ${rest}\"" ${compiler} ${ARGN})
+  made_by(installed.${how} "${FOUND}'${compiler}' ${flags} ${rest}" ${compiler} ${ARGN})
 endfunction()
-set(FOUND "$(pkg-config --cflags --libs const_hex)")
-compiled(pkg-config_C ${CMAKE_C_COMPILER} c "${FOUND}" pkg-config)
-compiled(pkg-config_C_static ${CMAKE_C_COMPILER} c "-static ${FOUND}" pkg-config)
+set(FOUND "pkg-config --cflags --libs const_hex | xargs ")
+compiled(pkg-config_C ${CMAKE_C_COMPILER} c "" pkg-config)
+compiled(pkg-config_C_static ${CMAKE_C_COMPILER} c -static pkg-config)
 if(NOT CMAKE_CROSSCOMPILING)
-  compiled(pkg-config_CXX c++ c++ "${FOUND}" pkg-config)
-  compiled(pkg-config_CXX_static c++ c++ "-static ${FOUND}" pkg-config)
+  compiled(pkg-config_CXX c++ c++ "" pkg-config)
+  compiled(pkg-config_CXX_static c++ c++ -static pkg-config)
   # With another libc.
+  set(FOUND)
   set(INCLUDE "'-I${INSTALLED}/include'")
   compiled(musl_static musl-gcc c "${INCLUDE} -static '${LIB}/libconst_hex.a'")
   compiled(musl_shared musl-gcc c "${INCLUDE} '${LIB}/libconst_hex.so' '-Wl,-rpath,${LIB}'")
