@@ -13,6 +13,11 @@ unfoldable pub groups_from : ℕ → ℕ → ℕ → List ℕ → List ℕ
 groups_from n s c [] = ended s c
 groups_from n s c (b ∷ t) = if c == n then s ∷ b ∷ groups_from n s 1 t else b ∷ groups_from n s (c + 1) t
 
+-- y is what is written in groups for the text t, whatever follows, and the last group then has d characters
+abbrev pub PutsInto : Groups → ℕ → List ℕ → List ℕ → ℕ → Type 0
+PutsInto g c t y d =
+    (rest : List ℕ) → groups_from g.size g.separator c (t ++ rest) ≡ y ++ groups_from g.size g.separator d rest
+
 -- as `groups_from`, or the text as it is if there are no groups
 abbrev pub laid_out : Groups → ℕ → List ℕ → List ℕ
 laid_out g c t = if g.size == 0 then t else groups_from g.size g.separator c t

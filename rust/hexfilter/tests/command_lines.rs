@@ -46,11 +46,12 @@ impl Drop for Folder {
 }
 
 /// Other tools, and the options that write the same.
-const TOOLS: [(&str, &str); 4] = [
+const TOOLS: [(&str, &str); 5] = [
     ("xxd -p disk.img", "-w60"),
     ("basenc --base16 disk.img", "-uw 76"),
     ("basenc --base16 -w1 disk.img", "--upper --wrap=1"),
     ("od -An -v -tx1 -w9999999 disk.img | cut -c2- | tr -d '\\n'", "-g1"),
+    ("xxd -p disk.img | tr -d '\\n' | sed 's/......../&-/g; s/-$//'", "-g4 -s-"),
 ];
 
 /// Files that the page names, how they are made, and what writes the bytes that they stand for.

@@ -1,8 +1,11 @@
 -- Parts of groups.
-use Rattle.std.proofs.Common.{◌≡◌, ℕ, ◌+◌, ◌<◌, ◌≤◌, List, [], ◌∷◌, ◌++◌, length, take, drop, sym, ap, ◌∙◌, arith, append_assoc, length-append}
+use Rattle.std.proofs.Common.{◌≡◌, ℕ, ◌+◌, ◌-◌, ◌<◌, ◌≤◌, List, [], ◌∷◌, ◌++◌, length, take, drop, get_or, slice_set, refl, sym, ap, ◌∙◌, arith, append_assoc, length-append}
 use Rattle.std.proofs.Math.Seq.{take-add}
-use Rattle.std.proofs.lemmas.List.{length-take, length-drop}
-use Rattle.hexfilter_core.specs.Groups.{groups_from}
+use Rattle.std.proofs.lemmas.List.{length-set, length-take, length-take-le, length-drop, take-take, take_all}
+use borrow.Rule.Slice.PartMut.{put_mid}
+use Rattle.hexfilter_core.proofs.lemmas.Texts.{take_put}
+use Rattle.hexfilter_core.specs.Groups.{PutsInto, groups_from}
+use Rattle.hexfilter_core.specs.declared.mode.Groups.{Groups}
 
 -- a part that fits into the group
 within_group : (n s c : ℕ) (u t : List ℕ) → c + length u ≤ n
@@ -41,3 +44,56 @@ module _ (n s first c : ℕ) (text : List ℕ) (done count : ℕ) (laid : List �
       ∙ ap (λ k. laid ++ (piece ++ groups_from n s (c + k) rest)) size
       ∙ sym (append_assoc laid piece (groups_from n s (c + count) rest))
       ∙ ap (λ l. l ++ groups_from n s (c + count) rest) (sym put)
+
+-- `done` characters stand in groups, and then `count` more are put there
+pub puts_more : (g : Groups) (c d e : ℕ) (text : List ℕ) (done count : ℕ) (out new : List ℕ) (end m k : ℕ)
+    → done ≤ length text → end ≤ length out → k ≤ length new
+    → PutsInto g c (take done text) (take end out) d
+    → PutsInto g d (take count (take (length text - done) (drop done text))) (take k new) e
+    → PutsInto g c (take (done + count) text) (take (end + k) (put_mid end m out new)) e
+puts_more g c d e text done count out new end m k within started enough first more rest =
+    let piece = take count (drop done text) in
+    let next =
+    rw (take_all (length text - done) (drop done text) (omega (arith, length-drop done text))) at more rest in
+    rw (take-add done count text, take_put end m k out new started enough)
+    (ap (groups_from g.size g.separator c) (append_assoc (take done text) piece rest) ∙ first (piece ++ rest)
+    ∙ ap (λ l. take end out ++ l) next
+    ∙ sym (append_assoc (take end out) (take k new) (groups_from g.size g.separator e rest)))
+
+first_set : (out : List ℕ) (s : ℕ) → 0 < length out → take 1 (slice_set out 0 s) ≡ s ∷ []
+first_set [] s h = absurd (omega arith)
+first_set (b ∷ out) s h = refl
+
+-- one group after a separator
+pub puts_one : (n s : ℕ) (text out new : List ℕ) → 0 < n → n ≤ 16 → 16 ≤ length text → 17 ≤ length out
+    → new ≡ take 16 text → (rest : List ℕ)
+    → groups_from n s n (take n text ++ rest)
+    ≡ take (n + 1) (put_mid 1 16 (slice_set out 0 s) new) ++ groups_from n s n rest
+puts_one n s text out new some short many space copied rest =
+    let size : length (take n text) ≡ n = length-take-le n text (omega (arith, short, many)) in
+    let all : length new ≡ 16 = rw copied (length-take-le 16 text many) in
+    let added : n + 1 ≡ 1 + n = omega arith in
+    let end : 0 + length (take n text) ≡ n = omega (arith, size) in
+    let put = take_put 1 16 n (slice_set out 0 s) new (omega (arith, length-set out 0 s, space)) (omega (arith, all, short)) in
+    let front = first_set out s (omega (arith, space)) in
+    let kept : take n new ≡ take n text = rw copied (take-take n 16 text short) in
+    after_group n s (take n text ++ rest) some (omega (arith, size, some, length-append (take n text) rest))
+    ∙ ap (λ l. s ∷ l) (within_group n s 0 (take n text) rest (omega (arith, size)))
+    ∙ ap (λ k. s ∷ (take n text ++ groups_from n s k rest)) end
+    ∙ rw (added, put, front, kept) refl
+
+-- four pairs, each after a separator
+pub puts_pairs : (s : ℕ) (text rest : List ℕ) → 8 ≤ length text
+    → groups_from 2 s 2 (take 8 text ++ rest)
+    ≡ s ∷ get_or text 0 0 ∷ get_or text 1 0 ∷ s ∷ get_or text 2 0 ∷ get_or text 3 0 ∷ s ∷ get_or text 4 0
+    ∷ get_or text 5 0 ∷ s ∷ get_or text 6 0 ∷ get_or text 7 0 ∷ groups_from 2 s 2 rest
+unfolding groups_from
+puts_pairs s [] rest many = absurd (omega arith)
+puts_pairs s (a ∷ []) rest many = absurd (omega arith)
+puts_pairs s (a ∷ b ∷ []) rest many = absurd (omega arith)
+puts_pairs s (a ∷ b ∷ c ∷ []) rest many = absurd (omega arith)
+puts_pairs s (a ∷ b ∷ c ∷ d ∷ []) rest many = absurd (omega arith)
+puts_pairs s (a ∷ b ∷ c ∷ d ∷ e ∷ []) rest many = absurd (omega arith)
+puts_pairs s (a ∷ b ∷ c ∷ d ∷ e ∷ f ∷ []) rest many = absurd (omega arith)
+puts_pairs s (a ∷ b ∷ c ∷ d ∷ e ∷ f ∷ g ∷ []) rest many = absurd (omega arith)
+puts_pairs s (a ∷ b ∷ c ∷ d ∷ e ∷ f ∷ g ∷ h ∷ text) rest many = refl

@@ -1,6 +1,6 @@
 use Rattle.std.proofs.Common.{◌∙◌, ◌-◌, ◌++◌, length, take, drop, ap, arith, length-drop}
 use Rattle.std.proofs.lemmas.List.{take_all}
-use Rattle.hexfilter_core.proofs.lemmas.GroupBreaks.{goes_on}
+use Rattle.hexfilter_core.proofs.lemmas.GroupBreaks.{goes_on, puts_more}
 use Rattle.hexfilter_core.proofs.lemmas.Texts.{take_put}
 use Rattle.hexfilter_core.proofs.groups.put_groups.Goals as goal
 
@@ -21,4 +21,16 @@ groups-preserved c =
       column = omega (arith, parted.column);
       groups = goes_on _ _ _ _ text done count _ (λ rest some. laid.groups rest ∙ parted.groups rest some)
           (omega arith) (omega arith) (omega arith) _ put;
+    }
+
+pub groups-preserved-then-text-done-gt-SHORT : goal.groups-preserved-then-text-done-gt-SHORT
+groups-preserved-then-text-done-gt-SHORT c =
+    let laid = c.groups.invariant in
+    let put = c.put_short-taken.ensures in record {
+      within = omega arith;
+      space = omega arith;
+      column = omega arith;
+      groups = rw c.if-column-groups.true (puts_more c.args.groups c.args.column _ _ c.args.text.now c.groups.done _ c.groups.output
+          c.put_short-taken.new.output c.groups.end _ _ (omega arith) (omega arith) (omega arith)
+          (rw c.if-column-groups.true at laid.groups) put.groups);
     }
