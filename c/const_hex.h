@@ -89,7 +89,8 @@
  *
  * A function uses at most 2,048 bytes of stack, which the tool machine_code checks, and calls no other library. The
  * object files have no unwind tables: a debugger or profiler that stops inside a function may not find its caller.
- * They have no IBT and SHSTK properties: a program that links them statically runs without these protections.
+ * They have no IBT, SHSTK and BTI properties: a program that links them statically runs without these protections,
+ * and where a system enforces them, as OpenBSD does, a call may stop the program.
  *
  * BUILDING
  *

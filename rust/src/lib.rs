@@ -21,7 +21,9 @@
 //!
 //! Features: `alloc` adds what returns a `String` or a vector; `std` (by default) adds `alloc`, `DecodeReader`,
 //! `EncodeWriter` and `std::error::Error`; `serde` adds `#[serde(with = "const_hex_proved")]`; `core-error` implements
-//! `core::error::Error` without `std`, by Rust 1.81; `force-generic` uses no machine code.
+//! `core::error::Error` without `std`, and needs Rust 1.81; `force-generic` uses no machine code.
+//!
+//! No function is claimed to be constant-time: of what runs, only the machine code is, and for valid input.
 #![no_std]
 #![deny(unsafe_code, unsafe_op_in_unsafe_fn)]
 #![warn(missing_docs)]
