@@ -121,8 +121,8 @@ def _read_relocations(image, dynamic):
 def _read_exported(image, dynamic, name):
     """Adds a function of the header as the loader finds it, by each table of hashes. Any symbol of this name on the
     loader's way has to be this function."""
-    found = [[at for at in walk(image, dynamic[tag], name.encode())
-              if image.is_text(dynamic[STRINGS] + image.numbers("<I", dynamic[SYMBOLS] + 24 * at)[0], name)]
+    text = lambda at: image.bytes_at(dynamic[STRINGS] + image.numbers("<I", dynamic[SYMBOLS] + 24 * at)[0], len(name) + 1)
+    found = [[at for at in walk(image, dynamic[tag], name.encode()) if text(at) == name.encode() + b"\0"]
              for tag, walk in ((HASH, _by_hash), (GNU_HASH, _by_gnu_hash)) if tag in dynamic]
     if not any(found):
         return

@@ -34,17 +34,20 @@ class Image:
     """A file for a processor. `page` is the greatest page that a system may have, in which no two segments may lie."""
 
     def __init__(self, machine, page):
-        self.machine, self.page, self.segments = machine, page, []
+        # Where the file begins in memory, and how large it is there.
+        self.machine, self.page, self.segments, self.first, self.size = machine, page, [], 0, 0
         # The places of each name, and the functions of the header that the loader finds.
         self.places, self.exported = {}, set()
         # What the loader writes, by eight bytes; and what it makes read-only afterwards, by places.
         self.changed, self.closed = set(), []
 
     def add_segment(self, data, address, size, offset, in_file, kind):
-        if self.segments and up(self.segments[-1].address + self.segments[-1].size, self.page) > address:
+        if self.segments and up(self.first + self.size, self.page) > address:
             raise ValueError("two segments that share a page")
         if not in_file <= size < 1 << 62 or len(data) < offset + in_file:
             raise ValueError("a segment that is larger in the file than in memory, or not in it")
+        self.first = self.first if self.segments else address // self.page * self.page
+        self.size = address + size - self.first
         self.segments.append(Segment(address, size, data[offset : offset + in_file], kind))
 
     def add_symbol(self, name, place, is_known=True):
@@ -78,14 +81,6 @@ class Image:
     def starts(self):
         return sorted({place for places in self.places.values() for place in places})
 
-    @property
-    def first(self):
-        return self.segments[0].address // self.page * self.page
-
-    @property
-    def size(self):
-        return self.segments[-1].address + self.segments[-1].size - self.first
-
     def segment_at(self, address):
         return next((it for it in self.segments if it.address <= address < it.address + it.size), None)
 
@@ -101,9 +96,6 @@ class Image:
         if len(content) < struct.calcsize(form):
             raise ValueError(f"what the loader reads at {address:#x} is written, or nowhere")
         return struct.unpack(form, content)
-
-    def is_text(self, address, text):
-        return self.bytes_at(address, len(text) + 1) == text.encode() + b"\0"
 
     def read(self, offset, count):
         """The constants at an offset, which may be fewer."""

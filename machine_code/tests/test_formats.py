@@ -58,6 +58,12 @@ class Pe(File):
         sections = [self.numbers("<8sIIII", self.section(name)) for name in (".rdata", ".edata", ".idata", ".reloc")]
         return next(at + address - start for _, size, start, _, at in sections if start <= address < start + size)
 
+    def symbol(self, name):
+        """The entry of a name, which is a long one."""
+        first, count = self.numbers("<II", self.head + 12)
+        start = self.index(b"\0" + name.encode() + b"\0", first + 18 * count) + 1 - first - 18 * count
+        return next(at for at in range(first, first + 18 * count, 18) if self.numbers("<II", at) == (0, start))
+
     def at(self, number, more=0):
         """Where a table of the loader lies in the file."""
         return self.offset(self.numbers("<I", self.table(number))[0]) + more
@@ -79,7 +85,9 @@ def section(name, at, change, form="<I"):
 
 
 def place_of(file, name):
-    """Where a section begins, or a symbol lies."""
+    """Where a section begins, a symbol lies, or without a name the table for threads."""
+    if not name:
+        return file.numbers("<I", file.table(9))[0]
     return file.numbers("<I", file.section(name) + 12)[0] if name[0] == "." else library.read(bytes(file)).symbols[name]
 
 
@@ -94,9 +102,16 @@ def base_relocation(name, more=0, kind=10):
     return changed
 
 
-def imported(name):
-    """The address of what is imported is written where a symbol lies."""
-    return lambda file: file.put("<I", file.at(1, 16), place_of(file, name))
+def imported(name, zeros=0, names=None):
+    """The address of what is imported is written where a symbol lies, perhaps over zeros, or without names."""
+
+    def changed(file):
+        place = place_of(file, name)
+        file.put("<I", file.at(1, 16), place)
+        file.put(f"<{zeros}s", file.offset(place), b"")
+        file.put("<I", file.at(1), *(file.numbers("<I", file.at(1)) if names is None else (names,)))
+
+    return changed
 
 
 def threads(file):
@@ -150,6 +165,15 @@ PES = [
     ("relocations without an end", lambda file: file.put("<I", file.at(5, 4), 0), "cut or damaged|without an end"),
     ("imports over constants", imported(CONSTANT_OF_FILL), NO_CONSTANT),
     ("a number for threads over a constant", threads, NO_CONSTANT),
+    ("a number for threads at an unknown place", base_relocation(None, 20), "at an unknown place"),
+    ("no imports", lambda file: file.put("<II", file.table(1), 0, 0), "accepted"),
+    ("imports over zeros", imported(CONSTANT_OF_FILL, zeros=16), NO_CONSTANT),
+    ("imports without names", imported(CONSTANT_OF_FILL, names=0), NO_CONSTANT),
+    ("functions beyond their table", lambda file: file.put("<I", file.at(0, 20), 0), "no plain function"),
+    ("an absolute name", lambda file: file.put("<h", file.symbol(FILL) + 12, -1), "a symbol of another kind"),
+    ("a name of another kind", lambda file: file.put("<B", file.symbol(FILL) + 16, 104), "a symbol of another kind"),
+    ("another form of programs", lambda file: file.put("<2s", file.head, b"NE"), "no DLL and no program"),
+    ("another processor", lambda file: file.put("<H", file.head + 4, 0x14C), "no DLL and no program"),
     ("names that are not sorted", names_of_exports(swapped), "not sorted"),
     ("a name twice", names_of_exports(twice), "not sorted"),
     ("a name that is missing", lambda file: file.put("<I", file.at(0, 24), 9), "does not find const_hex_version"),
@@ -252,6 +276,12 @@ def tree(change):
     return changed
 
 
+def to_nothing(edges):
+    """The first branch that fits has none of the rest, which another one has."""
+    edges.append(("ersion", edges[0][1]))
+    edges.insert(0, ("_const_hex_v", b"\0"))
+
+
 def with_flags(flags):
     return lambda edges: edges.__setitem__(0, (edges[0][0], edges[0][1][:1] + bytes([flags]) + edges[0][1][2:]))
 
@@ -259,6 +289,8 @@ def with_flags(flags):
 MACH_OS = [
     ("nothing", "x86_64", lambda file: None, "accepted"),
     ("nothing", "arm64", lambda file: None, "accepted"),
+    ("a program", "x86_64", lambda file: file.put("<I", 12, 2), "accepted"),
+    ("another processor", "x86_64", lambda file: file.put("<I", 4, 7), "no dylib and no program"),
     ("an unknown command", "x86_64", lambda file: file.put("<I", file.commands(0x26)[0], 0x2C), "the command 0x2c"),
     # Of two tables of symbols, linkers take the first.
     ("a second table of symbols", "x86_64", lambda file: file.put("<I", file.commands(0x26)[0], 2),
@@ -289,9 +321,11 @@ MACH_OS = [
     ("a chain over the choice", "x86_64", chain("choice"), NO_CHOICE),
     ("a chain over code", "x86_64", chain("_const_hex_version"), "what must not be written"),
     ("a chain of an unknown form", "x86_64", chain("choice", 1), "of a form that is not known"),
+    ("a page without a chain", "x86_64", chain("choice", flag=0xFFFF), "accepted"),
     ("many chains in a page", "x86_64", chain("choice", flag=0x8000), "of a form that is not known"),
     ("a tree of names", "x86_64", tree(lambda edges: None), "accepted"),
-    ("a branch to nothing", "x86_64", tree(lambda edges: edges.insert(0, ("_const_hex_v", b"\0"))),
+    ("a branch to nothing", "x86_64", tree(to_nothing), "does not find const_hex_version"),
+    ("a branch without a function", "x86_64", tree(lambda edges: edges.__setitem__(0, (edges[0][0], b"\0"))),
      "does not find const_hex_version"),
     ("a branch that is missing", "x86_64", tree(lambda edges: edges.pop(0)), "does not find const_hex_version"),
     ("a function of another library", "x86_64", tree(with_flags(8)), "is no plain function"),
@@ -299,6 +333,10 @@ MACH_OS = [
     ("a function that dyld picks", "x86_64", tree(with_flags(16)), "is no plain function"),
     ("another function in the tree", "x86_64", tree(lambda edges: edges.__setitem__(0, (edges[0][0], edges[1][1]))),
      "has the places"),
+    ("a name for a debugger", "x86_64", lambda file: file.put("<B", file.symbol("_const_hex_version") + 4, 0x24),
+     "accepted"),
+    ("a name from elsewhere", "x86_64", lambda file: file.put("<B", file.symbol("_const_hex_version") + 4, 1),
+     "accepted"),
     ("a name that is picked", "x86_64", lambda file: file.put("<H", file.symbol("_const_hex_version") + 6, 0x100),
      "a symbol of another kind"),
     ("an absolute name", "x86_64", lambda file: file.put("<B", file.symbol("_const_hex_version") + 4, 3),
