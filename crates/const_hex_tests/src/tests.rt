@@ -7,6 +7,7 @@ mod sinks;
 mod tables;
 mod uses;
 mod vectors;
+mod worked;
 mod write_sink;
 
 use const_hex_testing::Testing;

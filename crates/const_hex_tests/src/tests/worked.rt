@@ -1,0 +1,200 @@
+//! Worked rows of the calls that allocate nothing, and that the table of test vectors does not ask. Their contracts
+//! say the same of every input; here the terms of the contracts meet values from elsewhere.
+
+ghost use Rattle.std.specs.Prelude.{◌≡◌, ◌≤◌, true, false};
+ghost use Rattle.const_hex.specs.Texts.{text_length};
+
+use const_hex::FromHexError::{InvalidStringLength, OddLength};
+use const_hex::{
+    Buffer, FromHex, FromHexError, check, check_raw, const_check, const_check_raw,
+    const_decode_to_array, const_encode, decode_to_array, decode_to_slice, encode_to_slice,
+    encode_to_slice_upper, encode_to_str, encode_to_str_upper,
+};
+use const_hex_testing::texts::{invalid, make_bytes, print};
+use const_hex_testing::{Testing, Text, same, same_bytes, same_read};
+use hash_hex::Hash32;
+
+const HELLO: &[u8] = b"48656c6c6f20776f726c6421";
+
+/// What each check returns for a text: those that remove a prefix, and those of digits alone.
+#[test]
+fn checks(rt: HostRuntime) {
+    let rows: [(&[u8], Result<(), FromHexError>, bool); 13] = [
+        (b"", Ok(()), true),
+        (b"0x", Ok(()), false),
+        (HELLO, Ok(()), true),
+        (b"0x48656c6c6f20776f726c6421", Ok(()), false),
+        (b"0X48656C6C6F20776F726C6421", Ok(()), false),
+        (b"48656c6c6f20776f726c642", Err(OddLength), true),
+        (b"0x1", Err(OddLength), false),
+        (b"foo", Err(OddLength), false),
+        (b"123", Err(OddLength), true),
+        (b"0x0x", Err(invalid(b'x', 3)), false),
+        (b"0xzz", Err(invalid(b'z', 2)), false),
+        (b"Hello world!", Err(invalid(b'H', 0)), false),
+        (b"\xff0", Err(invalid(0xFF, 0)), false),
+    ];
+    for (text, checked, is_digits) in rows {
+        same!(&rt, "check", Text(text); (check(text), const_check(text)), (checked, checked));
+        same!(&rt, "check_raw", Text(text); (check_raw(text), const_check_raw(text)), (is_digits, is_digits));
+    }
+}
+
+/// What each decoder of N bytes returns, and what `decode_to_slice` leaves of bytes 0xEE after an error.
+fn decodes<const N: usize>(rt: &impl Testing, text: &[u8], wanted: Result<&[u8], FromHexError>)
+    requires { N ≤ 128 }
+{
+    let row = Text(text);
+    same_read!(rt, "decode_to_array", row; decode_to_array::<N>(text), wanted);
+    same_read!(rt, "const_decode_to_array", row; const_decode_to_array::<N>(text), wanted);
+    same_read!(rt, "from_hex", row; <[u8; N]>::from_hex(rt.alloc(), text), wanted);
+    let mut bytes = [0xEE; N];
+    let done = decode_to_slice(text, &mut bytes);
+    same!(rt, "decode_to_slice", row; done.is_ok(), wanted.is_ok());
+    same_bytes!(rt, "decode_to_slice", row; bytes, wanted.unwrap_or(&[0xEE; N]));
+}
+
+#[test]
+fn decoders(rt: HostRuntime) {
+    decodes::<0>(&rt, b"0x", Ok(b""));
+    decodes::<4>(&rt, b"6b697769", Ok(b"kiwi"));
+    decodes::<4>(&rt, b"0x6b697769", Ok(b"kiwi"));
+    decodes::<4>(&rt, b"0X6B697769", Ok(b"kiwi"));
+    decodes::<12>(&rt, HELLO, Ok(b"Hello world!"));
+    for text in [b"0x1".as_slice(), b"foo", b"123"] {
+        decodes::<1>(&rt, text, Err(OddLength));
+    }
+    decodes::<1>(&rt, b"0xzz", Err(invalid(b'z', 2)));
+    decodes::<1>(&rt, b"0x", Err(InvalidStringLength));
+    decodes::<2>(&rt, b"ff", Err(InvalidStringLength));
+    decodes::<3>(&rt, b"6b697769", Err(InvalidStringLength));
+    decodes::<3>(&rt, b"zz", Err(InvalidStringLength));
+    decodes::<3>(&rt, b"zzz", Err(OddLength));
+    same!(&rt; <[i8; 2]>::from_hex(rt.alloc(), b"ff80"), Ok([-1, -128]));
+}
+
+#[test]
+fn encoders(rt: HostRuntime) {
+    let mut text = [0xEE; 8];
+    same!(&rt; encode_to_slice(b"kiwi", &mut text), Ok(()));
+    same_bytes!(&rt, "encode_to_slice", "kiwi"; text, "6b697769");
+    same!(&rt; encode_to_slice_upper(b"kiwi", &mut text), Ok(()));
+    same_bytes!(&rt, "encode_to_slice_upper", "kiwi"; text, "6B697769");
+    same!(&rt; encode_to_str(b"kiwi", &mut text).unwrap_or(""), "6b697769");
+    same!(&rt; encode_to_str_upper(b"kiwi", &mut text).unwrap_or(""), "6B697769");
+    same!(&rt; encode_to_slice(b"", &mut []), Ok(()));
+    for size in 0..=20usize {
+        let mut text = [0xEE; 20];
+        if size != 10 {
+            let encoded = encode_to_slice(b"fiver", &mut text[..size]);
+            same!(&rt, "encode_to_slice", size; encoded, Err(InvalidStringLength));
+            same_bytes!(&rt, "encode_to_slice", size; text, [0xEE; 20]);
+        }
+    }
+}
+
+/// Formats and decodes N bytes. The buffers are new: as parameters they show that their sizes fit.
+fn formats<const N: usize, const DIGITS: usize, const FULL: usize>(
+    rt: &impl Testing,
+    bytes: &[u8],
+    mut digits: Buffer<N, false, DIGITS>,
+    mut full: Buffer<N, true, FULL>,
+)
+    requires size { N ≤ 128 }
+    requires digits { DIGITS ≡ text_length false N }
+    requires full { FULL ≡ text_length true N }
+{
+    let Some(bytes) = bytes.first_chunk::<N>() else {
+        return;
+    };
+    let lower = print(rt.alloc(), bytes, false, false).expect(rt, "memory");
+    let upper = print(rt.alloc(), bytes, true, true).expect(rt, "memory");
+    same!(rt, "format", N; digits.format(bytes), lower.as_str());
+    same!(rt, "format_slice", N; digits.format_slice(bytes), lower.as_str());
+    same!(rt, "format_upper", N; full.format_upper(bytes), upper.as_str());
+    same!(rt, "format_slice_upper", N; full.format_slice_upper(bytes), upper.as_str());
+    same_bytes!(rt, "as_byte_array", N; full.as_byte_array(), upper);
+    let owned = full.to_string(rt.alloc()).expect(rt, "memory");
+    same_bytes!(rt, "to_string", N; owned, upper);
+    decodes::<N>(rt, lower.as_bytes(), Ok(bytes));
+    decodes::<N>(rt, upper.as_bytes(), Ok(bytes));
+}
+
+#[test]
+fn buffers(rt: HostRuntime) {
+    let bytes = make_bytes(rt.alloc(), 128).expect(&rt, "memory");
+    formats(
+        &rt,
+        &bytes,
+        Buffer::<1, false, 2>::new(),
+        Buffer::<1, true, 4>::new(),
+    );
+    formats(
+        &rt,
+        &bytes,
+        Buffer::<8, false, 16>::new(),
+        Buffer::<8, true, 18>::new(),
+    );
+    formats(
+        &rt,
+        &bytes,
+        Buffer::<20, false, 40>::new(),
+        Buffer::<20, true, 42>::new(),
+    );
+    formats(
+        &rt,
+        &bytes,
+        Buffer::<32, false, 64>::new(),
+        Buffer::<32, true, 66>::new(),
+    );
+    formats(
+        &rt,
+        &bytes,
+        Buffer::<64, false, 128>::new(),
+        Buffer::<64, true, 130>::new(),
+    );
+    formats(
+        &rt,
+        &bytes,
+        Buffer::<128, false, 256>::new(),
+        Buffer::<128, true, 258>::new(),
+    );
+}
+
+#[test]
+fn worked_buffers(rt: HostRuntime) {
+    let mut buffer = Buffer::<4, true, 10>::new();
+    same!(&rt; buffer.format(b"kiwi"), "0x6b697769");
+    same!(&rt; buffer.format_upper(b"kiwi"), "0x6B697769");
+    same!(&rt; Buffer::<2, true, 6>::new().format_slice_upper(&[0xAB, 0x0C]), "0xAB0C");
+    same!(&rt; Buffer::<4, false, 8>::new().format(b"1234"), "31323334");
+    same!(&rt; const_encode::<4, false, 8>(b"kiwi").as_str(), "6b697769");
+    let empty = const_encode::<0, true, 2>(&[])
+        .to_vec(rt.alloc())
+        .expect(&rt, "memory");
+    same_bytes!(&rt, "to_vec", 0; empty, [48, 120]);
+}
+
+#[test]
+fn hashes(rt: HostRuntime) {
+    let rows: [(&[u8], FromHexError); 4] = [
+        (b"0x0", OddLength),
+        (b"0xzz", InvalidStringLength),
+        (
+            b"0x000102030405060708090a0b0c0d0e0f101112131415161718191a1b1c1d1e",
+            InvalidStringLength,
+        ),
+        (
+            b"0xzz00000000000000000000000000000000000000000000000000000000000000",
+            invalid(b'z', 2),
+        ),
+    ];
+    for (text, error) in rows {
+        same!(&rt, "Hash32", Text(text); Hash32::from_hex(rt.alloc(), text), Err(error));
+    }
+    let hash = Hash32::from_hex(rt.alloc(), &[b'F'; 64]).expect(&rt, "digits");
+    let text = hash.to_string(rt.alloc()).expect(&rt, "memory");
+    same_bytes!(&rt, "to_string", "F"; text, "0xffffffffffffffffffffffffffffffffffffffffffffffffffffffffffffffff");
+    let value = hash.to_value(rt.alloc()).expect(&rt, "memory");
+    same!(&rt; Hash32::from_value(rt.alloc(), &value), Ok(hash));
+}
