@@ -173,23 +173,25 @@ fn encode_and_decode<H: Host, W: Write>(
     (written, program(host, read, &mut input, output))
 }
 
-/// Runs the program with `--decode` alone.
-fn decode_standard_input<R: Read, W: Write>(
-    host: &impl Host,
+/// Runs the program to decode a file of that name.
+fn decode_file<H: Host, R: Read, W: Write>(
+    host: &H,
     arguments: &[String],
     input: &mut R,
     output: &mut W,
 ) -> ExitCode
-    requires { map string_bytes arguments.now ≡ codes "--decode" ∷ [] }
-    ensures done { exit_status result ≡ 0 → (x : List ℕ) × (y : List ℕ)
-        × Consumes (R.remaining input.old) (R.remaining input.new) x × IsAtEnd (R.remaining input.new) × Reads x (Ok y)
-        × Appends (W.contents output.old) (W.contents output.new) y }
-    ensures invalid { exit_status result ≡ 1 → (x : List ℕ)
-        × Consumes (R.remaining input.old) (R.remaining input.new) x × ((y : List ℕ) → Reads x (Ok y) → ⊥) }
-    ensures failed { exit_status result ≡ 3 → (x : List ℕ) × (y : List ℕ)
-        × Consumes (R.remaining input.old) (R.remaining input.new) x
-        × Spells (take (2 * length y) (body_of x)) y × Appends (W.contents output.old) (W.contents output.new) y }
+    requires { map string_bytes arguments.now ≡ codes "--decode" ∷ codes "text" ∷ [] }
+    ensures done { (x : List ℕ) → H.bytes host.now (codes "text") ≡ Some x → exit_status result ≡ 0
+        → (y : List ℕ) × Reads x (Ok y) × Appends (W.contents output.old) (W.contents output.new) y }
+    ensures invalid { (x y : List ℕ) → H.bytes host.now (codes "text") ≡ Some x → exit_status result ≡ 1
+        → Reads x (Ok y) → ⊥ }
+    ensures failed { (x : List ℕ) → H.bytes host.now (codes "text") ≡ Some x → exit_status result ≡ 3
+        → (z : List ℕ) × (rest : List ℕ) × (y : List ℕ) × (x ≡ z ++ rest)
+        × Spells (take (2 * length y) (body_of z)) y × Appends (W.contents output.old) (W.contents output.new) y }
+    ensures not_opened { H.can_open host.now (codes "text") ≡ false
+        → (exit_status result ≡ 3) × (W.contents output.new ≡ W.contents output.old) }
     ensures statuses { (exit_status result ≡ 0) ⊎ (exit_status result ≡ 1) ⊎ (exit_status result ≡ 3) }
+    ensures not_read { input.new ≡ input.old }
 {
     program(host, arguments, input, output)
 }

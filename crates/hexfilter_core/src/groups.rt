@@ -6,9 +6,6 @@ ghost use Rattle.hexfilter_core.specs.Groups.{PutsInto, groups_from};
 
 use crate::mode::Groups;
 
-/// How many bytes are copied at a time.
-const BLOCK: usize = 32;
-
 /// How many characters a short group has at most.
 const SHORT: usize = 16;
 
@@ -42,8 +39,8 @@ pub(crate) fn put_groups(
         }
         let (start, first) = separate(groups, column, output, end);
         let count = (groups.size - first).min(text.len() - done);
-        copy_front(&text[done..], count, &mut output[start..]);
         end = start + count;
+        output[start..end].copy_from_slice(&text[done..done + count]);
         done += count;
         column = first + count;
     }
@@ -157,25 +154,5 @@ pub(crate) fn put(byte: Option<u8>, output: &mut [u8], end: usize) -> usize
             end + 1
         }
         None => end,
-    }
-}
-
-/// Copies the first `count` bytes of a text. More of the output may change.
-#[inline(always)]
-fn copy_front(text: &[u8], count: usize, output: &mut [u8])
-    requires text { count ≤ length text.now }
-    requires space { count ≤ length output.old }
-    ensures front { take count output.new ≡ take count text.now }
-    ensures length { length output.new ≡ length output.old }
-{
-    // Copies whose length is a constant take a few instructions, and no call.
-    if text.len().min(output.len()) - count < BLOCK {
-        output[..count].copy_from_slice(&text[..count]);
-        return;
-    }
-    let mut done = 0;
-    'copies: while done < count {
-        output[done..done + BLOCK].copy_from_slice(&text[done..done + BLOCK]);
-        done += BLOCK;
     }
 }

@@ -65,7 +65,7 @@ pub trait Host: Eprint {
     /// The bytes that it then has, if they are known.
     ghost bytes: { Self → List ℕ → Option (List ℕ) };
 
-    /// Whether standard output goes to the file with that name or, without a name, to the file that is standard input.
+    /// What `is_output` returns.
     ghost is_written: { Self → Option (List ℕ) → Bool };
 
     /// Opens the file with that name at its start.

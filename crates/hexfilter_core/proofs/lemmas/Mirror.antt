@@ -84,7 +84,7 @@ with_prefix false t h = h
 same_bytes : (a b : List ℕ) → ◌≡◌ {A = Result (List ℕ) FromHexError} (Ok a) (Ok b) → a ≡ b
 same_bytes a b is = cc
 
-regroup : (a : List ℕ) (c : ℕ) (b d : List ℕ) → (a ++ c ∷ b) ++ d ≡ (a ++ c ∷ []) ++ (b ++ d)
+pub regroup : (a : List ℕ) (c : ℕ) (b d : List ℕ) → (a ++ c ∷ b) ++ d ≡ (a ++ c ∷ []) ++ (b ++ d)
 regroup a c b d = append_assoc a (c ∷ b) d ∙ sym (append_assoc a (c ∷ []) (b ++ d))
 
 text_plain_chars : (prefix up : Bool) (x : List ℕ) → AreBytes x

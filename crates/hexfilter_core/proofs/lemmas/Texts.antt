@@ -4,7 +4,7 @@ use Rattle.std.proofs.Common.{◌≡◌, ◌≢◌, ℕ, ◌+◌, ◌-◌, ◌*�
 use Rattle.std.proofs.Math.Seq.{take-add, take-append-add}
 use Rattle.std.proofs.lemmas.Bool.Decides.{nat_tests}
 use Rattle.std.proofs.lemmas.List.{append-nil, length-drop, length-take, length-take-le, take-append-drop, take-append-le, take-take, take_all, take_min, take_more}
-use Rattle.std.proofs.lemmas.List.Elements.{All-append, All-from_get_or, All-head, All-same, All-tail, All-take, All-weaker}
+use Rattle.std.proofs.lemmas.List.Elements.{All-from_get_or, All-head, All-same, All-tail, All-take, All-weaker}
 use Rattle.std.specs.List.{All}
 use Rattle.std.specs.Prelude.{nat_lt}
 use Rattle.const_hex.proofs.lemmas.Decoding.{read_digits, read_front}
@@ -154,24 +154,6 @@ pub joined : (x chunk : List ℕ) (done n : ℕ) → done ≤ length chunk
 joined x chunk done n started =
     rw (take_all (length chunk - done) (drop done chunk) (omega (arith, length-drop done chunk)), take-add done n chunk)
     (append_assoc x (take done chunk) (take n (drop done chunk)))
-
--- of which the first `done` are copied, and then n more
-pub joined_copy : (m n done : ℕ) (chunk out new : List ℕ) → done ≤ 32 → 32 ≤ length chunk → 32 ≤ length out
-    → n ≤ length new
-    → take 32 out ≡ take 32 chunk → take n new ≡ take n (take (length chunk - done) (drop done chunk))
-    → take (done + n) (put_mid done m out new) ≡ take (done + n) chunk
-joined_copy m n done chunk out new few inside started within first next =
-    take_put done m n out new (omega arith) within
-    ∙ ap (λ l. l ++ take n new) (fewer_copied 32 done chunk out few first)
-    ∙ ap (λ l. take done chunk ++ l) next ∙ joined [] chunk done n (omega arith)
-
-pub joined_high : (n done : ℕ) (chunk : List ℕ) → done ≤ 32 → 32 ≤ length chunk
-    → All (λ b. nat_lt b 33 ≡ false) (take 32 chunk)
-    → All (λ b. nat_lt b 33 ≡ false) (take n (take (length chunk - done) (drop done chunk)))
-    → All (λ b. nat_lt b 33 ≡ false) (take (done + n) chunk)
-joined_high n done chunk few inside first next =
-    All-same (λ b. nat_lt b 33 ≡ false) _ _ (sym (joined [] chunk done n (omega arith)))
-    (All-append (λ b. nat_lt b 33 ≡ false) _ _ (fewer_high 32 done chunk few first) next)
 
 -- one more
 pub joined_one : (x chunk : List ℕ) (done : ℕ) → done < length chunk

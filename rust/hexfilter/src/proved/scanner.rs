@@ -55,14 +55,11 @@ impl Scanner {
         let mut scanner = *self;
         let mut done = 0;
         let mut end = 0;
-        // The next run may be as long as the last.
-        let mut guess = 0;
         'runs: while done < chunk.len() {
-            let count = scanner.run(reading, guess, &chunk[done..], &mut output[end..]);
+            let count = scanner.run(reading, &chunk[done..], &mut output[end..]);
             done += count;
             end += count;
-            guess = count;
-            if count == 2 * LANES {
+            if count == LANES {
                 continue;
             }
             if done < chunk.len() {
@@ -78,43 +75,15 @@ impl Scanner {
 
     /// Copies bytes before the next that is left out or is below 33, or fewer. Returns how many.
     #[inline(always)]
-    fn run(&mut self, reading: Reading, guess: usize, chunk: &[u8], output: &mut [u8]) -> usize {
+    fn run(&mut self, reading: Reading, chunk: &[u8], output: &mut [u8]) -> usize {
+        let count = copy_block(chunk, output);
         if reading.groups.size == 0 {
-            return copy_run(guess, chunk, output);
+            return count;
         }
-        let space = reading.groups.size.saturating_sub(self.column);
-        let count = copy_block(chunk, output).min(space);
+        let count = count.min(reading.groups.size.saturating_sub(self.column));
         self.column = self.column.saturating_add(count);
         count
     }
-}
-
-/// Copies bytes before the first that is below 33, at most two blocks. Returns how many. The guess is how many are
-/// likely, and changes only the speed.
-#[inline(always)]
-fn copy_run(guess: usize, chunk: &[u8], output: &mut [u8]) -> usize {
-    // The output is never shorter. That it is tested, too, saves two tests below.
-    if chunk.len() < 2 * LANES || output.len() < 2 * LANES {
-        return copy_block(chunk, output);
-    }
-    let count = copy_block(chunk, output);
-    if count < LANES {
-        return count;
-    }
-    let start = second_block(guess, chunk);
-    start + copy_block(&chunk[start..], &mut output[start..])
-}
-
-/// Where the second block starts: such that it ends at the guess, if a byte below 33 stands there, and otherwise
-/// after the first.
-// At a right guess the whole block is copied, and the processor goes on before it has counted: lines of 60 characters
-// take a tenth less time.
-#[inline(always)]
-fn second_block(guess: usize, chunk: &[u8]) -> usize {
-    if guess >= LANES && guess < 2 * LANES && chunk[guess] < 33 {
-        return guess - LANES;
-    }
-    LANES
 }
 
 /// Copies bytes of the first block, if there is one, before one that is below 33. Returns how many.

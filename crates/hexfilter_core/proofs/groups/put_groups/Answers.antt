@@ -1,5 +1,5 @@
-use Rattle.std.proofs.Common.{◌∙◌, ◌-◌, ◌++◌, length, take, drop, ap, arith, length-drop}
-use Rattle.std.proofs.lemmas.List.{take_all}
+use Rattle.std.proofs.Common.{◌≡◌, ◌∙◌, ◌+◌, ◌-◌, ◌++◌, take, drop, ap, arith}
+use Rattle.std.proofs.lemmas.List.{take-take}
 use Rattle.hexfilter_core.proofs.lemmas.GroupBreaks.{goes_on, puts_more}
 use Rattle.hexfilter_core.proofs.lemmas.Texts.{take_put}
 use Rattle.hexfilter_core.proofs.groups.put_groups.Goals as goal
@@ -11,10 +11,11 @@ groups-preserved c =
     let text = c.args.text.now in
     let done = c.groups.done in
     let count = c.min-count.result in
-    let copied =
-    rw (take_all (length text - done) (drop done text) (omega (arith, length-drop done text)))
-    at c.copy_front.ensures.front in
-    let put = take_put _ _ count _ c.copy_front.new.output (omega arith) (omega arith)
+    let new = c.copy_from_slice.new.self in
+    let same : done + count - done ≡ count = omega arith in
+    let copied : take count new ≡ take count (drop done text) =
+    rw (c.copy_from_slice.ensures.after, same) (take-take count count (drop done text) (omega arith)) in
+    let put = take_put _ _ count _ new (omega arith) (omega arith)
     ∙ ap (λ l. take c.separate-start.result.0 c.separate-start.new.output ++ l) copied in record {
       within = omega arith;
       space = omega (arith, parted.within);

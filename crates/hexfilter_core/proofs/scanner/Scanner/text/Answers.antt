@@ -4,8 +4,8 @@ use Rattle.const_hex.specs.Decoding.{listed}
 use Rattle.hexfilter_core.proofs.lemmas.Texts.{added_byte, added_run, rest-size}
 use Rattle.hexfilter_core.proofs.scanner.Scanner.text.Goals as goal
 
-pub runs-preserved-then-count : goal.runs-preserved-then-count
-runs-preserved-then-count c =
+pub runs-preserved-then-count-eq-LANES : goal.runs-preserved-then-count-eq-LANES
+runs-preserved-then-count-eq-LANES c =
     let i = c.runs.invariant in
     let ran = c.run-count.ensures in
     let size = rest-size c.args.chunk.now c.runs.done in
