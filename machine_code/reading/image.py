@@ -57,6 +57,16 @@ class Image:
         elif name.startswith(PREFIX):
             raise ValueError(f"{name} is a symbol of another kind")
 
+    @property
+    def names(self):
+        """What a loader may be asked for: the functions of the header, and what is proved in this file by its name."""
+        return sorted(HEADER | {name for name in self.places if name.startswith(PREFIX)})
+
+    def add_exported(self, name, place):
+        """The loader finds a name."""
+        self.add_symbol(name, place)
+        self.exported |= {name} & HEADER
+
     def change(self, place, size, kinds=(WRITTEN,)):
         """The loader writes so many bytes, in a segment of these kinds."""
         segment = self.segment_at(place)
