@@ -38,7 +38,7 @@ class Image:
         self.machine, self.page, self.segments, self.first, self.size = machine, page, [], 0, 0
         # The places of each name, and the functions of the header that the loader finds.
         self.places, self.exported = {}, set()
-        # What the loader writes, by eight bytes; and what it makes read-only afterwards, by places.
+        # The places that the loader writes; and what it makes read-only afterwards.
         self.changed, self.closed = set(), []
 
     def add_segment(self, data, address, size, offset, in_file, kind):
@@ -72,11 +72,11 @@ class Image:
         segment = self.segment_at(place)
         if not segment or segment.kind not in kinds or segment.address + segment.size < place + size:
             raise ValueError(f"the loader writes to {place:#x}, where nothing is, or what must not be written")
-        self.changed |= {*range(place // 8, up(place + size, 8) // 8)}
+        self.changed |= {*range(place, place + size)}
 
     def unchanged(self, address, content):
         """The bytes at an address up to those that the loader writes."""
-        return next((content[:at] for at in range(len(content)) if (address + at) // 8 in self.changed), content)
+        return next((content[:at] for at in range(len(content)) if address + at in self.changed), content)
 
     @functools.cached_property
     def symbols(self):
@@ -115,7 +115,7 @@ class Image:
         """Whether a byte may change, and is 0 at the start."""
         segment = self.segment_at(address)
         return bool(segment and segment.kind == WRITTEN and not any(self.bytes_at(address, 1, (WRITTEN,)))
-                    and address // 8 not in self.changed
+                    and address not in self.changed
                     and not any(start <= address < end for start, end in self.closed))
 
     def code_at(self, address):
