@@ -10,9 +10,10 @@ from reading.image import AARCH64, CODE, CONSTANTS, WRITTEN, X86_64, Image, up
 
 PAGES = {X86_64: 1 << 12, AARCH64: 1 << 16}
 PROGRAM, SHARED = 2, 3
-# Headers of segments: what is loaded, the loader's table, and what is closed after relocations; others that are
-# harmless: nothing, INTERP, NOTE, PHDR, TLS, EH_FRAME, STACK, PROPERTY.
-LOAD, DYNAMIC, CLOSED, HARMLESS = 1, 2, 0x6474E552, (0, 3, 4, 6, 7, 0x6474E550, 0x6474E551, 0x6474E553)
+# Headers of segments: what is loaded, the loader's table, what is closed after relocations, and a note of properties;
+# others that are harmless: nothing, INTERP, NOTE, PHDR, TLS, EH_FRAME, STACK.
+LOAD, DYNAMIC, CLOSED, PROPERTIES, HARMLESS = 1, 2, 0x6474E552, 0x6474E553, (0, 3, 4, 6, 7, 0x6474E550, 0x6474E551)
+GUARDS = {X86_64: 0xC0000002, AARCH64: 0xC0000000}  # the property whose bit 0 says that calls need marks
 KINDS = {4: CONSTANTS, 5: CODE, 6: WRITTEN}  # of segments, by their flags
 # Tags of the loader's table. Each may stand there once, but for NEEDED; with what else is harmless: PLTGOT, STRSZ,
 # SYMENT, INIT, FINI, SONAME, RPATH, SYMBOLIC, DEBUG, BIND_NOW, the arrays of INIT and FINI, RUNPATH; and from
@@ -49,6 +50,8 @@ def read(data):
             raise ValueError(f"a segment with the flags {flags}, or at another place of a page than in the file")
         if kind == LOAD:
             image.add_segment(data, address, in_memory, offset, in_file, KINDS[flags])
+        elif kind == PROPERTIES:
+            _refuse_guards(data[offset : offset + in_file], GUARDS[machine])
         elif kind not in (DYNAMIC, CLOSED, *HARMLESS):
             raise ValueError(f"a header of the kind {kind:#x}")
     end = first + 56 * count
@@ -63,6 +66,15 @@ def read(data):
     for _, address, in_memory in tables:
         _read_dynamic(image, address, in_memory)
     return image
+
+
+def _refuse_guards(note, guards):
+    at = 16
+    while at < len(note):
+        kind, size = struct.unpack_from("<II", note, at)
+        if kind == guards and note[at + 8] & 1:
+            raise ValueError("each function needs a mark (BTI or IBT), which these do not have")
+        at += 8 + up(size, 8)
 
 
 def _close(image, address, size):

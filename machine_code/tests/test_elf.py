@@ -7,7 +7,7 @@ import unittest
 from execution import proofs
 from reading import library
 from solver.questions import Refused
-from tests.library import AARCH64, X86_64, Elf, add_tests, shared
+from tests.library import AARCH64, Elf, add_tests, needs_aarch64, shared
 
 
 def said(data, symbol):
@@ -274,6 +274,7 @@ LINKED = [
     ("functions of another file", "", ["-Wl,-F,other.so"], [], "", "", KNOWN),
     ("functions that another file may have", "", ["-Wl,-f,other.so"], [], "", "", KNOWN),
     ("no names", "", ["-Wl,-s"], [], "", "", "it is stripped"),
+    ("calls that need marks", "", ["-Wl,-z,ibt"], [], "", "", "needs a mark"),
     ("a symbol in an instruction", VERSION, [], [(C, END.strip(), f".set other, {VERSION} + 1; {END}")], "", "",
      "without a meaning"),
     # No loader reads what a debugger runs.
@@ -309,6 +310,10 @@ class TestElf(unittest.TestCase):
     def refuse_pages(self, build, page, wanted):
         self.assertRegex(said(shared("-Wl,-T,/dev/stdin", "-Wl,-z,max-page-size=65536", compiler=AARCH64,
                                      script=PAGES % page), VERSION), wanted)
+
+    @needs_aarch64
+    def test_calls_that_need_marks_aarch64(self):
+        self.assertRegex(said(shared("-Wl,-z,force-bti", compiler=AARCH64), ""), "needs a mark")
 
 
 add_tests(TestElf, TestElf.refuse, CHANGED)

@@ -70,7 +70,7 @@ class Pe(File):
 
 
 def linked_for_windows(kernel=""):
-    """A DLL with the Rust crate's kernels, and with functions that have the names of those for C, of which the first may
+    """A DLL with the Rust crate's kernels, and functions that have the names of those for C, of which the first may
     be exported by the name of a kernel, too."""
     stubs = "".join(f'.globl {name}\n{name}: ret\n.section .drectve, "yn"\n.ascii " -export:{name}"\n.text\n'
                     for name in NAMES)
