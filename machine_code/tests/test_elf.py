@@ -1,7 +1,6 @@
 """Shared libraries of ELF that are made to be believed, by a linker or by an editor of bytes. Each is refused where it
 is read, or where a function is proved; a linker's other inputs are right where what it has made of them is."""
 
-import struct
 import unittest
 
 from execution import proofs

@@ -10,7 +10,7 @@ import tempfile
 import unittest
 
 from reading import image, library
-from tests.library import ASM, MODULE, RUST, add_tests, assembled_module, needs_module
+from tests.library import ASM, MODULE, RUST, File, add_tests, assembled_module, needs_module
 
 MINGW, LLD = "x86_64-w64-mingw32-gcc", next(map(str, pathlib.Path("/usr/lib").glob("llvm-*/bin/ld64.lld")), "ld64.lld")
 NAMES = sorted(image.HEADER)
@@ -27,16 +27,6 @@ def read(data, code, constant=None, kept=None):
         return NO_CHOICE if not all(map(found.is_kept, found.places.get(kept, ()))) else "accepted"
     except ValueError as error:
         return str(error)
-
-
-class File(bytearray):
-    """A file whose fields are changed."""
-
-    def put(self, form, place, *values):
-        struct.pack_into(form, self, place, *values)
-
-    def numbers(self, form, place):
-        return struct.unpack_from(form, self, place)
 
 
 class Pe(File):
