@@ -42,7 +42,7 @@ class Image:
         self.changed, self.closed = set(), []
 
     def add_segment(self, data, address, size, offset, in_file, kind):
-        if self.segments and up(self.first + self.size, self.page) > address:
+        if up(self.first + self.size, self.page) > address:
             raise ValueError("two segments that share a page")
         if not in_file <= size < 1 << 62 or len(data) < offset + in_file:
             raise ValueError("a segment that is larger in the file than in memory, or not in it")
