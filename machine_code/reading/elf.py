@@ -6,13 +6,14 @@ by a name in each of two tables of hashes.
 
 import struct
 
-from reading.image import AARCH64, CODE, CONSTANTS, HEADER, WRITTEN, X86_64, Image, up
+from reading.image import AARCH64, CODE, CONSTANTS, WRITTEN, X86_64, Image, up
 
 PAGES = {X86_64: 1 << 12, AARCH64: 1 << 16}
 PROGRAM, SHARED = 2, 3
-# Headers of segments: what is loaded, the loader's table, and what is closed after relocations; others that are
-# harmless: nothing, INTERP, NOTE, PHDR, TLS, EH_FRAME, STACK, PROPERTY.
-LOAD, DYNAMIC, CLOSED, HARMLESS = 1, 2, 0x6474E552, (0, 3, 4, 6, 7, 0x6474E550, 0x6474E551, 0x6474E553)
+# Headers of segments: what is loaded, the loader's table, what is closed after relocations, and a note of properties;
+# others that are harmless: nothing, INTERP, NOTE, PHDR, TLS, EH_FRAME, STACK.
+LOAD, DYNAMIC, CLOSED, PROPERTIES, HARMLESS = 1, 2, 0x6474E552, 0x6474E553, (0, 3, 4, 6, 7, 0x6474E550, 0x6474E551)
+GUARDS = {X86_64: 0xC0000002, AARCH64: 0xC0000000}  # the property whose bit 0 says that calls need marks
 KINDS = {4: CONSTANTS, 5: CODE, 6: WRITTEN}  # of segments, by their flags
 # Tags of the loader's table. Each may stand there once, but for NEEDED; with what else is harmless: PLTGOT, STRSZ,
 # SYMENT, INIT, FINI, SONAME, RPATH, SYMBOLIC, DEBUG, BIND_NOW, the arrays of INIT and FINI, RUNPATH; and from
@@ -49,6 +50,8 @@ def read(data):
             raise ValueError(f"a segment with the flags {flags}, or at another place of a page than in the file")
         if kind == LOAD:
             image.add_segment(data, address, in_memory, offset, in_file, KINDS[flags])
+        elif kind == PROPERTIES:
+            _refuse_guards(data[offset : offset + in_file], GUARDS[machine])
         elif kind not in (DYNAMIC, CLOSED, *HARMLESS):
             raise ValueError(f"a header of the kind {kind:#x}")
     end = first + 56 * count
@@ -59,10 +62,19 @@ def read(data):
     tables = [header for header in headers if header[0] == DYNAMIC]
     if len(tables) > 1:
         raise ValueError("two tables for the loader")
+    _read_symbols(image, data, sections, *struct.unpack_from("<H", data, 60))
     for _, address, in_memory in tables:
         _read_dynamic(image, address, in_memory)
-    _read_symbols(image, data, sections, *struct.unpack_from("<H", data, 60))
     return image
+
+
+def _refuse_guards(note, guards):
+    at = 16
+    while at < len(note):
+        kind, size = struct.unpack_from("<II", note, at)
+        if kind == guards and note[at + 8] & 1:
+            raise ValueError("each function needs a mark (BTI or IBT), which these do not have")
+        at += 8 + up(size, 8)
 
 
 def _close(image, address, size):
@@ -92,7 +104,7 @@ def _read_dynamic(image, address, size):
     if len(image.unchanged(address, content)) < len(content):
         raise ValueError("the loader changes its own table")
     if HASH in dynamic or GNU_HASH in dynamic:
-        for name in sorted(HEADER):
+        for name in image.names:
             _read_exported(image, dynamic, name)
 
 
@@ -119,10 +131,11 @@ def _read_relocations(image, dynamic):
 
 
 def _read_exported(image, dynamic, name):
-    """Adds a function of the header as the loader finds it, by each table of hashes. Any symbol of this name on the
+    """Adds a function as the loader finds it, by each table of hashes. Any symbol of this name on the
     loader's way has to be this function."""
-    text = lambda at: image.bytes_at(dynamic[STRINGS] + image.numbers("<I", dynamic[SYMBOLS] + 24 * at)[0], len(name) + 1)
-    found = [[at for at in walk(image, dynamic[tag], name.encode()) if text(at) == name.encode() + b"\0"]
+    start = lambda at: dynamic[STRINGS] + image.numbers("<I", dynamic[SYMBOLS] + 24 * at)[0]
+    found = [[at for at in walk(image, dynamic[tag], name.encode())
+              if image.bytes_at(start(at), len(name) + 1) == name.encode() + b"\0"]
              for tag, walk in ((HASH, _by_hash), (GNU_HASH, _by_gnu_hash)) if tag in dynamic]
     if not any(found):
         return
@@ -133,8 +146,7 @@ def _read_exported(image, dynamic, name):
     is_plain = VERSIONS not in dynamic or image.numbers("<H", dynamic[VERSIONS] + 2 * at) == (1,)
     if info != GLOBAL_FUNCTION or other not in (0, 3) or not 0 < index < RESERVED or not is_plain:
         raise ValueError(f"{name} is no plain function for the loader: another kind, no section, or a version")
-    image.add_symbol(name, place)
-    image.exported.add(name)
+    image.add_exported(name, place)
 
 
 def _by_hash(image, table, name):

@@ -38,11 +38,11 @@ class Image:
         self.machine, self.page, self.segments, self.first, self.size = machine, page, [], 0, 0
         # The places of each name, and the functions of the header that the loader finds.
         self.places, self.exported = {}, set()
-        # What the loader writes, by eight bytes; and what it makes read-only afterwards, by places.
+        # The places that the loader writes; and what it makes read-only afterwards.
         self.changed, self.closed = set(), []
 
     def add_segment(self, data, address, size, offset, in_file, kind):
-        if self.segments and up(self.first + self.size, self.page) > address:
+        if up(self.first + self.size, self.page) > address:
             raise ValueError("two segments that share a page")
         if not in_file <= size < 1 << 62 or len(data) < offset + in_file:
             raise ValueError("a segment that is larger in the file than in memory, or not in it")
@@ -57,16 +57,26 @@ class Image:
         elif name.startswith(PREFIX):
             raise ValueError(f"{name} is a symbol of another kind")
 
+    @property
+    def names(self):
+        """What a loader may be asked for: the functions of the header, and what is proved in this file by its name."""
+        return sorted(HEADER | {name for name in self.places if name.startswith(PREFIX)})
+
+    def add_exported(self, name, place):
+        """The loader finds a name."""
+        self.add_symbol(name, place)
+        self.exported |= {name} & HEADER
+
     def change(self, place, size, kinds=(WRITTEN,)):
         """The loader writes so many bytes, in a segment of these kinds."""
         segment = self.segment_at(place)
         if not segment or segment.kind not in kinds or segment.address + segment.size < place + size:
             raise ValueError(f"the loader writes to {place:#x}, where nothing is, or what must not be written")
-        self.changed |= {*range(place // 8, up(place + size, 8) // 8)}
+        self.changed |= {*range(place, place + size)}
 
     def unchanged(self, address, content):
         """The bytes at an address up to those that the loader writes."""
-        return next((content[:at] for at in range(len(content)) if (address + at) // 8 in self.changed), content)
+        return next((content[:at] for at in range(len(content)) if address + at in self.changed), content)
 
     @functools.cached_property
     def symbols(self):
@@ -105,7 +115,7 @@ class Image:
         """Whether a byte may change, and is 0 at the start."""
         segment = self.segment_at(address)
         return bool(segment and segment.kind == WRITTEN and not any(self.bytes_at(address, 1, (WRITTEN,)))
-                    and address // 8 not in self.changed
+                    and address not in self.changed
                     and not any(start <= address < end for start, end in self.closed))
 
     def code_at(self, address):

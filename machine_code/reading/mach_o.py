@@ -3,7 +3,7 @@ or chains say, and finds a function by a tree of names."""
 
 import struct
 
-from reading.image import AARCH64, CODE, CONSTANTS, HEADER, WRITTEN, X86_64, Image
+from reading.image import AARCH64, CODE, CONSTANTS, WRITTEN, X86_64, Image
 
 MACHINES, PAGES = {0x01000007: X86_64, 0x0100000C: AARCH64}, {X86_64: 1 << 12, AARCH64: 1 << 14}
 PROGRAM, LIBRARY = 2, 6
@@ -53,15 +53,15 @@ def read(data):
     if FIXUPS in commands:
         first, size = commands[FIXUPS]
         _read_chains(image, data[first : first + size])
-    first, size = commands.get(TRIE, tables[8:])
-    for name in sorted(HEADER) if size else ():
-        _read_exported(image, data[first : first + size], name)
     first, count, strings, _ = commands.get(SYMBOLS, (0, 0, 0, 0))
     for at in range(first, first + 16 * count, 16):
         name, kind, _, flags, place = struct.unpack_from("<IBBHQ", data, at)
         if not kind & DEBUG and kind & TYPE:
             name = data[strings + name : data.index(b"\0", strings + name)].decode()
             image.add_symbol(name.removeprefix("_"), place, kind & TYPE == IN_SECTION and not flags & RESOLVED)
+    first, size = commands.get(TRIE, tables[8:])
+    for name in image.names if size else ():
+        _read_exported(image, data[first : first + size], name)
     return image
 
 
@@ -125,7 +125,7 @@ def _read_chains(image, table):
 
 
 def _read_exported(image, tree, name):
-    """Adds a function of the header as the loader finds it: it takes the first branch of each node that fits."""
+    """Adds a function as the loader finds it, which takes the first branch of each node that fits."""
     at, rest = 0, b"_" + name.encode()
     while True:
         size, at = _number(tree, at)
@@ -133,8 +133,7 @@ def _read_exported(image, tree, name):
             flags, at = _number(tree, at)
             if flags:
                 raise ValueError(f"{name} is no plain function for the loader")
-            image.exported.add(name)
-            return image.add_symbol(name, image.first + _number(tree, at)[0])
+            return image.add_exported(name, image.first + _number(tree, at)[0])
         at, node = at + size + 1, 0
         for _ in range(tree[at - 1]):
             end = tree.index(b"\0", at)

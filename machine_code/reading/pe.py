@@ -4,7 +4,7 @@ table of names."""
 
 import struct
 
-from reading.image import AARCH64, CODE, CONSTANTS, HEADER, WRITTEN, X86_64, Image
+from reading.image import AARCH64, CODE, CONSTANTS, WRITTEN, X86_64, Image
 
 MACHINES, PAGE, IN_FILE = {0x8664: X86_64, 0xAA64: AARCH64}, 1 << 12, 512
 # Tables for the loader by their numbers: those that are read, and those that are harmless: RESOURCE, EXCEPTION,
@@ -40,8 +40,8 @@ def read(data):
     _read_imports(image, tables[IMPORTS][0])
     if tables[THREADS][0]:
         _read_threads(image, base, tables[THREADS][0] + 16, places)
-    _read_exports(image, *tables[EXPORTS])
     _read_symbols(image, data, table, symbols, [section[2] for section in sections])
+    _read_exports(image, *tables[EXPORTS])
     return image
 
 
@@ -80,21 +80,21 @@ def _read_threads(image, base, address, places):
 
 
 def _read_exports(image, address, size):
-    """Adds the functions of the header as the loader finds them, in a table of names that is sorted."""
+    """Adds functions as the loader finds them, in a table of names that is sorted."""
     if not address:
         return
     limit, count, places, names, numbers = image.numbers("<IIIII", address + 20)
     found = [image.bytes_at(name, 1 << 12).split(b"\0")[0].decode() for name in image.numbers(f"<{count}I", names)]
     if found != sorted(set(found)):
         raise ValueError("a table of names that is not sorted, or has one twice")
+    wanted = image.names
     for name, number in zip(found, image.numbers(f"<{count}H", numbers)):
-        if name in HEADER:
+        if name in wanted:
             # One in the table itself is the name of a function of another file.
             [place] = image.numbers("<I", places + 4 * number)
             if number >= limit or address <= place < address + size:
                 raise ValueError(f"{name} is no plain function for the loader")
-            image.add_symbol(name, place)
-            image.exported.add(name)
+            image.add_exported(name, place)
 
 
 def _read_symbols(image, data, start, count, sections):

@@ -87,7 +87,7 @@ def shared(*options, changes=(), more="", compiler=X86_64, script=""):
         return pathlib.Path(folder, "library.so").read_bytes()
 
 
-class Elf(bytearray):
+class File(bytearray):
     """A linked file whose fields are changed."""
 
     def put(self, form, place, *values):
@@ -96,6 +96,8 @@ class Elf(bytearray):
     def numbers(self, form, place):
         return struct.unpack_from(form, self, place)
 
+
+class Elf(File):
     @property
     def segments(self):
         """Their headers: place, kind, flags, offset, address, .., size in the file, and in memory."""

@@ -1,13 +1,12 @@
 """Shared libraries of ELF that are made to be believed, by a linker or by an editor of bytes. Each is refused where it
 is read, or where a function is proved; a linker's other inputs are right where what it has made of them is."""
 
-import struct
 import unittest
 
 from execution import proofs
 from reading import library
 from solver.questions import Refused
-from tests.library import AARCH64, X86_64, Elf, add_tests, shared
+from tests.library import AARCH64, Elf, add_tests, needs_aarch64, shared
 
 
 def said(data, symbol):
@@ -191,6 +190,8 @@ CHANGED = [
     ("a local function", of_the_loader("<B", 4, 2), "", PLAIN),
     ("a function that the loader picks", of_the_loader("<B", 4, 0x1A), "", PLAIN),
     ("a hidden function", of_the_loader("<B", 5, 2), "", PLAIN),
+    ("a name from elsewhere", entry("<HQ", 6, lambda *old: (0, 0), VERSION, (2,)), VERSION, "accepted"),
+    ("a name of a file", entry("<BBH", 4, lambda *old: (4, 0, 0xFFF1), VERSION, (2,)), VERSION, "accepted"),
     ("a name at a number", entry("<H", 6, lambda old: (0xFFF1,), kinds=(2,)), "", "is a symbol of another kind"),
     ("a name of a function that is picked", entry("<B", 4, lambda old: (0x1A,), kinds=(2,)), "", "of another kind"),
     ("a function that is elsewhere for the loader", value(32, kinds=(11,)), "", PLACES),
@@ -209,7 +210,7 @@ CHANGED = [
         "<Q", table + 16, file.numbers("<Q", table + 16)[0] & ~(1 << number % 64))), "", "does not find"),
     ("a call of another function", other_call, "const_hex_check_raw", "lies? in|an address|a register|argument|input"),
     ("a relocation that is left out", without_relocation, FILL, "a wrong character|a place|an address"),
-    ("a file that is cut", lambda file: file.__delitem__(slice(5000, None)), "", "or not in it|cut or damaged"),
+    ("a file that is cut", lambda file: file.__delitem__(slice(5000, None)), "", "or not in it"),
     ("an object", lambda file: file.put("<H", 16, 1), "", "no shared library and no program"),
     ("nothing at all", lambda file: file.clear(), "", "no linked file"),
 ]
@@ -233,6 +234,7 @@ CHANGED_MORE = [
      relocation(8, lambda file: file.numbers("<Q", file.tag(6))[0] + 32), "", "what must not be written"),
     ("a relocation of the loader's table", "relocations",
      relocation(8, lambda file: next(it[4] for it in file.segments if it[1] == 2) + 8), "", "changes its own table"),
+    ("a relocation of nothing", "relocations", relocation(8, lambda file: 1 << 40), "", "where nothing is"),
     ("a relocation beyond a segment", "relocations",
      relocation(8, lambda file: max(it[4] + it[7] for it in file.segments if it[1] == 1) - 4), "", "where nothing is"),
     ("a relocation of an unknown kind", "relocations", relocation(33, "more"), "", "a relocation of the kind 33"),
@@ -271,9 +273,11 @@ LINKED = [
     ("a function that is not exported", "", [SCRIPT], [], "", "{ local: const_hex_check_raw; };",
      "the loader does not find const_hex_check_raw"),
     ("none that is exported", VERSION, [SCRIPT], [], "", "{ local: *; };", "accepted"),
+    ("two files that it needs", VERSION, ["-Wl,--no-as-needed", "-lc", "-lm"], [], "", "", "accepted"),
     ("functions of another file", "", ["-Wl,-F,other.so"], [], "", "", KNOWN),
     ("functions that another file may have", "", ["-Wl,-f,other.so"], [], "", "", KNOWN),
     ("no names", "", ["-Wl,-s"], [], "", "", "it is stripped"),
+    ("calls that need marks", "", ["-Wl,-z,ibt"], [], "", "", "needs a mark"),
     ("a symbol in an instruction", VERSION, [], [(C, END.strip(), f".set other, {VERSION} + 1; {END}")], "", "",
      "without a meaning"),
     # No loader reads what a debugger runs.
@@ -309,6 +313,10 @@ class TestElf(unittest.TestCase):
     def refuse_pages(self, build, page, wanted):
         self.assertRegex(said(shared("-Wl,-T,/dev/stdin", "-Wl,-z,max-page-size=65536", compiler=AARCH64,
                                      script=PAGES % page), VERSION), wanted)
+
+    @needs_aarch64
+    def test_calls_that_need_marks_aarch64(self):
+        self.assertRegex(said(shared("-Wl,-z,force-bti", compiler=AARCH64), ""), "needs a mark")
 
 
 add_tests(TestElf, TestElf.refuse, CHANGED)

@@ -10,7 +10,7 @@ import tempfile
 import unittest
 
 from reading import image, library
-from tests.library import ASM, MODULE, RUST, add_tests, assembled_module, needs_module
+from tests.library import ASM, MODULE, RUST, File, add_tests, assembled_module, needs_module
 
 MINGW, LLD = "x86_64-w64-mingw32-gcc", next(map(str, pathlib.Path("/usr/lib").glob("llvm-*/bin/ld64.lld")), "ld64.lld")
 NAMES = sorted(image.HEADER)
@@ -27,16 +27,6 @@ def read(data, code, constant=None, kept=None):
         return NO_CHOICE if not all(map(found.is_kept, found.places.get(kept, ()))) else "accepted"
     except ValueError as error:
         return str(error)
-
-
-class File(bytearray):
-    """A file whose fields are changed."""
-
-    def put(self, form, place, *values):
-        struct.pack_into(form, self, place, *values)
-
-    def numbers(self, form, place):
-        return struct.unpack_from(form, self, place)
 
 
 class Pe(File):
@@ -69,10 +59,12 @@ class Pe(File):
         return self.offset(self.numbers("<I", self.table(number))[0]) + more
 
 
-def linked_for_windows():
-    """A DLL with the Rust crate's kernels, and with functions that have the names of those for C."""
+def linked_for_windows(kernel=""):
+    """A DLL with the Rust crate's kernels, and functions that have the names of those for C, of which the first may
+    be exported by the name of a kernel, too."""
     stubs = "".join(f'.globl {name}\n{name}: ret\n.section .drectve, "yn"\n.ascii " -export:{name}"\n.text\n'
                     for name in NAMES)
+    stubs += f'.section .drectve, "yn"\n.ascii " -export:{kernel}={NAMES[0]}"\n' if kernel else ""
     text = "".join((RUST / f"{part}.s").read_text() for part in ("coff", "x86_64_v2", "x86_64_v3", "end"))
     with tempfile.TemporaryDirectory() as folder:
         pathlib.Path(folder, "source.s").write_text(f".intel_syntax noprefix\n{text}.text\n{stubs}")
@@ -373,6 +365,10 @@ class TestPe(unittest.TestCase):
         file = Pe(self.right)
         change(file)
         self.assertRegex(read(bytes(file), FILL, CONSTANT_OF_FILL), wanted)
+
+    def test_another_function_by_the_name_of_a_kernel(self):
+        with self.assertRaisesRegex(ValueError, f"{FILL} has the places"):
+            library.whole(linked_for_windows(FILL)).symbols
 
 
 @unittest.skipUnless(shutil.which(LLD) and shutil.which("clang"), "clang or ld64.lld is missing")
