@@ -96,8 +96,9 @@ def read(state):
         if other := other and other.when(z3.And(*map(is_digit, pair)), other.at):
             _written(other, simple(data + at), [simple(value(pair[0]) * 16 + value(pair[1]))])
     for way, result in _judged(state, text, simple(2 * count)):
-        if result and other:
-            way.writes.append((_offset(way, "output", data), count))
+        if other:
+            # How many bytes of the front are written before an invalid character is not known.
+            way.writes.append((_offset(way, "output", data), count if result else word(0)))
         yield way, result
 
 
@@ -135,7 +136,7 @@ def _invalid(state, character, index):
 
 
 def _first_invalid(state, text, first, count):
-    """The first character that is no digit, from one on, which may be anywhere. There is one."""
+    """The first character that is no digit, from one on, which may be anywhere; or, if there is none, the end and 0."""
     if not state:
         return
     state.must(z3.ULT(count, 1 << 63), "a length")
@@ -144,8 +145,9 @@ def _first_invalid(state, text, first, count):
         require(_is_in("input", text), "a search in what is no input")
         other.load(simple(text + at), 1)
     start, at = _offset(state, "input", text), fresh("p", 64)
-    is_invalid = state.may_leak and not state.with_digits(start + first, count - first)
-    require(is_invalid, "a search in a text that may be valid")
+    require(state.may_leak, "a search in a text that may be valid")
+    if none := state.with_digits(start + first, count - first):
+        yield none, count, byte(0)
     some = state.when(z3.And(z3.ULE(first, at), z3.ULT(at, count)), state.at)
     some = some and some.without_digit(start + at)
     if some := some and some.with_no_other(start + first, at - first):

@@ -10,7 +10,7 @@ import z3
 from execution.state import Region, byte, simple, word
 from solver.questions import require
 
-N = z3.BitVec("p_n", 64)
+N, INDEX = z3.BitVec("p_n", 64), z3.BitVec("p_index", 64)
 ODD_LENGTH, INVALID_LENGTH, INVALID_CHARACTER = 1, 2, 3
 # The kind of an invalid character within the library, and what a decoder waits for after one.
 FOUND = FAILED = 2
@@ -59,9 +59,11 @@ def of_32_bits(term):
 
 def covers(state, first, limit, parts):
     """Whether each index from a first one up to a limit lies in one of the parts, which have an offset and a count."""
-    index = z3.BitVec("p_index", 64)
-    is_in = z3.And(z3.ULE(first, index), z3.ULT(index, limit))
-    return state.holds(z3.Implies(is_in, z3.Or(*[z3.ULT(index - at, count) for at, count in parts])))
+    return _lie_in(state, z3.And(z3.ULE(first, INDEX), z3.ULT(INDEX, limit)), parts)
+
+
+def _lie_in(state, condition, parts):
+    return state.holds(z3.Implies(condition, z3.Or(*[z3.ULT(INDEX - offset, count) for offset, count in parts])))
 
 
 def must_cover(state, first, limit, parts, message):
@@ -71,6 +73,12 @@ def must_cover(state, first, limit, parts, message):
 def must_be_digits(state, limit, message="a character is passed that may be no digit"):
     """The digits of the text are digits up to a limit."""
     must_cover(state, state.body, limit, list(state.known_digits()), message)
+
+
+def must_be_a_front(state):
+    """What is written is a front of the output: nothing is left out before it."""
+    is_before = z3.Or(*[z3.ULT(INDEX, offset) for offset, _ in state.writes])
+    require(_lie_in(state, is_before, state.writes), "a byte is left out before what is written")
 
 
 class Object:
@@ -122,6 +130,7 @@ class Function:
     def reached(self, state, read, written):
         """At the head of a loop: all characters so far are digits, and the output is written so far."""
         must_be_digits(state, read)
+        must_be_a_front(state)
         must_cover(state, word(0), written, state.writes, "a byte of the output is left out")
 
     def is_alone(self, state, offset):
@@ -142,6 +151,12 @@ def by_prefix(state, least=2):
         if way:
             way.body = word(body)
             yield way
+
+
+def must_be_true_if(state, condition, message):
+    """The result is true if a condition holds, and false otherwise."""
+    result = state.result()
+    state.must(result == z3.If(condition, z3.BitVecVal(1, result.size()), 0), message)
 
 
 def must_be_unchanged(state, name):

@@ -6,7 +6,7 @@ must not call. No length has a limit but that of Rust, whose slices have at most
 
 import z3
 
-from contracts.functions import N, Function, base, digits_of, must_be_digits, must_cover, of_32_bits, value
+from contracts.functions import N, Function, base, digits_of, must_be_a_front, must_be_digits, must_cover, of_32_bits, value
 from execution.state import Region, simple, word
 from solver.questions import holds, require
 
@@ -27,12 +27,10 @@ class Kernel(Function):
     def regions(self):
         return Region("input", self.input_size), Region("output", self.output_size)
 
-    def result(self, state):
-        return state.result(state.RESULT[1])
-
     def returns(self, state):
         """The result is true if and only if all characters are digits. Then all of the output is written."""
-        result = self.result(state)
+        result = state.result()
+        must_be_a_front(state)
         state.must(z3.Or(result == 0, result == 1), "the result is neither true nor false")
         if true := state.when(result == 1, None):
             self.reached(true, self.input_size, self.output_size)

@@ -9,8 +9,8 @@ import re
 import z3
 
 from contracts.functions import (FAILED, FOUND, INVALID_CHARACTER, INVALID_LENGTH, N, ODD_LENGTH, Function, Object,
-                                 base, by_prefix, first_invalid, is_digit, is_prefix, moved, must_be,
-                                 must_be_digits, must_be_size, must_be_unchanged, must_cover, must_find_first_invalid,
+                                 base, by_prefix, first_invalid, is_digit, is_prefix, moved, must_be, must_be_a_front,
+                                 must_be_digits, must_be_true_if, must_be_size, must_be_unchanged, must_cover, must_find_first_invalid,
                                  of_32_bits, size_max)
 from contracts.kernels import Check as CheckKernel, Fill, must_be_decoded, must_be_digits_of
 from contracts.names import HEADER, WITH_ERROR
@@ -101,13 +101,14 @@ class Encode(Exported):
         require(len(lane) == 1 and lane[0].eq(byte(0)), "no NUL")
 
     def returns(self, state):
-        result = state.result(8)
-        state.must(result == z3.If(self.fits, byte(1), byte(0)), "whether the text fits")
+        must_be_true_if(state, self.fits, "whether the text fits")
         if fits := state.when(self.fits, None):
             limit = self.end + z3.If(self.has_nul, word(1), word(0))
             must_cover(fits, word(0), simple(limit), fits.writes, "a character of the text is left out")
-        if failed := state.when(z3.And(z3.Not(self.fits), self.has_nul, SIZE != 0), None):
-            must_cover(failed, word(0), word(1), failed.writes, "the text is not the empty string")
+        if failed := state.when(z3.Not(self.fits), None):
+            require(not failed.reads, "the input is read though the text does not fit")
+            end = z3.If(z3.And(self.has_nul, SIZE != 0), word(1), word(0))
+            must_cover(failed, word(0), end, failed.writes, "the text is not the empty string")
 
 
 class CheckRaw(CheckKernel):
@@ -116,9 +117,6 @@ class CheckRaw(CheckKernel):
     is_called, function, symbol, empty = False, "check_raw", "const_hex_check_raw", (("input", N),)
     imported = None
     regions = TEXT,
-
-    def result(self, state):
-        return state.result(8)
 
 
 class FirstInvalid(Function):
@@ -162,12 +160,13 @@ class Text(Exported):
         """What is written on failure beside the error: nothing."""
 
     def returns(self, state):
-        result = state.result(8)
+        result = state.result()
         if state.holds(result == 1):
             state.must(N & 1 == 0, "an odd length is accepted")
             must_be_digits(state, N)
             return self.accepts(state)
         state.must(result == 0, "the result is neither true nor false")
+        must_be_a_front(state)
         self.rejects(state)
         if state.holds(N & 1 == 1):
             return must_fail(state, ODD_LENGTH)
@@ -242,8 +241,8 @@ class DecoderFinish(Exported):
         return [with_decoder(state)]
 
     def returns(self, state):
-        result, index, character, kind = state.result(8), *decoder_of(state)
-        state.must(result == z3.If(kind == 0, byte(1), byte(0)), "whether the text is complete")
+        index, character, kind = decoder_of(state)
+        must_be_true_if(state, kind == 0, "whether the text is complete")
         if state.holds(kind == 0):
             must_be_unchanged(state, "error")
         elif state.holds(kind == 1):
@@ -284,26 +283,24 @@ class DecoderUpdate(Exported):
     arguments = (base("decoder"), base("input"), N, base("output"), SIZE, base("written"), base("error"))
     empty, requires = (("input", N), ("output", SIZE)), (z3.ULT(N, 1 << 63),)
 
-    def cases(self, state):
-        """What a decoder may be: at the start; after one digit, which may be the first half of a prefix; later, where a
-        digit waits or none; after an error."""
+    def kinds(self, state):
+        """What a decoder may be: at the start; after one digit, which may be the first half of a prefix; later, where
+        no digit waits, or one; after an error."""
         position, character, kind = decoder_of(with_decoder(state))
-        waits = z3.And(kind == 1, is_digit(character))
-        start, one = z3.And(position == 0, kind == 0), z3.And(position == 1, waits)
-        later = z3.UGE(position, 2)
-        x = state.byte_of_input(word(0))
-        is_rest = z3.And(z3.UGE(N, 1), is_prefix(character, x))
-        failed = state.when(z3.UGT(kind, 1), state.at)
-        # How many digits wait that belong to the first byte.
-        ways = [(way, 0) for way in by_prefix(state.when(start, state.at))]
-        ways += [(state.when(z3.And(*conditions), state.at), waiting) for *conditions, waiting in (
-            (one, is_rest, 0), (one, z3.Not(is_rest), 1), (later, kind == 0, 0), (later, waits, 1))]
-        for way, waiting in ways:
-            if way:
-                way.waiting = waiting
-                way.body = word(1) if way.holds(is_rest) and way.holds(one) else way.body
+        waits, later = z3.And(kind == 1, is_digit(character)), z3.UGE(position, 2)
+        return (z3.And(position == 0, kind == 0), z3.And(position == 1, waits), z3.And(later, kind == 0),
+                z3.And(later, waits), z3.UGT(kind, 1))
+
+    def cases(self, state):
+        start, one, complete, waits, failed = self.kinds(state)
+        is_rest = z3.And(z3.UGE(N, 1), is_prefix(decoder_of(state)[1], state.byte_of_input(word(0))))
+        yield from by_prefix(state.when(start, state.at))
+        # How many digits wait that belong to the first byte, and where the digits of this chunk begin.
+        for condition, waiting, body in ((z3.And(one, is_rest), 0, 1), (z3.And(one, z3.Not(is_rest)), 1, 0),
+                                         (complete, 0, 0), (waits, 1, 0), (failed, 0, 0)):
+            if way := state.when(condition, state.at):
+                way.waiting, way.body = waiting, word(body)
                 yield way
-        yield failed
 
     def count(self, state):
         """How many bytes the digits make."""
@@ -329,11 +326,12 @@ class DecoderUpdate(Exported):
         must_be_decoded(state, offset, lane)
 
     def returns(self, state):
-        result = state.result(8)
+        result = state.result()
         position, character, kind = decoder_of(state)
         if state.holds(result == 1):
             return self.accepts(state, position, character, kind)
         state.must(result == 0, "the result is neither true nor false")
+        must_be_a_front(state)
         must_be_size(state, "written", 0, 0)
         if state.holds(z3.UGT(kind, 1)):
             must_be_unchanged(state, "decoder")
@@ -364,6 +362,21 @@ class DecoderUpdate(Exported):
             must_be(other, "decoder", state.WORD, 1, other.byte_of_input(N - 1))
 
 
+class ChangedDecoder(DecoderUpdate):
+    """The same with a decoder that a program has changed: it is safe, and may do anything else."""
+
+    name, parts, may_leak = "a decoder that was changed", 1, True
+
+    def cases(self, state):
+        return [state.when(z3.Not(z3.Or(*self.kinds(state))), state.at)]
+
+    def store(self, state, offset, lane):
+        """Anything may be written to the output."""
+
+    def returns(self, state):
+        """Any result, and any error."""
+
+
 class DecoderFail(Function):
     """The search for the first invalid character of a chunk, of which some characters come before: the decoder moves
     there, and keeps the error, which is found as by FirstInvalid. It is called for invalid chunks alone."""
@@ -391,4 +404,4 @@ class DecoderFail(Function):
 
 
 FUNCTIONS = (Version(), EncodedSize(), *[Encode(flags) for flags in (*range(8), None)], CheckRaw(), FirstInvalid(),
-             Check(), DecodeExact(), Decode(), DecoderFinish(), DecoderFail(), DecoderUpdate())
+             Check(), DecodeExact(), Decode(), DecoderFinish(), DecoderFail(), DecoderUpdate(), ChangedDecoder())

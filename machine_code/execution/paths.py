@@ -8,6 +8,7 @@ that is wrong after some rounds, or that does not end.
 
 import z3
 
+from contracts.functions import N
 from execution.state import fresh, simple, word
 from solver.questions import Refused, require
 
@@ -28,9 +29,9 @@ class Loop:
 
     def __init__(self, entry, hint):
         self.entry, self.rounds = entry, fresh("p_rounds", 64)
-        # There are no more rounds than this number, so they end; and the next one after them is a number, too.
+        # There are no more rounds than this number. The next one after them is a number, too.
         bound = hint.bound(entry)
-        entry.must(z3.ULT(bound, (1 << 64) - 1), "the number of rounds")
+        entry.must(z3.ULT(bound, N + STEPS), "the number of rounds")
         self.claims = [z3.ULE(self.rounds, bound), *hint.guards(self.rounds)]
         # The registers that a round changes by a fixed number, or not at all; and the vectors that it keeps.
         self.general = {name: entry.general[name] + step * self.rounds for name, step in hint.steps.items()}
@@ -73,7 +74,7 @@ class Loop:
         # What was written before the loop stays written.
         state.writes = [*state.writes, (word(0), self.written)]
         state.digits = dict.fromkeys(state.reads, True)
-        state.flags, state.steps, state.loops = None, 0, state.loops | {state.at: self}
+        state.flags, state.steps, state.loops, state.loop = None, 0, state.loops | {state.at: self}, self
         state.leave(self.is_clean)
         return state
 
@@ -129,6 +130,7 @@ def called(state, effect):
     for other, result in effect(state):
         to = other.return_address()
         other.forget()
+        other.loop = None
         if result is not None:
             other.put_result(result)
         other.drop_below()
@@ -145,6 +147,8 @@ def run(code, starts, heads, guess):
             if state.at in heads:
                 if state.at in state.loops:
                     loop = state.loops[state.at]
+                    # So the number of instructions grows no faster than the lengths.
+                    require(state.loop is loop, "a loop or a call in a loop")
                     loop.arrive(state, simple(loop.rounds + 1))
                     count += 1
                     continue

@@ -124,9 +124,9 @@ class State:
         # Offset and count of what was read of the input and written to the output, and whether reads are of digits, by
         # these terms themselves: two keys are the same only if their terms are.
         self.reads, self.writes, self.digits = [], [], {}
-        # The loops that were entered, and the instructions since the last head. Whether time may depend on the input,
-        # which is surely invalid.
-        self.loops, self.steps, self.may_leak, self.flags = {}, 0, contract.may_leak, None
+        # The loops that were entered, the last one, if nothing was called since by its contract, and the instructions
+        # since its head. Whether time may depend on the input, which is surely invalid.
+        self.loops, self.loop, self.steps, self.may_leak, self.flags = {}, None, 0, contract.may_leak, None
         # Where the digits of the input begin, and how many digits wait that belong before them.
         self.body, self.waiting = word(0), 0
         self.enter()
@@ -355,8 +355,10 @@ class State:
     def arguments(self, count):
         return [self.general[name] for name in self.ARGUMENTS[:count]]
 
-    def result(self, bits):
-        return simple(z3.Extract(bits - 1, 0, self.general[self.RESULT[0]]))
+    def result(self, bits=None):
+        """So many bits of the result, or those that callers may look at if it is a bool."""
+        register, of_bool = self.RESULT
+        return simple(z3.Extract((bits or of_bool) - 1, 0, self.general[register]))
 
     def must_call(self):
         """What a function needs that is called by its contract: its stack, which is aligned."""
@@ -388,7 +390,7 @@ class State:
         self.flags = None
 
     def put_result(self, result):
-        """A result has as many bits as a kernel's, and nothing is known of the others."""
+        """A bool has some bits, and nothing is known of the others."""
         register, bits = self.RESULT
         result = result if z3.is_expr(result) else z3.Concat(fresh("g", 64 - bits), z3.BitVecVal(result, bits))
         self.general[register] = simple(result)

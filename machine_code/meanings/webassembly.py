@@ -169,8 +169,6 @@ class State(state.State):
 
     def returned(self):
         self.must(self.general["global 0"] == self.first["global 0"], "global 0 is not as before")
-        if "result" in self.general:
-            self.must(z3.ULT(self.exact(self.general["result"]), 256), "a result with more bytes")
 
     # Calls by a contract
     def arguments(self, count):

@@ -15,7 +15,7 @@ import wrong_messages
 import wrong_module
 from contracts.library import FUNCTIONS
 from contracts.messages import MESSAGES
-from programs import COMMITTED, edited, program, prove
+from programs import BYTE, COMMITTED, LOAD, edited, program, prove
 from solver.questions import Refused
 from tests.library import linked as assembled
 
@@ -33,6 +33,9 @@ TENTH = ("mov rax, rsi; movabs r8, {}; mul r8; shr rdx, {}; lea rax, [rdx+rdx*4]
          "mov eax, 1; ret; 5: ")
 # Some lengths from 130 on, and one of them in rax.
 SOME = "cmp rsi, 130; jb 1f; mov eax, esi; and eax, 127; cmp eax, 22; jne 1f; mov rax, rsi"
+# The bytes of a text, each in al.
+FIRST, SECOND, THIRD = [LOAD.format(index) + BYTE for index in (0, 2, 4)]
+HOLE = "a byte is left out before what is written"
 # What is wrong, the processor's level, the function, what is changed, and what is said of it.
 WRONG = [
     ("the OR of three characters compared by the carry", "v3", "check",
@@ -81,8 +84,9 @@ WRONG = [
     ("a loop without an end", "v3", "check", {"start": "5: jmp 5b"}, "nothing counts down"),
     ("a loop that ends for some lengths", "v3", "check", {"start": "5: cmp rsi, 0x80; jae 5b"}, "nothing counts down"),
     ("a loop that turns too often", "v3", "check", {"start": "mov r8d, 6; 5: sub r8, 4; jne 5b"}, AT_HEAD),
-    ("more rounds than there are numbers", "v3", "check", {"start": "or rax, -1; 5: sub rax, 1; jne 5b"},
+    ("more rounds than characters", "v3", "check", {"start": "lea rax, [rsi+2000]; 5: sub rax, 1; jne 5b"},
      "the number of rounds"),
+    ("a loop in a loop", "v3", "check", {"round": "lea r10, [rsi+1]; 5: dec r10; jne 5b"}, "a loop or a call in a loop"),
     ("a register that some rounds change", "v3", "check",
      {"start": "xor r10d, r10d", "round": "test sil, 1; je 5f; add r10, 1; 5:"}, "at the head of a loop: r10"),
     ("a vector that some rounds change", "v3", "check",
@@ -172,6 +176,11 @@ WRONG = [
     ("a wrong byte", "v3", "read", {"round": "mov al, 0; mov [rsi-1], al"}, "a wrong byte at"),
     ("a byte that is left out", "v3", "read", {"start": "test rdx, rdx; je 1f; sub rdx, 1; add rdi, 2; add rsi, 1"},
      PASSES),
+    ("a byte before those in front of it", "v3", "read",
+     {"start": f"cmp rdx, 3; jne 1f; {FIRST}{SECOND}mov [rsi+1], al; cmp byte ptr [rdi+4], 0x30; jb 3f"}, HOLE),
+    ("a byte in each round before those in front of it", "v3", "read",
+     {"start": f"cmp rdx, 4; jne 1f; {FIRST}movd xmm0, eax; {SECOND}{THIRD}movd ecx, xmm0; 5: sub rdx, 1; jb 6f; "
+               "mov r10b, [rdi+6]; mov [rsi], cl; mov [rsi+2], al; jmp 5b; 6: mov edx, 4; cmp byte ptr [rdi+6], 0x30; jb 3f"}, HOLE),
     ("a byte that is not written", "v3", "read", {"store": "cmp rdx, 1; je 6f; mov [rsi], al; 6:"},
      "a byte of the output is left out"),
     ("x18", "aarch64", "check", {"start": "mov x18, #1"}, "without a meaning"),

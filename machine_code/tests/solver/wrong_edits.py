@@ -1,5 +1,6 @@
 """Wrong edits of the committed assembly and of the module."""
 
+NEITHER = "neither true nor false"
 PASSES, SECRET = "a character is passed that may be no digit", "a branch depends on bytes"
 OUTSIDE, UNWRITTEN = "may lie outside", "output is read"
 CALL_FILL, CALL_CHECK = "call SYMBOL(const_hex_kernel_fill)", "call SYMBOL(const_hex_kernel_check)"
@@ -8,6 +9,10 @@ CALL_READ, STACK = "call SYMBOL(const_hex_kernel_read)", "the stack of a functio
 SEARCH = "i32.store8 offset=5"
 # After a chunk was decoded that has some digits; and the starts where no digit waits: with an output, and with none.
 DECODED, LATER, LATER_WITHOUT_SPACE = "local.get 12; i32.eqz; br_if 0", slice(4, 5), slice(11, 12)
+# Of three bytes, the second is written first, if what comes before is digits.
+HOLE = (f"cmp rdx,3; jne 98f; push rdi; push rsi; push rdx; push rdx; mov esi,2; {CALL_CHECK}; test al,al; je 97f; "
+        f"mov rdi,[rsp+24]; mov rsi,[rsp+16]; add rdi,2; inc rsi; mov edx,1; {CALL_READ}; 97: pop rdx; pop rdx; pop rsi; "
+        f"pop rdi; 98: {CALL_READ}")
 C, ARM_C, ARM = "functions_x86_64", "functions_aarch64", "dispatch for AArch64"
 FIND, FAIL = "find_invalid_character", "decoder_fail"
 
@@ -38,11 +43,19 @@ WRONG = [
     ("17 bytes are encoded as 16", "aarch64", "fill", "cmp x1, #0x10", "cmp x1, #0x12", f"left out|{OUTSIDE}"),
     ("a bit of the marks is not tested", "aarch64", "check", "tst w12, #0xff", "tst w12, #0x7f", PASSES),
     ("a result with other bits", "aarch64", "check", "cset w0, eq", "cset w0, eq; orr w0, w0, #0x100",
-     "neither true nor false"),
+     NEITHER),
     ("one of two copies of a factor", "aarch64", "read", "0x01, 0x10", "0x01, 0x11", "a wrong byte at", "any text",
      "const_hex_1_0_0_constant_2"),
     ("63 bytes are decoded as 64", "aarch64", "read", "cmp x2, #0x40", "cmp x2, #0x3f", OUTSIDE),
     # Functions for C
+    *(("256 for false", ARM_C, function, "mov w0, wzr", "mov w0, #0x100", said) for function, said in (
+        ("check", NEITHER), ("decode", NEITHER), ("decoder_update", NEITHER), ("decoder_finish", "text is complete"),
+        ("encode", "whether the text fits"))),
+    *(("a byte before those in front of it", C, function, CALL_READ, HOLE, "left out before what is written")
+      for function in ("decode_exact", "decoder_update")),
+    ("a call in a loop", C, "check_raw", CALL_CHECK, f"push rbx; push r12; push r13; push r14; mov rbx,rdi; mov r12,rsi; "
+     f"lea r13,[rsi+1]; 1: mov rdi,rbx; mov rsi,r12; {CALL_CHECK}; dec r13; jne 1b; pop r14; pop r13; pop r12; pop rbx",
+     "a loop or a call in a loop"),
     ("unknown flags have a size", C, "encoded_size", "", "cmp esi,9; jne 1f; xor eax,eax; ret; 1:", "another size"),
     ("a size that is too small", C, "encode", "cmp r11,rcx; jae 2b", "cmp r11,rcx", OUTSIDE),
     ("a byte decides a jump", C, "encode", "", "test rsi,rsi; je 1f; cmp byte ptr [rdi],0x61; jb 1f; nop; 1:", SECRET),

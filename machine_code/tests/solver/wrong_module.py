@@ -26,7 +26,7 @@ WRONG = [
     ("a stack pointer that is a length", {"start": "local.get 1 global.set 0"}, "the stack pointer is not in the st"),
     ("a write below the stack pointer", {"start": "global.get 0 i32.const 16 i32.sub i32.const 1 i32.store"},
      "below the stack pointer"),
-    ("more bytes of a result", {"end": "i32.const 257 return"}, "a result with more bytes"),
+    ("more bytes of a result", {"end": "i32.const 257 return"}, "neither true nor false"),
     ("true for all", {"invalid": "i32.const 1 return"}, "a character is passed that may be no digit"),
     ("false for digits", {"end": "i32.const 0 return"}, "digits are rejected"),
     ("a shift by a length", {"start": "local.get 1 local.get 1 i32.shl local.set 2"}, "a shift by what is unknown"),
