@@ -84,7 +84,7 @@ WRONG = [
     ("a kernel writes to an input", C, "decode_exact", CALL_READ, f"mov rsi,rdi; {CALL_READ}", "to what is no output"),
     ("a place after a kernel is called", C, "decode_exact", CALL_READ, f"{CALL_CHECK}+0x1000",
      "beyond the section of its symbol"),
-    ("a kernel decodes to fewer bytes", C, "decode_exact", CALL_READ, f"dec rdx; {CALL_READ}", "a length"),
+    ("a kernel decodes to fewer bytes", C, "decode_exact", CALL_READ, f"dec rdx; {CALL_READ}", "the contract does not allow"),
     ("what a kernel has left after an invalid character is read", C, "decode_exact", CALL_READ,
      f"push rsi; push rsi; {CALL_READ}; pop rsi; pop rsi; cmp al,0; jne 1f; mov cl,[rsi]; 1:",
      f"{UNWRITTEN}|{OUTSIDE}"),

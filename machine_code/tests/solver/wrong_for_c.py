@@ -1,13 +1,13 @@
 """Wrong functions for C: the committed ones for x86-64, with another text in them."""
 
-PASSES, LENGTH = "a character is passed that may be no digit", "a length"
+PASSES, LENGTH = "a character is passed that may be no digit", "arguments that the contract does not allow"
 CALL_READ, CALL_CHECK = "call SYMBOL(const_hex_kernel_read)", "call SYMBOL(const_hex_kernel_check)"
 # The function, what is wrong, a text in it, what stands there instead, what is said of it, and the contract's name if
 # it is not the first.
 WRONG = [
     ("version", "another version", "0x2710", "0x2711", "the version is not"),
     ("encoded_size", "one digit for each byte", "[rsi+rdi*2]", "[rsi+rdi]", "another size"),
-    ("encode", "a case that is none", "and r8d,0x1", "mov r8d,2", "the case of digits"),
+    ("encode", "a case that is none", "and r8d,0x1", "mov r8d,2", LENGTH),
     ("encode", "a length that is too great", "and r8d,0x1", "and r8d,0x1; mov rsi,-1", LENGTH),
     ("encode", "a secret length", "and r8d,0x1", "and r8d,0x1; and rsi,r15", "an argument depends on bytes"),
     ("encode", "a write before the size is known", "add rax,rdx",
@@ -35,14 +35,14 @@ WRONG = [
     ("check_raw", "a secret length", "add rdi,rax", "add rdi,rax; and rsi,r15", "an argument depends on bytes"),
     ("check_raw", "a text in the stack", "add rdi,rax", "mov rdi,rsp; mov esi,4", "neither in the input nor a pair"),
     ("find_invalid_character", "another kind", "[rdi],0x2", "[rdi],0x3", "found is wrong at 0"),
-    ("find_invalid_character", "a character of no text", "xor r8d,r8d; mov rax,rdx", "mov r8d,1; mov rax,rdx",
-     "a character that is not in the text"),
+    ("find_invalid_character", "a character of no text", "xor r8d,r8d; mov rax,rdx", "mov r8d,1; mov rax,rdx", "found is wrong at 4"),
     ("find_invalid_character", "the next index", "[rdi+0x8],rax", "[rdi+0x8],rax; inc QWORD PTR [rdi+8]",
-     "an index outside of the text"),
-    ("find_invalid_character", "the first index", "[rdi+0x8],rax", "[rdi+0x8],0", "a digit is rejected"),
-    ("find_invalid_character", "another character", "movzx ecx,r8b", "xor ecx,ecx", "another character is rejected"),
+     "found is wrong at 8"),
+    ("find_invalid_character", "the first index", "[rdi+0x8],rax", "[rdi+0x8],0", "found is wrong at 8"),
+    ("find_invalid_character", "another character", "movzx ecx,r8b", "xor ecx,ecx", "found is wrong at 4"),
     ("find_invalid_character", "the last index", "je 14f; inc rax; cmp rdx,rax; jne 8b",
-     "je 98f; inc rax; cmp rdx,rax; jne 8b; jmp 9f; 98: lea rax,[rdx-1]; jmp 14f", PASSES),
+     "je 98f; inc rax; cmp rdx,rax; jne 8b; jmp 9f; 98: lea rax,[rdx-1]; jmp 14f",
+     "found is wrong at 8"),
     ("find_invalid_character", "an end after one character", "jne 3b", "", PASSES),
     ("find_invalid_character", "words of a table", "cmp BYTE PTR [r8+rcx*1],0xff",
      "and r8d,63; cmp WORD PTR [r8+rcx*1],-1", "a table that is not one of bytes"),
@@ -55,9 +55,9 @@ WRONG = [
     ("check", "another kind for an odd length", "mov ecx,0x1", "mov ecx,0x2", "error is wrong at 0"),
     ("check", "a length that is not looked at", "test sil,0x1", "test rsi,rsi", "whether the length is odd"),
     ("check", "another kind for a character", "mov ecx,0x3", "mov ecx,0x4", "error is wrong at 0"),
-    ("check", "another index", "mov rsi,QWORD PTR [rsp+0x8]", "xor esi,esi", "an index outside|a digit is rejected"),
+    ("check", "another index", "mov rsi,QWORD PTR [rsp+0x8]", "xor esi,esi", "error is wrong at 8"),
     ("check", "an error on success", "mov al,0x1", "mov DWORD PTR [r15],0; mov al,0x1", "error is changed"),
-    ("check", "a search in any text", "je 6f", "jmp 6f", "a search in a text that may be valid"),
+    ("check", "a search in any text", "je 6f", "jmp 6f", "how long a call takes"),
     ("check", "a search in a greater text", "mov rdx,rbx", "or rdx,-1", LENGTH),
     ("check", "a search in the stack", "mov rsi,r14; mov rdx,rbx", "mov rsi,rsp; mov edx,1",
      "a search in what is no input"),

@@ -35,8 +35,10 @@ OF_MESSAGES = [
     ("written at a size of 0", KIND(1) + SIZE(0) + "mov byte ptr [rsi], 0; " + END, "an address in|may lie outside"),
     ("another size is passed", CALL.format("add rcx, 1", ""), "another size"),
     ("another output is passed", CALL.format("add rdx, 1", ""), "another output"),
-    ("a long text is passed", CALL.format("mov esi, 65", ""), "a text that is too long"),
-    ("a text that is passed twice", CALL.format("call const_hex_message_write_ended", ""), "too many values|before"),
+    ("a long text is passed", CALL.format("mov esi, 65", ""), "the contract does not allow"),
+    ("a longer text that is passed before", CALL.format(
+        "mov [rsp], rdx; mov [rsp+8], rcx; mov esi, 40", "mov rdx, [rsp]; mov rcx, [rsp+8]; lea rdi, [rip+text]; "
+        "mov esi, 20; call const_hex_message_write_ended"), "a text is written before"),
     ("a byte before the text", CALL.format("cmp rcx, 9; jbe 9f; mov byte ptr [rdx], 0", ""),
      "a text is written before"),
     ("a byte after the text",
