@@ -1,15 +1,15 @@
 """How those that call a function use its contract, which is proved of it.
 
 A contract says in `requires` what it asks for, and in `called` what holds after a call. What is written to a buffer is
-compared as any other store is: at an arbitrary place. If more followed here than what is proved, or less were asked for,
-a wrong caller could be accepted.
+compared as any other store is: at an arbitrary place. If more followed here than what is proved, or less were asked
+for, a wrong caller could be accepted.
 """
 
 import z3
 
 from contracts.functions import N, is_digit
-from execution.state import byte, fresh, is_secret, simple, word
-from solver.questions import names, require
+from execution.state import byte, fresh, simple, word
+from solver.questions import is_public, names, require
 
 
 def effects(contracts):
@@ -27,8 +27,8 @@ def _effect(contracts):
         ways = [(contract, *_passed(state, contract)) for contract in contracts]
         state.must(z3.Or(*[condition for _, condition, _ in ways]), "arguments that the contract does not allow")
         for contract, condition, arguments in ways:
-            is_public = not contract.may_leak and not any(map(is_secret, arguments.values()))
-            require(state.may_leak or is_public, "how long a call takes may depend on bytes that are secret")
+            is_constant = not contract.may_leak and all(map(is_public, arguments.values()))
+            require(state.may_leak or is_constant, "how long a call takes may depend on bytes that are secret")
             if way := state.when(condition, state.at):
                 yield from contract.called(way, **arguments)
     return called
@@ -38,9 +38,10 @@ def _passed(state, contract):
     """Whether the arguments of a call are those of a contract, and these by their names in it."""
     arguments = list(zip(contract.arguments, state.arguments(len(contract.arguments))))
     named = [(formal, given) for formal, given in arguments if z3.is_const(formal)]
-    fixed = [z3.Extract(31, 0, formal) == z3.Extract(31, 0, given) for formal, given in arguments if not z3.is_const(formal)]
+    fixed = [z3.Extract(31, 0, formal) == z3.Extract(31, 0, given) for formal, given in arguments
+             if not z3.is_const(formal)]
     condition = z3.And(*fixed, *[z3.substitute(condition, *named) for condition in contract.requires])
-    require(state.may_leak or not is_secret(simple(condition)), "an argument depends on bytes that are secret")
+    require(state.may_leak or is_public(simple(condition)), "an argument depends on bytes that are secret")
     return simple(condition), {formal.decl().name().removeprefix("p_"): given for formal, given in named}
 
 
@@ -106,5 +107,5 @@ def first_invalid_from(state, text, first, count):
     index = fresh("p", 64)
     some = state.when(z3.And(z3.ULE(first, index), z3.ULT(index, count)), state.at)
     some = some and some.without_digit(start + index)
-    if some := some and some.with_no_other(start + first, index - first):
+    if some := some and some.with_digits(start + first, index - first):
         yield some, index, some.byte_of_input(start + index)

@@ -125,7 +125,13 @@ class Function:
             state.assume(condition)
         nulls = [(base(name) != 0, z3.And(base(name) == 0, size == 0)) for name, size in self.empty]
         states = [state.when(z3.And(*choice), state.at) for choice in itertools.product(*nulls)]
-        return [way for state in states if state for way in self.cases(state)]
+        return [way for state in states if state for way in self._all_cases(state)]
+
+    def _all_cases(self, state):
+        ways = list(self.cases(state))
+        known = [z3.And(*[fact.term for fact in way.facts[len(state.facts) :]]) for way in ways]
+        state.must(z3.Implies(self.is_for(state), z3.Or(*known)), "a start is missing")
+        return ways
 
     def stacks(self, state):
         """How much stack it has, and how much of it is for what it calls."""
@@ -134,6 +140,10 @@ class Function:
     def cases(self, state):
         """What is told apart from the start, such as whether a text has a prefix."""
         return [state]
+
+    def is_for(self, state):
+        """Which starts the contract is for."""
+        return z3.BoolVal(True)
 
     def reached(self, state, read, written):
         """At the head of a loop: all characters so far are digits, and the output is written so far."""

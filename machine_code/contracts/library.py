@@ -10,9 +10,9 @@ import z3
 
 from contracts.callees import first_invalid_from, offset_in
 from contracts.functions import (FAILED, FOUND, INVALID_CHARACTER, INVALID_LENGTH, N, ODD_LENGTH, Function, Object,
-                                 base, by_prefix, first_invalid, in_size_t, is_digit, is_prefix, moved, must_be, must_be_a_front,
-                                 must_be_digits, must_be_size, must_be_true_if, must_be_unchanged, must_begin,
-                                 must_cover, of_32_bits, size_max, with_prefix_or_without)
+                                 base, by_prefix, first_invalid, in_size_t, is_digit, is_prefix, moved, must_be,
+                                 must_be_a_front, must_be_digits, must_be_size, must_be_true_if, must_be_unchanged,
+                                 must_begin, must_cover, of_32_bits, size_max, with_prefix_or_without)
 from contracts.kernels import Check as CheckKernel, Fill, must_be_decoded, must_be_digits_of
 from contracts.names import HEADER, WITH_ERROR
 from execution.state import Region, byte, fresh, joined, simple, split, word
@@ -196,8 +196,8 @@ class Text(Exported):
 
 def must_fail(state, kind):
     """An error without a character."""
-    for offset, count, wanted in ((0, 4, kind), (4, 4, 0), (8, state.WORD, 0)):
-        must_be(state, "error", offset, count, wanted)
+    numbers = (kind, 32), (0, 32), (0, 8 * state.WORD)
+    must_begin(state, "error", [z3.BitVecVal(number, bits) for number, bits in numbers])
 
 
 class Check(Text):
@@ -314,6 +314,9 @@ class DecoderUpdate(Exported):
         return (z3.And(position == 0, kind == 0), z3.And(position == 1, waits), z3.And(later, kind == 0),
                 z3.And(later, waits), z3.UGT(kind, 1))
 
+    def is_for(self, state):
+        return z3.Or(*self.kinds(state))
+
     def cases(self, state):
         start, one, complete, waits, failed = self.kinds(state)
         is_rest = z3.And(z3.UGE(N, 1), is_prefix(decoder_of(state)[1], state.byte_of_input(word(0))))
@@ -370,7 +373,7 @@ class DecoderUpdate(Exported):
         state.must(z3.UGT(state.cell("decoder", state.WORD + 1, 1), 1), "the decoder does not keep its error")
 
     def accepts(self, state, position, character, kind):
-        state.must(z3.And(z3.ULE(kind, 1), z3.ULE(self.count(state), SIZE)), "what does not fit is accepted")
+        state.must(z3.ULE(kind, 1), "a chunk after an error is accepted")
         must_be_digits(state, N)
         must_cover(state, word(0), self.count(state), state.writes, "a byte is left out")
         must_be_unchanged(state, "error")
@@ -389,8 +392,11 @@ class ChangedDecoder(DecoderUpdate):
 
     name, parts, may_leak, is_in_module = "a decoder that was changed", 1, True, False
 
+    def is_for(self, state):
+        return z3.Not(super().is_for(state))
+
     def cases(self, state):
-        return [state.when(z3.Not(z3.Or(*self.kinds(state))), state.at)]
+        return [state.when(self.is_for(state), state.at)]
 
     def store(self, state, offset, lane):
         """Anything may be written to the output."""

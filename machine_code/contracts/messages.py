@@ -105,7 +105,8 @@ class WriteEnded(Ended):
         count, = values(state.facts, n, 1)
         state.must(i_size == SIZE, "another size")
         state.must(z3.Or(SIZE == 0, output == base("output")), "another output")
-        require(state.ended is None and not any(name == "output" for name, _ in state.cells), "a text is written before")
+        is_first = state.ended is None and not any(name == "output" for name, _ in state.cells)
+        require(is_first, "a text is written before")
         state.ended = state.load(input, count) if count else []
         yield state, ended(word(count))
 

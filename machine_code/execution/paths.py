@@ -51,8 +51,7 @@ class Loop:
         for at in self.kept:
             same = all(state.holds(a == b) for a, b in zip(state.vectors[at], self.entry.vectors[at]))
             require(same, f"at the head of a loop: vector {at}")
-        same = state.cells.keys() == self.entry.cells.keys()
-        require(same and all(state.cells[at].eq(value) for at, value in self.entry.cells.items()),
+        require(all(at in state.cells and state.cells[at].eq(value) for at, value in self.entry.cells.items()),
                 "at the head of a loop: the stack")
         require(state.calls == self.entry.calls, "at the head of a loop: where calls return to")
         state.arrive(self.is_clean)

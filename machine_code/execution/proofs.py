@@ -37,7 +37,9 @@ def contracts_of(obj):
     for symbol in sorted(obj.symbols):
         for at, contract in enumerate(CONTRACTS):
             form = contract.symbol if obj.machine else contract.symbol.removesuffix("_nonnull")
-            if not contract.is_in_module and obj.machine is None or contract in dispatch.CHOICES and obj.machine != X86_64:
+            if obj.machine is None and not contract.is_in_module:
+                continue
+            if contract in dispatch.CHOICES and obj.machine != X86_64:
                 continue
             if contract in KERNELS and (obj.machine == X86_64) != bool(LEVEL.search(symbol)):
                 continue

@@ -96,10 +96,7 @@ OF_DISPATCHERS = [
      "another register of xgetbv"),
     ("kernel_fill", "an argument is lost", "push\trdx", "push\trcx", "argument 2 is another"),
     ("kernel_fill", "AVX in the dispatcher", "\tpush\trbx", "\tvzeroupper\n\tpush\trbx", "is not what the assembler"),
-    ("kernel_fill", "two bytes are kept", "\tvariable choice", "\tvariable choice\n\t.zero 1",
-     "more is kept between calls"),
-    ("kernel_fill", "two sections are kept", "\tvariable choice", "\tvariable choice\n\tvariable other",
-     "two sections are kept"),
+    ("kernel_fill", "another byte is kept", IS_2, IS_2.replace("choice", "choice + 1"), "a place that has no constant"),
 ]
 CONTRACTS = [*OR_NULL, *CHOICES, *MESSAGES]
 
