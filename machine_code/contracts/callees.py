@@ -107,5 +107,5 @@ def first_invalid_from(state, text, first, count):
     index = fresh("p", 64)
     some = state.when(z3.And(z3.ULE(first, index), z3.ULT(index, count)), state.at)
     some = some and some.without_digit(start + index)
-    if some := some and some.with_digits(start + first, index - first):
+    if some := some and some.without_others(start + first, index - first):
         yield some, index, some.byte_of_input(start + index)

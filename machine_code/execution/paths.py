@@ -126,7 +126,8 @@ def called(state, effect):
     """A function of which its contract is known: the states after it, each with what may be its result."""
     state.must_call()
     after, ways = [], list(effect(state))
-    assert ways, "a contract of what is called leaves no state"
+    if not ways:
+        raise ValueError("a contract of what is called leaves no state")
     for other, result in ways:
         to = other.return_address()
         other.forget()

@@ -313,17 +313,21 @@ class State:
                 yield offset, count
 
     def with_digits(self, offset, count):
-        """This state where a part of the input has digits alone, or None if it can't: of the characters that are known
-        by name, those in it are digits, and those that are no digits lie elsewhere."""
+        """This state where a part of the input has digits alone, or None if it can't: what is known to be no digit lies
+        elsewhere, and what is known to lie in the part is a digit."""
+        other = self.without_others(offset, count)
+        digits = [self.contract.is_digit(name) for index, name in self.input.values()
+                  if other and not self.is_known(name, True) and other.holds(z3.ULT(index - offset, count))]
+        return other and other.when(z3.And(*digits), other.at)
+
+    def without_others(self, offset, count):
+        """The same, but of characters that are known to lie in the part nothing is said."""
         other, offset, count = self.copy(), simple(offset), simple(count)
         other.reads.append((offset, count))
         other.digits[offset, count] = True
         for index, name in self.input.values():
-            is_inside = z3.ULT(index - offset, count)
             if other and self.is_known(name, False):
-                other = other.when(z3.Not(is_inside), other.at)
-            elif other and not self.is_known(name, True) and other.holds(is_inside):
-                other = other.when(self.contract.is_digit(name), other.at)
+                other = other.when(z3.Not(z3.ULT(index - offset, count)), other.at)
         return other
 
     def is_known(self, name, is_digit):

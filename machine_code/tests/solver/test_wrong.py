@@ -223,11 +223,8 @@ class TestWrong(unittest.TestCase):
                         (frame.filename, frame.lineno) for frame in frames)
                 raise
 
-    def test_a_function_that_is_weak_local_or_missing(self):
-        """A weak function may be replaced by the linker's, and a local one is not called."""
-        local = "const_hex_1_0_0_check_v3: ret"
-        for line in (f".weak const_hex_1_0_0_check_v3; {local}", local, "check: ret"):
-            self.prove(assembled(f"{line}\n"), "check", "0 functions const_hex_")
+    def test_a_function_that_is_missing(self):
+        self.prove(assembled("check: ret\n"), "check", "0 functions const_hex_")
 
     def test_zz_each_check_refuses_a_row(self):
         """After the rows: without a check, one that is refused by it would not be, or by another message."""
