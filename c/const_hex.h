@@ -67,8 +67,8 @@
  * The machine code, which the folders c/asm and rust/src/asm contain as assembly, is verified too, against this
  * header, by the separate tool in machine_code: every function, on x86-64 with both kernels that it may call (for
  * SSE4.2 and for AVX2), for every length that an object can have and every position of a decoder. This is a proof
- * about libconst_hex.a; a test compares the shared library's code with it. That this header agrees with the contracts
- * of crates/const_hex_c and of machine_code was reviewed.
+ * about the shared library as it is linked; a program that libconst_hex.a is linked into can be proved in the same
+ * way. That this header agrees with the contracts of crates/const_hex_c and of machine_code was reviewed.
  *
  * CONSTANT TIME
  *
