@@ -66,9 +66,9 @@
  *
  * The machine code, which the folders c/asm and rust/src/asm contain as assembly, is verified too, against this
  * header, by the separate tool in machine_code: every function, on x86-64 with both kernels that it may call (for
- * SSE4.2 and for AVX2), for every length that an object can have and every position of a decoder. The tool proves
- * a file that is linked: libconst_hex.so, or a program. That this header agrees with the contracts of
- * crates/const_hex_c and of machine_code was reviewed.
+ * SSE4.2 and for AVX2), for every length that an object can have and every position of a decoder. This is a proof
+ * about the shared library as it is linked; a program that libconst_hex.a is linked into can be proved in the same
+ * way. That this header agrees with the contracts of crates/const_hex_c and of machine_code was reviewed.
  *
  * CONSTANT TIME
  *
@@ -234,8 +234,9 @@ size_t const_hex_encoded_size(size_t bytes_length, unsigned flags);
  *   flags                0, or any of CONST_HEX_UPPER, CONST_HEX_PREFIX and CONST_HEX_NO_NUL
  *
  * Returns true on success. Returns false if the text, with its prefix and NUL, has more than text_size bytes,
- * whatever bytes_length and text_size are, or if flags has an unknown bit. Then the buffer is unchanged, except
- * that its first byte is set to 0 (the empty string) if text_size is not 0 and CONST_HEX_NO_NUL is not passed.
+ * or if flags has an unknown bit; bytes are not read then, so bytes_length may be any number. Then bytes is not read, and the buffer
+ * is unchanged, except that its first byte is set to 0 (the empty string) if text_size is not 0 and
+ * CONST_HEX_NO_NUL is not passed.
  *
  *     char text[65];
  *     if (const_hex_encode(hash, 32, text, sizeof text, 0)) ...
@@ -263,8 +264,8 @@ bool const_hex_encode(const void *bytes, size_t bytes_length, char *text, size_t
  *
  *   CONST_HEX_ODD_LENGTH         bytes is unchanged
  *   CONST_HEX_INVALID_LENGTH     the text decodes to more than bytes_size bytes; bytes is unchanged
- *   CONST_HEX_INVALID_CHARACTER  bytes before the invalid character may already have been decoded; the
- *                                rest of the buffer is unchanged
+ *   CONST_HEX_INVALID_CHARACTER  the buffer may begin with decoded bytes from before the invalid character;
+ *                                the rest of it is unchanged
  *
  *     unsigned char bytes[256];
  *     size_t written;
@@ -281,8 +282,8 @@ bool const_hex_decode(const char *text, size_t text_length, void *bytes, size_t 
 
 /*
  * Like const_hex_decode, but the text must decode to exactly bytes_length bytes: for any other even length
- * the error is CONST_HEX_INVALID_LENGTH. After CONST_HEX_INVALID_CHARACTER bytes before the invalid character
- * may already have been decoded; after the other errors bytes is unchanged.
+ * the error is CONST_HEX_INVALID_LENGTH. After CONST_HEX_INVALID_CHARACTER the buffer may begin with decoded
+ * bytes from before the invalid character; after the other errors bytes is unchanged.
  *
  *     unsigned char key[32];
  *     if (!const_hex_decode_exact(text, strlen(text), key, sizeof key, &error)) ...
@@ -323,9 +324,9 @@ struct const_hex_decoder {
  *                                again with a larger buffer, or with a part of the chunk. This is checked
  *                                before the characters are
  *   CONST_HEX_INVALID_CHARACTER  index is the position in the whole text, or SIZE_MAX if it is greater.
- *                                Bytes before the invalid character may already have been decoded; the
- *                                rest of the buffer is unchanged. Every later call with this decoder fails
- *                                with the same error
+ *                                The buffer may begin with decoded bytes from before the invalid
+ *                                character; the rest of it is unchanged. Every later call with this
+ *                                decoder fails with the same error
  *
  *     while ((length = fread(text, 1, sizeof text, file)) > 0) {
  *         if (!const_hex_decoder_update(&decoder, text, length, bytes, sizeof bytes, &written, &error))

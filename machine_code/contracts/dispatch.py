@@ -38,7 +38,7 @@ def has_v3():
 class Dispatched(Function):
     """A function that calls another one, with its own arguments, and returns what that one does."""
 
-    level, is_unrolled, is_keeping, ends = "dispatch", True, True, ("_nonnull",)
+    level, is_unrolled, is_keeping, is_in_module, ends = "dispatch", True, True, False, ("_nonnull",)
 
     def __init__(self, function, parameters):
         self.function, self.symbol, self.parameters = function, f"const_hex_{function}", parameters.split()

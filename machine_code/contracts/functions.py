@@ -10,7 +10,7 @@ import z3
 from execution.state import Region, byte, simple, word
 from solver.questions import require
 
-N = z3.BitVec("p_n", 64)
+N, INDEX = z3.BitVec("p_n", 64), z3.BitVec("p_index", 64)
 ODD_LENGTH, INVALID_LENGTH, INVALID_CHARACTER = 1, 2, 3
 # The kind of an invalid character within the library, and what a decoder waits for after one.
 FOUND = FAILED = 2
@@ -42,6 +42,11 @@ def digits_of(number, is_upper):
     return [digit(half, is_upper) for half in (z3.LShR(number, 4), number & 15)]
 
 
+def decoded(high, low):
+    """The byte of two digits."""
+    return simple(value(high) * 16 + value(low))
+
+
 def is_prefix(zero, x):
     """Whether two characters are 0x or 0X."""
     return z3.And(zero == 0x30, x | 0x20 == 0x78)
@@ -59,9 +64,11 @@ def of_32_bits(term):
 
 def covers(state, first, limit, parts):
     """Whether each index from a first one up to a limit lies in one of the parts, which have an offset and a count."""
-    index = z3.BitVec("p_index", 64)
-    is_in = z3.And(z3.ULE(first, index), z3.ULT(index, limit))
-    return state.holds(z3.Implies(is_in, z3.Or(*[z3.ULT(index - at, count) for at, count in parts])))
+    return _lie_in(state, z3.And(z3.ULE(first, INDEX), z3.ULT(INDEX, limit)), parts)
+
+
+def _lie_in(state, condition, parts):
+    return state.holds(z3.Implies(condition, z3.Or(*[z3.ULT(INDEX - offset, count) for offset, count in parts])))
 
 
 def must_cover(state, first, limit, parts, message):
@@ -71,6 +78,12 @@ def must_cover(state, first, limit, parts, message):
 def must_be_digits(state, limit, message="a character is passed that may be no digit"):
     """The digits of the text are digits up to a limit."""
     must_cover(state, state.body, limit, list(state.known_digits()), message)
+
+
+def must_be_a_front(state):
+    """What is written is a front of the output: nothing is left out before it."""
+    is_before = z3.Or(*[z3.ULT(INDEX, offset) for offset, _ in state.writes])
+    require(_lie_in(state, is_before, state.writes), "a byte is left out before what is written")
 
 
 class Object:
@@ -89,11 +102,14 @@ class Function:
     `empty` are its buffers, with their sizes, for which NULL may be passed if they are empty."""
 
     is_called = is_local = may_leak = is_unrolled = False
+    is_in_module = True
     # Whether it may use what is kept between calls, which is no secret then.
     is_keeping = False
     is_digit = staticmethod(is_digit)
     regions = empty = requires = ()
     name = "every call"
+    # The name that others call it with.
+    called_as = property(lambda self: self.symbol)
     # In how many steps facts may be from what is to be proved, if that has a limit; for which CPU the code is, if its
     # name does not say it; and what functions of other objects do, if not what callees.py says.
     near = level = imported = None
@@ -109,7 +125,13 @@ class Function:
             state.assume(condition)
         nulls = [(base(name) != 0, z3.And(base(name) == 0, size == 0)) for name, size in self.empty]
         states = [state.when(z3.And(*choice), state.at) for choice in itertools.product(*nulls)]
-        return [way for state in states if state for way in self.cases(state)]
+        return [way for state in states if state for way in self._all_cases(state)]
+
+    def _all_cases(self, state):
+        ways = list(self.cases(state))
+        known = [z3.And(*[fact.term for fact in way.facts[len(state.facts) :]]) for way in ways]
+        state.must(z3.Implies(self.is_for(state), z3.Or(*known)), "a start is missing")
+        return ways
 
     def stacks(self, state):
         """How much stack it has, and how much of it is for what it calls."""
@@ -119,9 +141,14 @@ class Function:
         """What is told apart from the start, such as whether a text has a prefix."""
         return [state]
 
+    def is_for(self, state):
+        """Which starts the contract is for."""
+        return z3.BoolVal(True)
+
     def reached(self, state, read, written):
         """At the head of a loop: all characters so far are digits, and the output is written so far."""
         must_be_digits(state, read)
+        must_be_a_front(state)
         must_cover(state, word(0), written, state.writes, "a byte of the output is left out")
 
     def is_alone(self, state, offset):
@@ -133,15 +160,25 @@ class Function:
         return [is_digit(name) for offset, name in state.input.values() if state.holds(z3.UGE(offset, state.body))]
 
 
-def by_prefix(state, least=2):
-    """The state where a text, of at least so many characters, has a prefix, and the one where it has none."""
-    pair = [state.byte_of_input(word(at)) for at in (0, 1)]
-    has_prefix = z3.And(z3.UGE(N, least), is_prefix(*pair))
-    ways = [(state.when(has_prefix, state.at), 2), (state.when(z3.Not(has_prefix), state.at), 0)]
-    for way, body in ways:
-        if way:
-            way.body = word(body)
-            yield way
+def by_prefix(state, start=word(0), length=N, least=2):
+    """The state where a text in the input, of at least so many characters, has a prefix, and the one where it has none,
+    each with the index of its digits."""
+    has_prefix = z3.And(z3.UGE(length, least), is_prefix(*[state.byte_of_input(start + index) for index in (0, 1)]))
+    for condition, first in (has_prefix, 2), (z3.Not(has_prefix), 0):
+        if way := state.when(condition, state.at):
+            yield way, word(first)
+
+
+def with_prefix_or_without(state, **least):
+    """The same of the text of a function, as starts of it."""
+    for way, way.body in by_prefix(state, **least):
+        yield way
+
+
+def must_be_true_if(state, condition, message):
+    """The result is true if a condition holds, and false otherwise."""
+    result = state.result()
+    state.must(result == z3.If(condition, z3.BitVecVal(1, result.size()), 0), message)
 
 
 def must_be_unchanged(state, name):
@@ -155,19 +192,21 @@ def must_be(state, name, offset, count, wanted):
     state.must_equal(state.cell(name, offset, count), wanted, f"{name} is wrong at {offset}")
 
 
+def must_begin(state, name, numbers):
+    """An object begins with these numbers."""
+    offset = 0
+    for number in numbers:
+        must_be(state, name, offset, number.size() // 8, number)
+        offset += number.size() // 8
+
+
+def in_size_t(state, number):
+    return z3.Extract(8 * state.WORD - 1, 0, number)
+
+
 def must_be_size(state, name, offset, wanted):
     """An object has a size_t at an offset."""
-    wanted = z3.Extract(8 * state.WORD - 1, 0, wanted) if z3.is_expr(wanted) else wanted
-    must_be(state, name, offset, state.WORD, wanted)
-
-
-def must_find_first_invalid(state, byte, index):
-    """A character of 32 bits is the first of the text that is no digit, and an index says where."""
-    state.must(z3.And(z3.ULE(state.body, index), z3.ULT(index, N)), "an index outside of the text")
-    must_be_digits(state, index)
-    character = state.byte_of_input(index)
-    state.must(z3.Not(is_digit(character)), "a digit is rejected")
-    state.must_equal(byte, z3.ZeroExt(24, character), "another character is rejected")
+    must_be(state, name, offset, state.WORD, in_size_t(state, wanted) if z3.is_expr(wanted) else wanted)
 
 
 def first_invalid(state):
@@ -184,6 +223,6 @@ def first_invalid(state):
 
 def moved(state, position, count):
     """A position so many characters later, or SIZE_MAX if it is greater. Of all numbers the bits of a size_t count."""
-    later, top = simple(position + count), 8 * state.WORD - 1
-    is_greater = z3.ULT(z3.Extract(top, 0, later), z3.Extract(top, 0, position))
+    later = simple(position + count)
+    is_greater = z3.ULT(in_size_t(state, later), in_size_t(state, position))
     return state.either(is_greater, word(size_max(state)), later)

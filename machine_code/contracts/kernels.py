@@ -6,7 +6,9 @@ must not call. No length has a limit but that of Rust, whose slices have at most
 
 import z3
 
-from contracts.functions import N, Function, base, digits_of, must_be_digits, must_cover, of_32_bits, value
+from contracts.callees import any_below, is_in, judged, offset_in, write
+from contracts.functions import (N, Function, base, decoded, digits_of, is_digit, must_be_a_front, must_be_digits,
+                                 must_cover, of_32_bits)
 from execution.state import Region, simple, word
 from solver.questions import holds, require
 
@@ -24,20 +26,26 @@ class Kernel(Function):
         return rf"const_hex_(\d+_\d+_\d+|kernel)_{self.function}(_v[23])?"
 
     @property
+    def called_as(self):
+        return f"const_hex_kernel_{self.function}"
+
+    @property
     def regions(self):
         return Region("input", self.input_size), Region("output", self.output_size)
 
-    def result(self, state):
-        return state.result(state.RESULT[1])
-
     def returns(self, state):
         """The result is true if and only if all characters are digits. Then all of the output is written."""
-        result = self.result(state)
+        result = state.result()
+        must_be_a_front(state)
         state.must(z3.Or(result == 0, result == 1), "the result is neither true nor false")
         if true := state.when(result == 1, None):
             self.reached(true, self.input_size, self.output_size)
         if not state.may_leak:
             require(holds(state.facts + state.is_valid(), result == 1), "digits are rejected")
+
+    def has_written(self, state, output, n):
+        """After a call, all of its output is written."""
+        state.writes.append((offset_in(state, "output", output), simple(z3.substitute(self.output_size, (N, n)))))
 
 
 class Fill(Kernel):
@@ -64,6 +72,13 @@ class Fill(Kernel):
     def returns(self, state):
         self.reached(state, None, self.output_size)
 
+    def called(self, state, input, n, output):
+        some, index = any_below(state, n)
+        if some:
+            write(some, output + 2 * index, digits_of(*some.load(input + index, 1), self.is_upper))
+            self.has_written(state, output, n)
+        yield state, None
+
 
 def must_be_digits_of(state, offset, lane, is_upper):
     """Characters at an offset in the digits of all bytes are theirs."""
@@ -83,6 +98,9 @@ class Check(Kernel):
     input_size, output_size = N, word(0)
     arguments = base("input"), N
 
+    def called(self, state, input, n):
+        return judged(state, input, n)
+
 
 class Read(Kernel):
     """read(text, bytes, n): whether all 2n characters are digits. Then the bytes are what the text decodes to."""
@@ -94,6 +112,20 @@ class Read(Kernel):
         """Only what digits decode to is written that have no invalid character before them."""
         must_be_decoded(state, offset, lane)
 
+    def called(self, state, input, n, output):
+        """Any byte may be written before which, and of which, all is digits. All are, if all is; else a front."""
+        some, index = any_below(state, n)
+        if some:
+            pair = some.load(input + 2 * index, 2)
+            if is_in("input", input):
+                some = some.with_digits(offset_in(some, "input", input), 2 * index + 2)
+            if some := some and some.when(z3.And(*map(is_digit, pair)), some.at):
+                write(some, output + index, [decoded(*pair)])
+        for way, result in judged(state, input, simple(2 * n)):
+            if some:
+                self.has_written(way, output, n if result else word(0))
+            yield way, result
+
 
 def must_be_decoded(state, offset, lane, waiting=None):
     """Bytes at an offset are what the digits of the text decode to, which have no invalid character before them. The
@@ -103,7 +135,7 @@ def must_be_decoded(state, offset, lane, waiting=None):
     for at, number in enumerate(lane):
         high, low = [state.byte_of_input(begin + 2 * (offset + at) + more) for more in (0, 1)]
         high = waiting if waiting is not None and not at else high
-        state.must_equal(number, value(high) * 16 + value(low), f"a wrong byte at {offset} + {at}")
+        state.must_equal(number, decoded(high, low), f"a wrong byte at {offset} + {at}")
 
 
 KERNELS = Fill(0), Fill(1), Check(), Read()

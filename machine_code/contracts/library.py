@@ -8,14 +8,15 @@ import re
 
 import z3
 
+from contracts.callees import first_invalid_from, offset_in
 from contracts.functions import (FAILED, FOUND, INVALID_CHARACTER, INVALID_LENGTH, N, ODD_LENGTH, Function, Object,
-                                 base, by_prefix, first_invalid, is_digit, is_prefix, moved, must_be,
-                                 must_be_digits, must_be_size, must_be_unchanged, must_cover, must_find_first_invalid,
-                                 of_32_bits, size_max)
+                                 base, by_prefix, first_invalid, in_size_t, is_digit, is_prefix, moved, must_be,
+                                 must_be_a_front, must_be_digits, must_be_size, must_be_true_if, must_be_unchanged,
+                                 must_begin, must_cover, of_32_bits, size_max, with_prefix_or_without)
 from contracts.kernels import Check as CheckKernel, Fill, must_be_decoded, must_be_digits_of
 from contracts.names import HEADER, WITH_ERROR
-from execution.state import Region, byte, joined, simple, split, word
-from solver.questions import require
+from execution.state import Region, byte, fresh, joined, simple, split, word
+from solver.questions import names, require
 
 FLAGS, SIZE = z3.BitVec("p_flags", 32), z3.BitVec("p_size", 64)
 UPPER, PREFIX, NO_NUL = 1, 2, 4
@@ -101,13 +102,14 @@ class Encode(Exported):
         require(len(lane) == 1 and lane[0].eq(byte(0)), "no NUL")
 
     def returns(self, state):
-        result = state.result(8)
-        state.must(result == z3.If(self.fits, byte(1), byte(0)), "whether the text fits")
+        must_be_true_if(state, self.fits, "whether the text fits")
         if fits := state.when(self.fits, None):
             limit = self.end + z3.If(self.has_nul, word(1), word(0))
             must_cover(fits, word(0), simple(limit), fits.writes, "a character of the text is left out")
-        if failed := state.when(z3.And(z3.Not(self.fits), self.has_nul, SIZE != 0), None):
-            must_cover(failed, word(0), word(1), failed.writes, "the text is not the empty string")
+        if failed := state.when(z3.Not(self.fits), None):
+            require(not failed.reads, "the input is read though the text does not fit")
+            end = z3.If(z3.And(self.has_nul, SIZE != 0), word(1), word(0))
+            must_cover(failed, word(0), end, failed.writes, "the text is not the empty string")
 
 
 class CheckRaw(CheckKernel):
@@ -117,29 +119,42 @@ class CheckRaw(CheckKernel):
     imported = None
     regions = TEXT,
 
-    def result(self, state):
-        return state.result(8)
 
-
-class FirstInvalid(Function):
-    """The search for the first invalid character of a text: its kind, the character, and its index; or, if all are
-    digits, the length. It is called for invalid texts alone."""
+class Search(Function):
+    """A search for the first character that is no digit, which tells its kind, the character and its index; or, if all
+    are digits, 0 and the length."""
 
     is_called = is_local = may_leak = True
-    symbol, function, name = "const_hex_body_find_invalid_character", "find_invalid_character", "any text"
-    regions, arguments = (Region("found", word(16)), TEXT), (base("found"), base("input"), N)
     requires = z3.ULT(N, 1 << 63),
 
+    def found(self, state, index, character):
+        """In the module an error has no kind of its own."""
+        kind = [z3.BitVecVal(FOUND, 32)] if state.WORD == 8 else []
+        return [*kind, z3.ZeroExt(24, character), in_size_t(state, index)]
+
+    def leave(self, state, address, numbers, size):
+        """What comes after these numbers in so many bytes may be anything."""
+        lane = [part for number in numbers for part in split(number)]
+        state.store(address, lane + [fresh("g", 8) for _ in range(size - len(lane))])
+
+
+class FirstInvalid(Search):
+    """find_invalid_character(found, text, length): a text of less than 4 characters has no prefix."""
+
+    symbol, function, name = "const_hex_body_find_invalid_character", "find_invalid_character", "any text"
+    regions, arguments = (Region("found", word(16)), TEXT), (base("found"), base("input"), N)
+
     def cases(self, state):
-        return by_prefix(state, 4)
+        return with_prefix_or_without(state, least=4)
 
     def returns(self, state):
-        must_be(state, "found", 0, 4, FOUND)
-        character, index = state.cell("found", 4, 4), state.cell("found", 8, 8)
-        if not state.holds(index == N):
-            return must_find_first_invalid(state, character, index)
-        must_be_digits(state, N)
-        state.must(character == 0, "a character that is not in the text")
+        must_begin(state, "found", self.found(state, *first_invalid(state)))
+
+    def called(self, state, found, input, n):
+        for way, first in by_prefix(state, offset_in(state, "input", input), n, least=4):
+            for other, *invalid in first_invalid_from(way, input, first, n):
+                self.leave(other, found, self.found(other, *invalid), 16)
+                yield other, None
 
 
 class Text(Exported):
@@ -148,7 +163,7 @@ class Text(Exported):
     name, empty, requires = "any text", (("input", N),), (z3.ULT(N, 1 << 63),)
 
     def cases(self, state):
-        return by_prefix(state)
+        return with_prefix_or_without(state)
 
     def count(self, state):
         """How many bytes the text decodes to."""
@@ -162,12 +177,13 @@ class Text(Exported):
         """What is written on failure beside the error: nothing."""
 
     def returns(self, state):
-        result = state.result(8)
+        result = state.result()
         if state.holds(result == 1):
             state.must(N & 1 == 0, "an odd length is accepted")
             must_be_digits(state, N)
             return self.accepts(state)
         state.must(result == 0, "the result is neither true nor false")
+        must_be_a_front(state)
         self.rejects(state)
         if state.holds(N & 1 == 1):
             return must_fail(state, ODD_LENGTH)
@@ -175,14 +191,13 @@ class Text(Exported):
         if state.holds(z3.Not(self.fits_in(state))):
             return must_fail(state, INVALID_LENGTH)
         state.must(self.fits_in(state), "whether the bytes fit")
-        must_be(state, "error", 0, 4, INVALID_CHARACTER)
-        must_find_first_invalid(state, state.cell("error", 4, 4), state.cell("error", 8, 8))
+        must_reject(state, *must_be_invalid(state))
 
 
 def must_fail(state, kind):
     """An error without a character."""
-    for offset, count, wanted in ((0, 4, kind), (4, 4, 0), (8, state.WORD, 0)):
-        must_be(state, "error", offset, count, wanted)
+    numbers = (kind, 32), (0, 32), (0, 8 * state.WORD)
+    must_begin(state, "error", [z3.BitVecVal(number, bits) for number, bits in numbers])
 
 
 class Check(Text):
@@ -242,15 +257,15 @@ class DecoderFinish(Exported):
         return [with_decoder(state)]
 
     def returns(self, state):
-        result, index, character, kind = state.result(8), *decoder_of(state)
-        state.must(result == z3.If(kind == 0, byte(1), byte(0)), "whether the text is complete")
+        index, character, kind = decoder_of(state)
+        must_be_true_if(state, kind == 0, "whether the text is complete")
         if state.holds(kind == 0):
             must_be_unchanged(state, "error")
         elif state.holds(kind == 1):
             must_fail(state, ODD_LENGTH)
         else:
             state.must(z3.UGT(kind, 1), "whether there was an error")
-            must_repeat(state, index, character)
+            must_reject(state, index, character)
 
 
 def with_decoder(state):
@@ -268,8 +283,15 @@ def decoder_of(state):
     return simple(z3.ZeroExt(64 - 8 * state.WORD, joined(position))), character, kind
 
 
-def must_repeat(state, index, character):
-    """The error of an earlier chunk."""
+def must_be_invalid(state):
+    """The index of the first character that is no digit, and the character. There is one."""
+    index, character = first_invalid(state)
+    state.must(z3.ULT(index, N), "digits are rejected")
+    return index, character
+
+
+def must_reject(state, index, character):
+    """The error is an invalid character."""
     must_be(state, "error", 0, 4, INVALID_CHARACTER)
     must_be(state, "error", 4, 4, z3.ZeroExt(24, character))
     must_be_size(state, "error", 8, index)
@@ -284,26 +306,27 @@ class DecoderUpdate(Exported):
     arguments = (base("decoder"), base("input"), N, base("output"), SIZE, base("written"), base("error"))
     empty, requires = (("input", N), ("output", SIZE)), (z3.ULT(N, 1 << 63),)
 
-    def cases(self, state):
-        """What a decoder may be: at the start; after one digit, which may be the first half of a prefix; later, where a
-        digit waits or none; after an error."""
+    def kinds(self, state):
+        """What a decoder may be: at the start; after one digit, which may be the first half of a prefix; later, where
+        no digit waits, or one; after an error."""
         position, character, kind = decoder_of(with_decoder(state))
-        waits = z3.And(kind == 1, is_digit(character))
-        start, one = z3.And(position == 0, kind == 0), z3.And(position == 1, waits)
-        later = z3.UGE(position, 2)
-        x = state.byte_of_input(word(0))
-        is_rest = z3.And(z3.UGE(N, 1), is_prefix(character, x))
-        failed = state.when(z3.UGT(kind, 1), state.at)
-        # How many digits wait that belong to the first byte.
-        ways = [(way, 0) for way in by_prefix(state.when(start, state.at))]
-        ways += [(state.when(z3.And(*conditions), state.at), waiting) for *conditions, waiting in (
-            (one, is_rest, 0), (one, z3.Not(is_rest), 1), (later, kind == 0, 0), (later, waits, 1))]
-        for way, waiting in ways:
-            if way:
-                way.waiting = waiting
-                way.body = word(1) if way.holds(is_rest) and way.holds(one) else way.body
+        waits, later = z3.And(kind == 1, is_digit(character)), z3.UGE(position, 2)
+        return (z3.And(position == 0, kind == 0), z3.And(position == 1, waits), z3.And(later, kind == 0),
+                z3.And(later, waits), z3.UGT(kind, 1))
+
+    def is_for(self, state):
+        return z3.Or(*self.kinds(state))
+
+    def cases(self, state):
+        start, one, complete, waits, failed = self.kinds(state)
+        is_rest = z3.And(z3.UGE(N, 1), is_prefix(decoder_of(state)[1], state.byte_of_input(word(0))))
+        yield from with_prefix_or_without(state.when(start, state.at))
+        # How many digits wait that belong to the first byte, and where the digits of this chunk begin.
+        for condition, waiting, body in ((z3.And(one, is_rest), 0, 1), (z3.And(one, z3.Not(is_rest)), 1, 0),
+                                         (complete, 0, 0), (waits, 1, 0), (failed, 0, 0)):
+            if way := state.when(condition, state.at):
+                way.waiting, way.body = waiting, word(body)
                 yield way
-        yield failed
 
     def count(self, state):
         """How many bytes the digits make."""
@@ -329,28 +352,28 @@ class DecoderUpdate(Exported):
         must_be_decoded(state, offset, lane)
 
     def returns(self, state):
-        result = state.result(8)
+        result = state.result()
         position, character, kind = decoder_of(state)
         if state.holds(result == 1):
             return self.accepts(state, position, character, kind)
         state.must(result == 0, "the result is neither true nor false")
+        must_be_a_front(state)
         must_be_size(state, "written", 0, 0)
         if state.holds(z3.UGT(kind, 1)):
             must_be_unchanged(state, "decoder")
-            return must_repeat(state, position, character)
+            return must_reject(state, position, character)
         if state.holds(z3.UGT(self.count(state), SIZE)):
             must_be_unchanged(state, "decoder")
             return must_fail(state, INVALID_LENGTH)
         state.must(z3.ULE(self.count(state), SIZE), "whether the bytes fit")
-        index, character = first_invalid(state)
-        state.must(z3.ULT(index, N), "digits are rejected")
-        must_repeat(state, moved(state, position, index), character)
+        index, character = must_be_invalid(state)
+        must_reject(state, moved(state, position, index), character)
         must_be_size(state, "decoder", 0, moved(state, position, index))
         must_be(state, "decoder", state.WORD, 1, character)
         state.must(z3.UGT(state.cell("decoder", state.WORD + 1, 1), 1), "the decoder does not keep its error")
 
     def accepts(self, state, position, character, kind):
-        state.must(z3.And(z3.ULE(kind, 1), z3.ULE(self.count(state), SIZE)), "what does not fit is accepted")
+        state.must(z3.ULE(kind, 1), "a chunk after an error is accepted")
         must_be_digits(state, N)
         must_cover(state, word(0), self.count(state), state.writes, "a byte is left out")
         must_be_unchanged(state, "error")
@@ -364,31 +387,54 @@ class DecoderUpdate(Exported):
             must_be(other, "decoder", state.WORD, 1, other.byte_of_input(N - 1))
 
 
-class DecoderFail(Function):
-    """The search for the first invalid character of a chunk, of which some characters come before: the decoder moves
-    there, and keeps the error, which is found as by FirstInvalid. It is called for invalid chunks alone."""
+class ChangedDecoder(DecoderUpdate):
+    """The same with a decoder that a program has changed: it is safe, and may do anything else."""
 
-    is_called = is_local = may_leak = True
+    name, parts, may_leak, is_in_module = "a decoder that was changed", 1, True, False
+
+    def is_for(self, state):
+        return z3.Not(super().is_for(state))
+
+    def cases(self, state):
+        return [state.when(self.is_for(state), state.at)]
+
+    def store(self, state, offset, lane):
+        """Anything may be written to the output."""
+
+    def returns(self, state):
+        """Any result, and any error."""
+
+
+class DecoderFail(Search):
+    """decoder_fail(found, decoder, before, text, length), of a chunk, before which come some characters: the decoder
+    moves to the invalid one, and keeps the error."""
+
     symbol, function, name = "const_hex_decoder_fail", "decoder_fail", "every decoder and chunk"
     before = z3.BitVec("p_before", 64)
     regions = *[Object(name, DECODER.size, is_aligned=False) for name in ("found", "decoder")], TEXT
     arguments = base("found"), base("decoder"), before, base("input"), N
-    requires = z3.ULT(N, 1 << 63),
 
     def cases(self, state):
         return [with_decoder(state)]
 
+    def outcome(self, state, position, before, index, character):
+        """What is found, and what the decoder keeps."""
+        index = moved(state, moved(state, position, before), index)
+        return self.found(state, index, character), [in_size_t(state, index), character, byte(FAILED)]
+
     def returns(self, state):
-        index, character = first_invalid(state)
-        index, size = moved(state, moved(state, decoder_of(state)[0], self.before), index), state.WORD
-        index = z3.Extract(8 * size - 1, 0, index)
-        # In the module an error has no kind of its own.
-        for name, offset, count, wanted in (
-                *[("found", 0, 4, FOUND)][: size - 4], ("found", size - 4, 4, z3.ZeroExt(24, character)),
-                ("found", size, size, index), ("decoder", 0, size, index), ("decoder", size, 1, character),
-                ("decoder", size + 1, 1, FAILED)):
-            must_be(state, name, offset, count, wanted)
+        outcome = self.outcome(state, decoder_of(state)[0], self.before, *first_invalid(state))
+        for name, numbers in zip(("found", "decoder"), outcome):
+            must_begin(state, name, numbers)
+
+    def called(self, state, found, decoder, before, input, n):
+        require(set(names(found)).isdisjoint(names(decoder)), "a decoder in the place of what is found")
+        position = simple(z3.ZeroExt(64 - 8 * state.WORD, joined(state.load(decoder, state.WORD))))
+        for way, *invalid in first_invalid_from(state, input, 0, n):
+            for address, numbers in zip((found, decoder), self.outcome(way, position, before, *invalid)):
+                self.leave(way, address, numbers, 2 * way.WORD)
+            yield way, None
 
 
 FUNCTIONS = (Version(), EncodedSize(), *[Encode(flags) for flags in (*range(8), None)], CheckRaw(), FirstInvalid(),
-             Check(), DecodeExact(), Decode(), DecoderFinish(), DecoderFail(), DecoderUpdate())
+             Check(), DecodeExact(), Decode(), DecoderFinish(), DecoderFail(), DecoderUpdate(), ChangedDecoder())

@@ -100,17 +100,15 @@ class WriteEnded(Ended):
     def returns(self, state):
         self.must_be_ended(state, N, lambda count: [state.byte_of_input(word(at)) for at in range(count)])
 
-
-def write_ended(state):
-    """Writes a text of the whole output to its caller."""
-    source, length, output, size = state.arguments(4)
-    count, = values(state.facts, length, 1)
-    state.must(size == SIZE, "another size")
-    state.must(z3.Or(SIZE == 0, output == base("output")), "another output")
-    require(count <= MOST, "a text that is too long")
-    require(state.ended is None and not any(name == "output" for name, _ in state.cells), "a text is written before")
-    state.ended = state.load(source, count) if count else []
-    yield state, ended(word(count))
+    def called(self, state, input, n, output, i_size):
+        """Writes to the whole output of its caller."""
+        count, = values(state.facts, n, 1)
+        state.must(i_size == SIZE, "another size")
+        state.must(z3.Or(SIZE == 0, output == base("output")), "another output")
+        is_first = state.ended is None and not any(name == "output" for name, _ in state.cells)
+        require(is_first, "a text is written before")
+        state.ended = state.load(input, count) if count else []
+        yield state, ended(word(count))
 
 
 class ErrorMessage(Ended):

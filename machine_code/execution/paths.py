@@ -8,6 +8,7 @@ that is wrong after some rounds, or that does not end.
 
 import z3
 
+from contracts.functions import N
 from execution.state import fresh, simple, word
 from solver.questions import Refused, require
 
@@ -28,9 +29,9 @@ class Loop:
 
     def __init__(self, entry, hint):
         self.entry, self.rounds = entry, fresh("p_rounds", 64)
-        # There are no more rounds than this number, so they end; and the next one after them is a number, too.
+        # There are no more rounds than this number. The next one after them is a number, too.
         bound = hint.bound(entry)
-        entry.must(z3.ULT(bound, (1 << 64) - 1), "the number of rounds")
+        entry.must(z3.ULT(bound, N + STEPS), "the number of rounds")
         self.claims = [z3.ULE(self.rounds, bound), *hint.guards(self.rounds)]
         # The registers that a round changes by a fixed number, or not at all; and the vectors that it keeps.
         self.general = {name: entry.general[name] + step * self.rounds for name, step in hint.steps.items()}
@@ -50,8 +51,7 @@ class Loop:
         for at in self.kept:
             same = all(state.holds(a == b) for a, b in zip(state.vectors[at], self.entry.vectors[at]))
             require(same, f"at the head of a loop: vector {at}")
-        same = state.cells.keys() == self.entry.cells.keys()
-        require(same and all(state.cells[at].eq(value) for at, value in self.entry.cells.items()),
+        require(all(at in state.cells and state.cells[at].eq(value) for at, value in self.entry.cells.items()),
                 "at the head of a loop: the stack")
         require(state.calls == self.entry.calls, "at the head of a loop: where calls return to")
         state.arrive(self.is_clean)
@@ -73,7 +73,7 @@ class Loop:
         # What was written before the loop stays written.
         state.writes = [*state.writes, (word(0), self.written)]
         state.digits = dict.fromkeys(state.reads, True)
-        state.flags, state.steps, state.loops = None, 0, state.loops | {state.at: self}
+        state.flags, state.steps, state.loops, state.loop = None, 0, state.loops | {state.at: self}, self
         state.leave(self.is_clean)
         return state
 
@@ -125,10 +125,13 @@ def returned(state, to):
 def called(state, effect):
     """A function of which its contract is known: the states after it, each with what may be its result."""
     state.must_call()
-    after = []
-    for other, result in effect(state):
+    after, ways = [], list(effect(state))
+    if not ways:
+        raise ValueError("a contract of what is called leaves no state")
+    for other, result in ways:
         to = other.return_address()
         other.forget()
+        other.loop = None
         if result is not None:
             other.put_result(result)
         other.drop_below()
@@ -145,6 +148,8 @@ def run(code, starts, heads, guess):
             if state.at in heads:
                 if state.at in state.loops:
                     loop = state.loops[state.at]
+                    # So the number of instructions grows no faster than the lengths.
+                    require(state.loop is loop, "a loop or a call in a loop")
                     loop.arrive(state, simple(loop.rounds + 1))
                     count += 1
                     continue

@@ -40,8 +40,9 @@ def contracts_of(obj):
     for symbol in sorted(obj.symbols):
         for at, contract in enumerate(CONTRACTS):
             form = contract.symbol if obj.machine else contract.symbol.removesuffix("_nonnull")
-            is_dispatched = isinstance(contract, dispatch.Dispatched)
-            if is_dispatched and (obj.machine is None or contract in dispatch.CHOICES and obj.machine != X86_64):
+            if obj.machine is None and not contract.is_in_module:
+                continue
+            if contract in dispatch.CHOICES and obj.machine != X86_64:
                 continue
             if contract in KERNELS and (obj.machine == X86_64) != bool(LEVEL.search(symbol)):
                 continue
@@ -55,7 +56,8 @@ def effects_of(contract):
     each other's: functions of the header, local ones, those that choose a kernel, and kernels."""
     if contract.imported is not None:
         return contract.imported
-    return callees.IMPORTED | ({} if contract.is_local else callees.LOCAL)
+    return callees.effects(other for other in CONTRACTS
+                           if other in KERNELS or other.is_local and not contract.is_local)
 
 
 def prove(content, symbol, contract, which=slice(None)):

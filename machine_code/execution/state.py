@@ -11,7 +11,8 @@ import itertools
 import z3
 
 from solver import tenths
-from solver.questions import Refused, conjuncts, facts_of, holds, is_impossible, names, relevant, require, values
+from solver.questions import (Refused, conjuncts, facts_of, holds, is_impossible, is_public, names, relevant, require,
+                              values)
 
 simple = z3.simplify
 _numbers = itertools.count()
@@ -28,11 +29,6 @@ def word(value):
 def fresh(kind, bits):
     """A new constant. Its kind is p for what is public, i for a byte of the input, and g for what may be anything."""
     return z3.BitVec(f"{kind}_{next(_numbers)}", bits)
-
-
-def is_secret(term):
-    """Whether it may depend on a byte of the input, or on what is unknown."""
-    return any(not name.startswith("p_") for name in names(term))
 
 
 _wholes = {}
@@ -124,9 +120,9 @@ class State:
         # Offset and count of what was read of the input and written to the output, and whether reads are of digits, by
         # these terms themselves: two keys are the same only if their terms are.
         self.reads, self.writes, self.digits = [], [], {}
-        # The loops that were entered, and the instructions since the last head. Whether time may depend on the input,
-        # which is surely invalid.
-        self.loops, self.steps, self.may_leak, self.flags = {}, 0, contract.may_leak, None
+        # The loops that were entered, the last one, if nothing was called since by its contract, and the instructions
+        # since its head. Whether time may depend on the input, which is surely invalid.
+        self.loops, self.loop, self.steps, self.may_leak, self.flags = {}, None, 0, contract.may_leak, None
         # Where the digits of the input begin, and how many digits wait that belong before them.
         self.body, self.waiting = word(0), 0
         self.enter()
@@ -164,7 +160,7 @@ class State:
 
     def either(self, condition, one, other):
         """The first of two terms where a condition holds, else the second: just that one, if it is known which."""
-        if not is_secret(condition):
+        if is_public(condition):
             for term, way in (one, condition), (other, z3.Not(condition)):
                 if self.holds(way):
                     return term
@@ -172,7 +168,7 @@ class State:
 
     def choose(self, choice):
         """Whether a condition holds for all valid inputs, or for none; None where it is public."""
-        if self.may_leak or not is_secret(choice):
+        if self.may_leak or is_public(choice):
             return None
         facts = self.facts + self.is_valid()
         ways = (True, choice), (False, z3.Not(choice))
@@ -204,8 +200,8 @@ class State:
     def _place(self, address, count, aligned):
         """The region of an access, and its offset."""
         address = simple(address)
-        is_public = self.may_leak or not is_secret(address)
-        require(is_public, "an address depends on bytes that are secret, or on what is unknown")
+        is_allowed = self.may_leak or is_public(address)
+        require(is_allowed, "an address depends on bytes that are secret, or on what is unknown")
         found = [region for region in self.regions.values() if region.base.decl().name() in names(address)]
         require(len(found) == 1, f"an address in {[region.name for region in found]}: {address}")
         region, offset = found[0], simple(address - found[0].base)
@@ -233,7 +229,7 @@ class State:
         return known
 
     def _constants(self, region, offset, count):
-        if is_secret(offset) and count == 1:
+        if count == 1 and not is_public(offset):
             # A guess of where the table begins: the offset where all that is unknown is 0.
             solver = z3.Solver()
             solver.check()
@@ -251,7 +247,7 @@ class State:
 
     def jumps(self, address):
         """The conditions under which a jump leads to places of the file, and these places."""
-        require(self.may_leak or not is_secret(address), "a jump depends on bytes that are secret")
+        require(self.may_leak or is_public(address), "a jump depends on bytes that are secret")
         base = self.code.constants.base
         require(base.decl().name() in names(address), "a jump to a place that is not fixed")
         offset = simple(address - base)
@@ -317,20 +313,21 @@ class State:
                 yield offset, count
 
     def with_digits(self, offset, count):
-        """This state where a part of the input has digits alone, or None if it can't."""
-        other = self.with_no_other(offset, count)
-        digits = [self.contract.is_digit(name) for at, name in self.input.values()
-                  if other and not self.is_known(name, True) and other.holds(z3.ULT(at - offset, count))]
+        """This state where a part of the input has digits alone, or None if it can't: what is known to be no digit lies
+        elsewhere, and what is known to lie in the part is a digit."""
+        other = self.without_others(offset, count)
+        digits = [self.contract.is_digit(name) for index, name in self.input.values()
+                  if other and not self.is_known(name, True) and other.holds(z3.ULT(index - offset, count))]
         return other and other.when(z3.And(*digits), other.at)
 
-    def with_no_other(self, offset, count):
-        """The same, but only what is known of each character by itself shows that it can't."""
+    def without_others(self, offset, count):
+        """The same, but of characters that are known to lie in the part nothing is said."""
         other, offset, count = self.copy(), simple(offset), simple(count)
         other.reads.append((offset, count))
         other.digits[offset, count] = True
-        for at, name in self.input.values():
+        for index, name in self.input.values():
             if other and self.is_known(name, False):
-                other = other.when(z3.Not(z3.ULT(at - offset, count)), other.at)
+                other = other.when(z3.Not(z3.ULT(index - offset, count)), other.at)
         return other
 
     def is_known(self, name, is_digit):
@@ -339,10 +336,11 @@ class State:
         return is_impossible([*relevant(self.facts, wanted, 0), z3.Not(wanted)])
 
     def without_digit(self, offset):
-        """This state where a character of the input is no digit, or None if it can't be."""
+        """This state where a character of the input is no digit, or None if it can't be: so it lies in no part that
+        has digits alone."""
         other = self.when(z3.Not(self.contract.is_digit(self.byte_of_input(offset))), self.at)
-        for at, count in list(self.known_digits()):
-            other = other and other.when(z3.Not(z3.ULT(offset - at, count)), other.at)
+        for start, count in list(self.known_digits()):
+            other = other and other.when(z3.Not(z3.ULT(offset - start, count)), other.at)
         return other
 
     # Calls
@@ -355,8 +353,10 @@ class State:
     def arguments(self, count):
         return [self.general[name] for name in self.ARGUMENTS[:count]]
 
-    def result(self, bits):
-        return simple(z3.Extract(bits - 1, 0, self.general[self.RESULT[0]]))
+    def result(self, bits=None):
+        """So many bits of the result, or those that callers may look at if it is a bool."""
+        register, of_bool = self.RESULT
+        return simple(z3.Extract((bits or of_bool) - 1, 0, self.general[register]))
 
     def must_call(self):
         """What a function needs that is called by its contract: its stack, which is aligned."""
@@ -388,7 +388,7 @@ class State:
         self.flags = None
 
     def put_result(self, result):
-        """A result has as many bits as a kernel's, and nothing is known of the others."""
+        """A bool has some bits, and nothing is known of the others."""
         register, bits = self.RESULT
         result = result if z3.is_expr(result) else z3.Concat(fresh("g", 64 - bits), z3.BitVecVal(result, bits))
         self.general[register] = simple(result)

@@ -112,64 +112,72 @@ def _least(parts):
     return simple(parts[0][0] + min(by.as_signed_long() for by in far if z3.is_bv_value(by))) if parts else word(0)
 
 
-def guess(code, entry):
-    """What may hold at the head that a state has come to, or None."""
+class Unproved:
+    """A state of which nothing has to be proved."""
 
-    class Quiet(type(entry)):
-        """A state of which nothing has to be proved."""
+    def must(self, goal, message):
+        pass
 
-        def must(self, goal, message):
-            pass
+    def choose(self, choice):
+        return None
 
-        def choose(self, choice):
-            return None
+    def fits(self, term):
+        return True
 
-        def fits(self, term):
-            return True
+    def store(self, address, lane, aligned=False):
+        if "p_output" in names(simple(address)):
+            self.writes.append((simple(address - self.regions["output"].base), len(lane)))
+        else:
+            super().store(address, lane, aligned)
 
-        def store(self, address, lane, aligned=False):
-            if "p_output" in names(simple(address)):
-                self.writes.append((simple(address - self.regions["output"].base), len(lane)))
-            else:
-                super().store(address, lane, aligned)
+    def returned(self):
+        raise Refused("a round that ends elsewhere")
 
-        def returned(self):
-            raise Refused("a round that ends elsewhere")
 
-    class Follower(Quiet):
-        """A state of which is known which way it goes."""
+class Directed(Unproved):
+    """One of which is known which way it goes: a branch goes both ways."""
 
-        def when(self, condition, at):
-            other = self.copy()
-            other.assume(condition)
-            other.at = at
-            return other
+    def when(self, condition, at):
+        other = self.copy()
+        other.assume(condition)
+        other.at = at
+        return other
 
-    def begin(kind, added):
-        state = entry.copy()
-        state.__class__, state.reads, state.writes = kind, [], []
-        state.general = {name: simple(value + added[name]) for name, value in entry.general.items()}
-        return state
 
-    work, end = [(begin(Quiet, {name: word(0) for name in entry.general}), ())], None
-    near = leading_to(code, entry.at)
-    while work and end is None:
+def _at_head(entry, kind, added):
+    """A state where a round begins, whose registers are more than where the loop was entered."""
+    state = type(kind.__name__, (kind, type(entry)), {})()
+    state.__dict__ = entry.copy().__dict__ | {"reads": [], "writes": []}
+    state.general = {name: simple(value + added[name]) for name, value in entry.general.items()}
+    return state
+
+
+def _first_round(code, entry):
+    """The addresses on a way from a loop's head back to it, and the state there; or None, if none was found."""
+    unchanged = {name: word(0) for name in entry.general}
+    work, near = [(_at_head(entry, Unproved, unchanged), ())], leading_to(code, entry.at)
+    while work:
         # Those that lead back come first.
         work.sort(key=lambda part: part[0].at in near)
         state, way = work.pop()
         if way and state.at == entry.at:
-            end = state
-        else:
-            try:
-                work += [(after, (*way, after.at)) for after in paths.step(code, state)]
-            # Nothing is checked here, so an access outside of a table is tried. The proof itself rejects it.
-            except (Refused, IndexError):
-                pass
-    if end is None:
+            return way, state
+        try:
+            work += [(after, (*way, after.at)) for after in paths.step(code, state)]
+        # Nothing is checked here, so an access outside of a table is tried. The proof itself rejects it.
+        except (Refused, IndexError):
+            pass
+    return None
+
+
+def guess(code, entry):
+    """What may hold at the head that a state has come to, or None."""
+    if not (first := _first_round(code, entry)):
         return None
+    way, end = first
     added = {name: word(0) if end.general[name].eq(value) else fresh("p_added", 64)
              for name, value in entry.general.items()}
-    state = begin(Follower, added)
-    for at in way:
-        state = next(after for after in paths.step(code, state) if after.at == at)
+    state = _at_head(entry, Directed, added)
+    for address in way:
+        state = next(after for after in paths.step(code, state) if after.at == address)
     return Hint(entry, state, added)

@@ -317,7 +317,8 @@ def store(s, i):
 
 
 HANDLERS = {
-    "add": either(general(ADD), by_units(ADD)), "adds": general(ADD, sum_flags), "cmn": general(ADD, sum_flags, is_kept=False),
+    "add": either(general(ADD), by_units(ADD)), "adds": general(ADD, sum_flags),
+    "cmn": general(ADD, sum_flags, is_kept=False),
     "sub": either(general(SUBTRACT), by_units(SUBTRACT)), "subs": general(SUBTRACT, difference_flags),
     "cmp": general(SUBTRACT, difference_flags, is_kept=False), "and": either(general(AND), by_units(AND)),
     "tst": general(AND, logic_flags, is_kept=False), "orr": either(general(OR), by_units(OR)),

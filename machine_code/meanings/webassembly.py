@@ -12,11 +12,11 @@ import z3
 
 from execution import state
 from execution.paths import Branch
-from execution.state import byte, chosen, is_secret, joined, simple, split, word
+from execution.state import byte, chosen, joined, simple, split, word
 from meanings.lanes import (ADD, AND, MAXIMUM, MINIMUM, MULTIPLY, OR, SUBTRACT, XOR, each, saturated, units)
 from reading.assembled import Instruction
 from reading.module import SPACE
-from solver.questions import names, require
+from solver.questions import is_public, names, require
 
 # How many operands there are before an instruction, the numbers in it, and where it leads.
 Operands = namedtuple("Operands", "height numbers targets")
@@ -169,8 +169,6 @@ class State(state.State):
 
     def returned(self):
         self.must(self.general["global 0"] == self.first["global 0"], "global 0 is not as before")
-        if "result" in self.general:
-            self.must(z3.ULT(self.exact(self.general["result"]), 256), "a result with more bytes")
 
     # Calls by a contract
     def arguments(self, count):
@@ -296,7 +294,7 @@ def branch_if(s, i):
 def branch_by(s, i):
     """The last target is that of each index from its own on."""
     index, targets = s.exact(s.take(_operand(i, i.operands.height - 1))), i.operands.targets
-    require(s.may_leak or not is_secret(index), "a branch depends on bytes that are secret")
+    require(s.may_leak or is_public(index), "a branch depends on bytes that are secret")
     ways = [(index == at, target) for at, target in enumerate(targets[:-1])]
     return [*ways, (z3.UGE(index, len(targets) - 1), targets[-1])]
 

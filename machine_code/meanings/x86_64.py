@@ -62,13 +62,25 @@ def _is_jump(instruction):
     return instruction.mnemonic.startswith("j") or instruction.mnemonic == "call"
 
 
+def _operands(text):
+    return [Operand(part.strip()) for part in text.split(",") if part]
+
+
+def _text_to_assemble(i):
+    """A jump of more than 4 bytes has a distance of 32 bits, also where a shorter one would do."""
+    if not _is_jump(i):
+        return i.text
+    return ("{disp32} " if i.size > 4 else "") + assembled.with_distance(i)
+
+
+def _is_nop(i, old, new):
+    return i.mnemonic == "nop" and old.hex() in NOPS
+
+
 def instructions(code, part, level):
     """Those of some code by their addresses, for the least CPU of a level."""
-    operands = lambda text: [Operand(part.strip()) for part in text.split(",") if part]
     command = ["as", "--64", "-msyntax=intel", "-mnaked-reg", f"-march={LEVELS.get(level, V2)}"]
-    text_of = lambda i: ("{disp32} " if i.size > 4 else "") + assembled.with_distance(i) if _is_jump(i) else i.text
-    is_same = lambda i, old, new: i.mnemonic == "nop" and old.hex() in NOPS
-    return assembled.read(part, X86_64, operands, command, text_of, is_same)
+    return assembled.read(part, X86_64, _operands, command, _text_to_assemble, _is_nop)
 
 
 def follows(i):
@@ -108,8 +120,7 @@ class State(state.State):
 
     # Operands
     def address(self, o, i):
-        if ("rip", 1) in o.terms:
-            require(len(o.terms) == 1, "an address by another register")
+        if o.terms == [("rip", 1)]:
             return simple(self.code.at(i.address + i.size + o.offset))
         return simple(sum([self.general[name] * scale for name, scale in o.terms], word(o.offset)))
 

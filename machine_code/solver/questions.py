@@ -13,8 +13,9 @@ from solver import integers
 QUICK, LIMIT = 600_000, 40_000_000
 # Each question that was answered by "unsat", as the logic and conditions, for a second solver.
 proved = []
-counts = {"asked": 0, "repeated": 0, "given up": 0}
-_constants, _names, _answers, _translated, _kept = {}, {}, {}, {}, []
+counts = {"asked": 0}
+# By their names and numbers, and the terms that are kept so that their numbers are not used again.
+_constants, _names, _kept = {}, {}, []
 
 
 class Refused(Exception):
@@ -124,7 +125,6 @@ def _answer(logic, conditions, limit, models=None):
     solver.add(*conditions)
     answer = solver.check()
     counts["asked"] += 1
-    counts["given up"] += answer == z3.unknown
     if answer == z3.unsat:
         proved.append((logic, conditions))
     if answer == z3.sat and models is not None:
@@ -136,15 +136,24 @@ def is_impossible_in_integers(conditions):
     return _answer("QF_LIA", conditions, QUICK) == z3.unsat
 
 
+def _once(question):
+    """A question that is asked once of the same facts. These are kept, so that their numbers are not used again."""
+    answers = {}
+
+    def asked(facts, *rest):
+        key = tuple(fact.get_id() for fact in facts)
+        if key not in answers:
+            answers[key] = facts, question(facts, *rest)
+        return answers[key][1]
+
+    return asked
+
+
+@_once
 def _in_integers(facts):
     """Facts in integers, or None if not all are linear. Most questions are about facts that were translated before."""
-    if not facts:
-        return integers.Facts(is_impossible_in_integers)
-    key = tuple(fact.get_id() for fact in facts)
-    if key not in _translated:
-        known = _in_integers(facts[:-1])
-        _translated[key] = known and known.and_also(facts[-1])
-    return _translated[key]
+    known = _in_integers(facts[:-1]) if facts else None
+    return known and known.and_also(facts[-1]) if facts else integers.Facts(is_impossible_in_integers)
 
 
 def _by_integers(facts):
@@ -159,20 +168,16 @@ def _by_integers(facts):
         "QF_LIA", [*known.ranges.values(), *known.conditions], QUICK, before.models)
 
 
+@_once
 def is_impossible(facts):
     """Whether facts contradict each other. A question that differs from another by its names alone is asked once."""
-    are_public = all([is_public(fact) for fact in facts])  # which keeps all of them
-    same = tuple(fact.get_id() for fact in facts)
-    if same not in _answers:
-        terms = _renamed(facts)
-        key = tuple(term.get_id() for term in terms)
-        counts["repeated"] += key in _answers
-        if key not in _answers:
-            _kept.extend(terms)
-            answer = _by_integers(terms) if are_public else z3.unknown
-            _answers[key] = z3.unsat in (answer, answer == z3.unknown and _answer("QF_BV", terms, LIMIT))
-        _answers[same] = _answers[key]
-    return _answers[same]
+    return _is_impossible(_renamed(facts), all(map(is_public, facts)))
+
+
+@_once
+def _is_impossible(terms, are_public):
+    answer = _by_integers(terms) if are_public else z3.unknown
+    return z3.unsat in (answer, answer == z3.unknown and _answer("QF_BV", terms, LIMIT))
 
 
 def holds(facts, goal, steps=None):

@@ -40,18 +40,20 @@ FILL = """
     2: {end}
     ret
 """
-READ = """
-    {start}
+VALUE = """lea r10d, [r{0}x-0x30]; cmp r10b, 10; setb r8b; or {0}l, 0x20; sub {0}l, 0x57; lea r11d, [r{0}x-10]
+    cmp r11b, 6; setb r9b; or r9b, r8b; je 3f; test r8b, r8b; cmovne e{0}x, r10d
+    """
+# The byte of two characters in al.
+BYTE = f"{VALUE.format('a')}{VALUE.format('c')}shl eax, 4; or eax, ecx; "
+LOAD = "movzx eax, byte ptr [rdi+{0}]; movzx ecx, byte ptr [rdi+{0}+1]; "
+READ = f"""
+    {{start}}
     1: test rdx, rdx; je 2f
-    movzx eax, byte ptr [rdi]; movzx ecx, byte ptr [rdi+1]; {character}
-    lea r10d, [rax-0x30]; cmp r10b, 10; setb r8b; or al, 0x20; sub al, 0x57; lea r11d, [rax-10]
-    cmp r11b, 6; setb r9b; or r9b, r8b; je 3f; test r8b, r8b; cmovne eax, r10d
-    lea r10d, [rcx-0x30]; cmp r10b, 10; setb r8b; or cl, 0x20; sub cl, 0x57; lea r11d, [rcx-10]
-    cmp r11b, 6; setb r9b; or r9b, r8b; je 3f; test r8b, r8b; cmovne ecx, r10d
-    shl eax, 4; or eax, ecx; {store}
-    add rdi, 2; add rsi, 1; add rdx, -1; {round}
+    {LOAD.format(0)}{{character}}
+    {BYTE}{{store}}
+    add rdi, 2; add rsi, 1; add rdx, -1; {{round}}
     jmp 1b
-    2: mov eax, 1; {end}
+    2: mov eax, 1; {{end}}
     ret
     3: xor eax, eax; ret
 """

@@ -1,13 +1,13 @@
 #!/usr/bin/env python3
-"""Changes random bits of a C library or the module, each in a copy of its own: the solver refuses it, or it runs and
-all is equal.
+"""Changes random bits of the shared C library or of the module, each in a copy of its own: the solver refuses it, or it
+runs and all is equal.
 
     /usr/bin/python3 machine_code/tests/solver/random_bits.py COUNT FILE.. [--seed N] [--jobs N]
 
 A bit belongs to code or constants, and a module with another bit is one. Refused means by a contract of the function
-that has it, or of all that refer to it; or that there is no answer in time. Equal means that the test in
-c/tests/check.c, which compares with a model, passes with the copy, or that same.mjs finds no difference from the right
-module. What the Rust crate has is the code of the kernels in the archives. The last line is "N passed, M failed".
+that has it, or of all that may use it; or that there is no answer in time. Equal means that the test in
+c/tests/check.c, which compares with a model, passes with the copy, with each kernel; or that same.mjs finds no
+difference from the right module. The last line is "N passed, M failed".
 """
 
 import argparse
@@ -15,8 +15,8 @@ import multiprocessing
 import pathlib
 import random
 import re
-import shutil
 import signal
+import struct
 import subprocess
 import sys
 import tempfile
@@ -25,113 +25,115 @@ MACHINE_CODE = pathlib.Path(__file__).resolve().parents[2]
 sys.path[:0] = [str(MACHINE_CODE)]
 
 from execution import proofs  # noqa: E402
-from reading import archive, expected, module, objects  # noqa: E402
-from reading.library import WASM, is_module, read  # noqa: E402
+from reading import library  # noqa: E402
+from reading.image import AARCH64, X86_64  # noqa: E402
 from solver.questions import Refused  # noqa: E402
+from tests.library import headers_of  # noqa: E402
 
 C, SAME = MACHINE_CODE.parent / "c", pathlib.Path(__file__).with_name("same.mjs")
 # So many seconds of the processor has an answer, and what runs, which takes long by QEMU.
 MOST_SECONDS, TO_RUN = 120, 3600
-WRAPPED = [f"-Wl,--wrap=const_hex_kernel_{kernel}" for kernel in ("check", "fill", "read")]
-# By the number of a processor in ELF: what links the test, which calls both kernels if there are two, and what runs it.
-TOOLS = {62: (["cc", "-pthread", *WRAPPED], []),
-         183: (["aarch64-linux-gnu-gcc", "-pthread", "-DCONST_HEX_ONE_BUILD"],
-               ["qemu-aarch64", "-L", "/usr/aarch64-linux-gnu"])}
+# What links the test, and what runs it.
+TOOLS = {X86_64: ("cc", []), AARCH64: ("aarch64-linux-gnu-gcc", ["qemu-aarch64", "-L", "/usr/aarch64-linux-gnu"])}
 NO_ANSWER = "no answer in time"
+# Of a section: that it has content, is loaded, and is written.
+CONTENT, LOADED, WRITTEN = 1, 2, 1
 
 
 def stop(*_):
     raise Refused(NO_ANSWER)
 
 
+def with_bit(content, place, bit):
+    return content[:place] + bytes([content[place] ^ 1 << bit]) + content[place + 1 :]
+
+
 def changed_module(content, some):
-    """The bytes of a module with another bit in a function that is proved or in its data, what has it, and where."""
-    before = sections_of(content)
+    """The bytes of a module with another bit in a function that is proved or in its data, what has it, where, and the
+    contracts of what uses it."""
+    before = parts_of_module(content)
     while True:
-        at, bit = some.randrange(len(content)), some.randrange(8)
-        other = content[:at] + bytes([content[at] ^ 1 << bit]) + content[at + 1 :]
+        place, bit = some.randrange(len(content)), some.randrange(8)
         try:
-            after = sections_of(other)
+            after = parts_of_module(with_bit(content, place, bit))
         except ValueError:
             continue
         names = [name for name in before if after.get(name) != before[name]]
-        if len(names) == 1 and concerned(content, WASM, names[0]):
-            return other, names[0], at, bit
+        if len(names) == 1 and (found := users(content, names[0])):
+            return with_bit(content, place, bit), f"{names[0]}+{place:#x}, bit {bit}", found
 
 
-def sections_of(content):
-    """What a module has, by the names of its functions and data."""
-    found = module.parse(content, "memory")
-    expected.check_module(found)
-    return {section.name: bytes(section.content) if section.name == "data" else section.content
-            for section in found.sections}
+def parts_of_module(content):
+    """What a module has, by the names of its functions, and its data."""
+    module = library.whole(content)
+    return {function.name: function.content for function in module.functions} | {"data": module.data[0].content}
 
 
-def called(found, name):
-    """The names of a module's functions that one calls, with its own."""
-    names = [name]
-    for name in names:
-        content = next(section.content for section in found.sections if section.name == name)
-        to = {f"function {text.split()[1]}" for text in content if text.startswith("call ")}
-        names += sorted(to - {*names})
-    return names
-
-
-def change(content, some):
-    """The bytes of an object with another bit in what is loaded, the section that has it, and where."""
-    loaded = [(name, header) for name, header in objects.read(content).headers
-              if header.flags & objects.ALLOCATED and header.type == expected.CONTENT and header.size]
-    name, header = some.choices(loaded, [header.size for _, header in loaded])[0]
-    at, bit = header.offset + some.randrange(header.size), some.randrange(8)
-    return content[:at] + bytes([content[at] ^ 1 << bit]) + content[at + 1 :], name, at - header.offset, bit
-
-
-def concerned(content, build, section):
-    """The contracts of the function that a section has, or of those that refer to it."""
-    obj, own, others = read(content), [], []
-    for contract in proofs.contracts_of(build, content):
-        names = obj.symbols.keys() - obj.exported if contract.is_local else obj.exported
+def users(content, part):
+    """The contracts of the function of a module, or of those that call it or use its data."""
+    module, found = library.whole(content), []
+    functions = {function.name: function for function in module.functions}
+    for symbol, number in proofs.contracts_of(module):
+        names = [module.code_at(module.symbols[symbol]).name]
         for name in names:
-            if re.fullmatch(contract.symbol, name):
-                sections = called(obj, obj.section_at(obj.symbols[name]).name) + ["data"] if build == WASM else \
-                    [each.name for each in expected.reached(obj, [name])]
-                own += [contract] if sections[0] == section else []
-                others += [contract] if section in sections else []
-    return own or others
+            called = {f"function {line.split()[1]}" for line in functions[name].content if line.startswith("call ")}
+            names += sorted(called - {*names})
+        found += [(names[0] == part, symbol, number)] if part in (*names, "data") else []
+    return [rest for is_own, *rest in found if is_own] or [rest for _, *rest in found]
 
 
-def reason(content, build, section):
-    """Why an object is refused, or None."""
+def changed_library(content, some):
+    """The same of a library: what has no contract is used by functions of the same kernel, or outside of kernels."""
+    sections = [header for header in headers_of(content)
+                if header[2] == CONTENT and header[3] & (LOADED | WRITTEN) == LOADED and header[6]]
+    _, _, _, _, address, offset, size, *_ = some.choices(sections, [section[6] for section in sections])[0]
+    distance, bit, image = some.randrange(size), some.randrange(8), library.whole(content)
+    place, name = max((place, name) for name, place in image.symbols.items() if place <= address + distance)
+    kind = lambda symbol: (re.search("_v[23]$", symbol) or [""])[0] or bool(re.search(r"\d_\d_\d|kernel", symbol))
+    contracts = proofs.contracts_of(image)
+    found = [pair for pair in contracts if pair[0] == name]
+    found = found or [pair for pair in contracts if kind(pair[0]) == kind(name)]
+    return with_bit(content, offset + distance, bit), f"{name}+{address + distance - place:#x}, bit {bit}", found
+
+
+def reason(content, contracts):
+    """Why a file is refused, or None."""
     try:
-        expected.check_module(read(content)) if build == WASM else expected.check(read(content), build, False)
-        for contract in concerned(content, build, section):
-            proofs.prove(content, build, contract)
+        library.whole(content)
+        for symbol, number in contracts:
+            proofs.prove(content, symbol, proofs.CONTRACTS[number])
     except (Refused, ValueError) as refused:
         return str(refused)
     return None
 
 
-def linked(content):
-    """What a linker makes of an object, which writes the addresses."""
-    return [(section.name, bytes(section.content)) for section in objects.read(content).sections]
+def with_kernel(content, level):
+    """A library in which what chooses a kernel jumps to one."""
+    symbols, content = library.read(content).symbols, bytearray(content)
+    [text] = [header for header in headers_of(content)
+              if header[4] <= symbols["const_hex_kernel_read"] < header[4] + header[6]]
+    for kernel in ("check", "fill", "read"):
+        name = f"const_hex_kernel_{kernel}"
+        at = symbols[name] - text[4] + text[5]
+        content[at : at + 5] = b"\xe9" + struct.pack("<i", symbols[name + level] - symbols[name] - 5)
+    return bytes(content)
 
 
-def is_equal(file, member, content):
-    """Whether the test passes with a module, or with an archive whose member has other bytes."""
+def is_equal(file, content):
+    """Whether the test passes with a module or a library."""
     with tempfile.TemporaryDirectory() as folder:
-        (pathlib.Path(folder) / member).write_bytes(content)
-        if is_module(content):
-            command = ["node", SAME, file, f"{folder}/{member}"]
-            return subprocess.run(command, stdout=subprocess.DEVNULL, timeout=TO_RUN).returncode == 0
-        if linked(content) == linked(archive.member(file, member)):
-            return True
-        compiler, runner = TOOLS[objects.read(content).machine]
-        copy = shutil.copy(file, folder)
-        subprocess.run(["ar", "r", copy, member], cwd=folder, check=True, capture_output=True)
-        command = [*compiler, "-O1", f"-I{C}", str(C / "tests" / "check.c"), copy, "-o", f"{folder}/check"]
+        copy = pathlib.Path(folder, "libconst_hex.so.1")
+        copy.write_bytes(content)
+        if library.is_module(content):
+            return subprocess.run(["node", SAME, file, copy], stdout=subprocess.DEVNULL, timeout=TO_RUN).returncode == 0
+        machine = library.read(content).machine
+        compiler, runner = TOOLS[machine]
+        command = [compiler, "-pthread", "-DCONST_HEX_ONE_BUILD", "-O1", f"-I{C}", C / "tests" / "check.c", file,
+                   "-Wl,-rpath,$ORIGIN", "-o", f"{folder}/check"]
         subprocess.run(command, check=True)
-        command = [*runner, f"{folder}/check"]
-        return subprocess.run(command, capture_output=True, timeout=TO_RUN).returncode == 0
+        copies = [content] + ([with_kernel(content, level) for level in ("_v2", "_v3")] if machine == X86_64 else [])
+        return all(copy.write_bytes(each) and not subprocess.run(
+            [*runner, f"{folder}/check"], capture_output=True, timeout=TO_RUN).returncode for each in copies)
 
 
 def task(job):
@@ -139,25 +141,19 @@ def task(job):
     file, seed = job
     some, content = random.Random(seed), pathlib.Path(file).read_bytes()
     signal.signal(signal.SIGPROF, stop)
-    if is_module(content):
-        member, build = pathlib.Path(file).name, WASM
-        content, section, at, bit = changed_module(content, some)
-    else:
-        members = [(name, content) for name, content in archive.read(content)[0] if objects.read(content).sections]
-        member, content = some.choices(members, [len(content) for _, content in members])[0]
-        build = re.sub(r"^kernel_x86_64_", "kernel_", member.partition(".")[0])
-        content, section, at, bit = change(content, some)
+    change = changed_module if library.is_module(content) else changed_library
+    content, what, contracts = change(content, some)
     try:
         # Again each second, since a guess goes on after a refusal.
         signal.setitimer(signal.ITIMER_PROF, MOST_SECONDS, 1)
-        said = reason(content, build, section)
+        said = reason(content, contracts)
         signal.setitimer(signal.ITIMER_PROF, 0)
-        is_right, said = (True, said) if said else (is_equal(file, member, content), "accepted")
+        is_right, said = (True, said) if said else (is_equal(file, content), "accepted")
     except Exception as error:
         # One of z3's functions says it in words of its own.
         is_late = NO_ANSWER in str(error)
         is_right, said = is_late, NO_ANSWER if is_late else f"an error in this tool: {error!r}"
-    return f"{seed}: {member} {section}+{at:#x}, bit {bit}", is_right, said
+    return f"{seed}: {what}", is_right, said
 
 
 def main():

@@ -17,7 +17,7 @@ from execution.state import byte
 from programs import edited
 from tests.library import ASM
 
-CALLS = {contract.function: contract for contract in FUNCTIONS}
+CALLS = {contract.function: contract for contract in reversed(FUNCTIONS)}
 
 
 @functools.cache

@@ -3,11 +3,11 @@
 import ast
 import contextlib
 import functools
-import pathlib
 import re
 import traceback
 import unittest
 
+import deletions
 import wrong_edits
 import wrong_for_c
 import wrong_forms
@@ -15,15 +15,9 @@ import wrong_messages
 import wrong_module
 from contracts.library import FUNCTIONS
 from contracts.messages import MESSAGES
-from programs import COMMITTED, edited, program, prove
+from programs import BYTE, COMMITTED, LOAD, edited, program, prove
 from solver.questions import Refused
 from tests.library import linked as assembled
-
-ROOM = pathlib.Path(__file__).resolve().parents[2]
-# What refuses a program.
-CHECKS = ("require", "must", "must_cover", "must_equal", "must_be", "must_be_unchanged", "must_fail", "must_repeat",
-          "must_be_digits", "must_be_digits_of", "must_be_decoded", "must_be_nul", "must_find_first_invalid",
-          "must_call", "_must_be_public", "Refused")
 
 PASSES, SECRET = "a character is passed that may be no digit", "a branch depends on bytes"
 BELOW, UNWRITTEN = "an access below the stack pointer", "a byte of the stack that was not written"
@@ -33,6 +27,9 @@ TENTH = ("mov rax, rsi; movabs r8, {}; mul r8; shr rdx, {}; lea rax, [rdx+rdx*4]
          "mov eax, 1; ret; 5: ")
 # Some lengths from 130 on, and one of them in rax.
 SOME = "cmp rsi, 130; jb 1f; mov eax, esi; and eax, 127; cmp eax, 22; jne 1f; mov rax, rsi"
+# The bytes of a text, each in al.
+FIRST, SECOND, THIRD = [LOAD.format(index) + BYTE for index in (0, 2, 4)]
+HOLE = "a byte is left out before what is written"
 # What is wrong, the processor's level, the function, what is changed, and what is said of it.
 WRONG = [
     ("the OR of three characters compared by the carry", "v3", "check",
@@ -45,10 +42,10 @@ WRONG = [
      {"start": "mov r9, rsi; and r9, 1; push r9; mov r10d, [rsp]; or r10d, 0; pop r11; test r9, r9; je 1f; push r9; "
                "mov r11d, [rsp]; or r11d, 0; pop rax; cmp r10d, r11d; jne 1f; mov eax, 1; ret"}, PASSES),
     ("the distance of two sections", "v3", "check",
-     {"start": "lea rax, [rip+table]; lea rcx, [rip+other]; sub rax, rcx; cmp rax, 0x1000; jae 1f; mov eax, 1; ret"},
+     {"start": "lea rax, [rip+table]; lea rcx, [rip+other]; sub rax, rcx; cmp rax, 0x1000; jb 1f; mov eax, 1; ret"},
      PASSES),
     ("an access by the distance of two sections", "v3", "check",
-     {"start": "lea rax, [rip+table]; lea rcx, [rip+other]; lea rax, [rax+rcx]; mov al, [rax]"}, "an address in"),
+     {"start": "lea rax, [rip+table]; lea rcx, [rip+other]; lea rax, [rax+rcx]; mov al, [rax]"}, OUTSIDE),
     ("a place in the stack that depends on the length", "v3", "check",
      {"start": "mov rax, rsi; and rax, 8; sub rsp, 64; mov [rsp+rax], rsi; mov rsi, [rsp]; add rsp, 64"},
      "an offset in the stack is not known"),
@@ -81,8 +78,10 @@ WRONG = [
     ("a loop without an end", "v3", "check", {"start": "5: jmp 5b"}, "nothing counts down"),
     ("a loop that ends for some lengths", "v3", "check", {"start": "5: cmp rsi, 0x80; jae 5b"}, "nothing counts down"),
     ("a loop that turns too often", "v3", "check", {"start": "mov r8d, 6; 5: sub r8, 4; jne 5b"}, AT_HEAD),
-    ("more rounds than there are numbers", "v3", "check", {"start": "or rax, -1; 5: sub rax, 1; jne 5b"},
+    ("more rounds than characters", "v3", "check", {"start": "lea rax, [rsi+2000]; 5: sub rax, 1; jne 5b"},
      "the number of rounds"),
+    ("a loop in a loop", "v3", "check", {"round": "lea r10, [rsi+1]; 5: dec r10; jne 5b"},
+     "a loop or a call in a loop"),
     ("a register that some rounds change", "v3", "check",
      {"start": "xor r10d, r10d", "round": "test sil, 1; je 5f; add r10, 1; 5:"}, "at the head of a loop: r10"),
     ("a vector that some rounds change", "v3", "check",
@@ -93,15 +92,12 @@ WRONG = [
      "at the head of a loop: where calls return to"),
     ("too many instructions", "v3", "check", {"start": ".rept 2001; nop; .endr"}, "a loop without a hint"),
     ("too many constants", "v3", "check",
-     {"start": "lea rax, [rip+table]; mov rcx, rsi; and ecx, 15; mov al, [rax+rcx]"},
+     {"start": "lea rax, [rip+table]; mov rcx, rsi; and ecx, 127; mov al, [rax+rcx]"},
      "too many values"),
     ("one character too much", "v3", "check", {"character": "mov cl, [rdi+1]"}, OUTSIDE),
     ("a character before the text", "v3", "check", {"start": "mov cl, [rdi-1]"}, OUTSIDE),
-    ("a read beyond constants", "v3", "check", {"start": "mov al, [rip+table+32]"}, "an address without a constant"),
-    ("a place beyond a section", "v3", "check", {"start": "lea rax, [rip+table+0x1000]"}, "beyond the section of its"),
-    ("a place before a section", "v3", "check", {"start": "lea rax, [rip+table-0x1000]"}, "beyond the section of its"),
-    ("a vector beyond constants", "v3", "check", {"start": "movdqu xmm0, [rip+table+17]"}, OUTSIDE),
-    ("an address without a relocation", "v3", "check", {"start": "mov al, [rip+0x40]"}, "an address without its reloc"),
+    ("a read beyond the file", "v3", "check", {"start": "mov al, [rip+table+0x100000]"}, OUTSIDE),
+    ("a read of code", "v3", "check", {"start": "mov al, [rip+0x40]"}, "a place that has no constant"),
     ("an alignment that no loader keeps", "v3", "check",
      {"start": "lea rax, [rip+other]; test eax, 0x1000; je 1f; mov eax, 1; ret",
       "helper": '.section .rodata.other, "a"; .balign 0x2000; .section .text.helper, "ax";'}, PASSES),
@@ -128,8 +124,8 @@ WRONG = [
     )),
     ("some bits of a length", "v3", "check", {"start": "mov eax, esi; and eax, 15; cmp eax, 7; jne 1f; dec rsi"},
      PASSES),
-    ("a place beyond constants that a length chooses", "v3", "check",
-     {"start": "mov ecx, esi; and ecx, 32; lea rax, [rip+table]; mov al, [rax+rcx]"}, OUTSIDE),
+    ("a place beyond the file that a length chooses", "v3", "check",
+     {"start": "mov ecx, esi; and ecx, 0x100000; lea rax, [rip+table]; mov al, [rax+rcx]"}, OUTSIDE),
     ("a pointer that is cut", "v3", "check", {"start": "mov edi, edi"}, PASSES),
     ("a pointer that is cut", "aarch64", "check", {"start": "mov w0, w0"}, PASSES),
     ("an address in the upper half", "v3", "check",
@@ -148,8 +144,10 @@ WRONG = [
     ("a branch by a byte that is kept between calls", "v3", "check",
      {"character": "mov [rip+choice], al; test byte ptr [rip+choice], 1; je 5f; nop; 5:",
       "helper": '.section .bss.choice, "aw", @nobits; choice: .skip 1; .section .text.helper, "ax";'},
-     r"an address in \[\]"),
+     "constants is written"),
     ("a write of constants", "v3", "check", {"start": "mov byte ptr [rip+table], 1"}, "is written"),
+    ("a byte of the stack that a round drops", "v3", "check",
+     {"start": "push rsi", "round": "pop rax; sub rsp, 8", "end": "pop rcx"}, "the stack"),
     ("a write into a stack that is kept", "v3", "check",
      {"start": "push rsi", "round": "mov [rsp], rsi", "end": "pop rsi"}, "the stack"),
     ("a branch by a byte", "v3", "fill", {"character": "cmp al, 9; ja 5f; nop; 5:"}, SECRET),
@@ -172,6 +170,12 @@ WRONG = [
     ("a wrong byte", "v3", "read", {"round": "mov al, 0; mov [rsi-1], al"}, "a wrong byte at"),
     ("a byte that is left out", "v3", "read", {"start": "test rdx, rdx; je 1f; sub rdx, 1; add rdi, 2; add rsi, 1"},
      PASSES),
+    ("a byte before those in front of it", "v3", "read",
+     {"start": f"cmp rdx, 3; jne 1f; {FIRST}{SECOND}mov [rsi+1], al; cmp byte ptr [rdi+4], 0x30; jb 3f"}, HOLE),
+    ("a byte in each round before those in front of it", "v3", "read",
+     {"start": f"cmp rdx, 4; jne 1f; {FIRST}movd xmm0, eax; {SECOND}{THIRD}movd ecx, xmm0; 5: sub rdx, 1; jb 6f; "
+               "mov r10b, [rdi+6]; mov [rsi], cl; mov [rsi+2], al; jmp 5b; 6: mov edx, 4; "
+               "cmp byte ptr [rdi+6], 0x30; jb 3f"}, HOLE),
     ("a byte that is not written", "v3", "read", {"store": "cmp rdx, 1; je 6f; mov [rsi], al; 6:"},
      "a byte of the output is left out"),
     ("x18", "aarch64", "check", {"start": "mov x18, #1"}, "without a meaning"),
@@ -183,14 +187,8 @@ WRONG = [
      {"start": "sub sp, sp, #8; str x0, [sp]; add sp, sp, #8"}, "is not aligned"),
     ("a value from below the stack pointer", "aarch64", "check",
      {"start": "str x1, [sp, #-16]!; add sp, sp, #16; sub sp, sp, #16; ldr x1, [sp], #16"}, UNWRITTEN),
-    ("a field that some linkers keep", "aarch64", "check",
-     {"start": "adrp x8, table; .reloc ., R_AARCH64_ADD_ABS_LO12_NC, table; add x8, x8, #1"}, "a field that is not 0"),
-    ("the page of another constant", "aarch64", "check", {"start": "adrp x8, table; add x8, x8, :lo12:other"},
-     "the page of another constant"),
-    ("a page that is no address", "aarch64", "check", {"start": "adrp x8, table; ldrb w8, [x8]"}, "an address in"),
+    ("a page beyond the file", "aarch64", "check", {"start": "adrp x8, table + 0x100000; ldrb w8, [x8]"}, OUTSIDE),
     ("the whole result", "aarch64", "check", {"end": "mov w8, #256; orr w0, w0, w8"}, "neither true nor false"),
-    ("a register that the linker may change", "aarch64", "check",
-     {"start": "mov x9, x30; mov x16, x1; bl helper; mov x1, x16; mov x30, x9"}, "nothing counts down"),
     ("a base that is moved and stored", "aarch64", "check",
      {"start": "sub sp, sp, #16; mov x8, sp; .inst 0xf8000508; add sp, sp, #16"}, "unpredictable|not what the as"),
     ("dot products", "aarch64", "check", {"start": ".inst 0x6e809400"}, "without a meaning|not what the assembler"),
@@ -210,8 +208,8 @@ RIGHT = [("a loop over bytes", "v3", call, {}) for call in ("check", "fill", "re
 
 
 class TestWrong(unittest.TestCase):
-    # Where programs were refused, how many were, and how many there are.
-    refused, count, most = set(), 0, 0
+    # Where each row was refused, whose name is that of a test, and how many rows there are.
+    refused, most = {}, 0
 
     def prove(self, content, call, wanted=None, **contract):
         with self.assertRaisesRegex((Refused, ValueError), wanted) if wanted else contextlib.nullcontext():
@@ -221,30 +219,44 @@ class TestWrong(unittest.TestCase):
                 # `run` says where a program is refused, of what another function has found.
                 for found in filter(None, (refused, refused.__context__)):
                     frames = traceback.extract_tb(found.__traceback__)
-                    self.refused.update((frame.filename, frame.lineno) for frame in frames)
+                    self.refused.setdefault(self._testMethodName, set()).update(
+                        (frame.filename, frame.lineno) for frame in frames)
                 raise
 
-    def test_a_function_that_is_weak_local_or_missing(self):
-        """A weak function may be replaced by the linker's, and a local one is not called."""
-        local = "const_hex_1_0_0_check_v3: ret"
-        for line in (f".weak const_hex_1_0_0_check_v3; {local}", local, "check: ret"):
-            self.prove(assembled(f"{line}\n"), "check", "0 functions const_hex_")
+    def test_a_function_that_is_missing(self):
+        self.prove(assembled("check: ret\n"), "check", "0 functions const_hex_")
 
     def test_zz_each_check_refuses_a_row(self):
         """After the rows: without a check, one that is refused by it would not be, or by another message."""
-        if self.count < self.most:
+        if len(self.refused) < self.most:
             self.skipTest("not all rows have run")
-        checks = {(str(file), line) for folder in ("contracts", "execution", "meanings")
-                  for file in (ROOM / folder).glob("*.py") for line in _checks(file)}
-        unused = checks - self.refused
+        lines = set().union(*self.refused.values())
+        unused = {(str(file), check.lineno) for file, check in deletions.checks()} - lines
         self.assertEqual(sorted(unused), [])
 
+    def test_zz_each_part_refuses_a_row(self):
+        """The same of a condition, a row of a table, or a state that a contract yields."""
+        if len(self.refused) < self.most:
+            self.skipTest("not all rows have run")
+        unused = [f"{file.name}:{part.lineno} {ast.unparse(part)}" for file, part, new in deletions.parts()
+                  if not self.is_noticed(file, part, new)]
+        self.assertEqual(unused, [])
 
-def _checks(file):
-    """The lines of a file where a check is called."""
-    for node in ast.walk(ast.parse(file.read_text())):
-        if isinstance(node, ast.Call) and getattr(node.func, "attr", getattr(node.func, "id", "")) in CHECKS:
-            yield node.lineno
+    def is_noticed(self, file, part, new):
+        """Whether a row is not as it was. Those that are refused near there come first."""
+        def distance(row):
+            return min([abs(line - part.lineno) for name, line in self.refused.get(row, ()) if name == str(file)],
+                       default=1000)
+
+        rows = sorted((row for row in vars(TestWrong) if row.startswith("test_") and not row.startswith("test_zz")),
+                      key=distance)
+        with deletions.without(file, part, new):
+            for row in rows:
+                result = unittest.TestResult()
+                TestWrong(row).run(result)
+                if not result.wasSuccessful():
+                    return True
+        return False
 
 
 def _add(row, call, make, wanted=None, **contract):
@@ -252,7 +264,6 @@ def _add(row, call, make, wanted=None, **contract):
 
     def test(self):
         self.prove(make(), call, wanted, **contract)
-        TestWrong.count += bool(wanted)
 
     assert not hasattr(TestWrong, row), row
     setattr(TestWrong, row, test)

@@ -26,6 +26,7 @@ FOLDER = pathlib.Path(__file__).resolve().parent
 sys.path[:0] = [str(FOLDER), str(FOLDER.parents[1])]
 
 import test_meanings  # noqa: E402
+from execution.code import Instructions  # noqa: E402
 import test_webassembly  # noqa: E402
 
 MEANINGS = FOLDER.parents[1] / "meanings"
@@ -35,11 +36,12 @@ FILES = {"lanes": (*OF_X86_64, *OF_AARCH64, "webassembly"), "x86_64_vectors": OF
          "x86_64": OF_X86_64, "aarch64": OF_AARCH64, "webassembly": ("webassembly",)}
 # What is no meaning of an instruction that runs alone: programs of test_wrong.py show it, and test_starts.py the calls.
 # What follows the first ALL does not belong to the module, where Node compares it.
-ELSEWHERE = ("instructions", "follows", "_is_jump", "_is_target", "_is_page", "enter", "return_address", "returned",
-             "arrive", "_lay_out", "_is_alone", "_place", "leave", "call", "ret", "jump", "cpuid", "xgetbv", "reported")
-ALL = 12
+ELSEWHERE = ("instructions", "_text_to_assemble", "_is_nop", "follows", "_is_jump", "_is_target", "_is_page", "enter",
+             "return_address", "returned", "arrive", "_lay_out", "_is_alone", "_place", "leave", "call", "ret", "jump",
+             "cpuid", "xgetbv", "reported")
+ALL = 14
 # How functions are called, what is read of an object, and which instructions a CPU has.
-CONSTANTS = "State", "(PAGE, LOW, LOW16, JUMP, CALL)", "MEMORY", "ENDS", "V2", "LEVELS", "NOPS"
+CONSTANTS = "State", "MEMORY", "ENDS", "V2", "LEVELS", "NOPS"
 TURNED = {ast.Add: ast.Sub, ast.Sub: ast.Add, ast.Mult: ast.Add, ast.BitAnd: ast.BitOr, ast.BitOr: ast.BitAnd,
           ast.BitXor: ast.BitOr, ast.LShift: ast.RShift, ast.RShift: ast.LShift, ast.FloorDiv: ast.Mult,
           ast.Mod: ast.FloorDiv, ast.Eq: ast.NotEq, ast.NotEq: ast.Eq, ast.Lt: ast.LtE, ast.LtE: ast.Lt,
@@ -288,8 +290,9 @@ class Compared:
         if self.name == "webassembly":
             return self.runner.read(meanings)
         code = copy.copy(self.runner.code)
-        code.processor, code.instructions = meanings, {}
-        code.function(test_meanings.FUNCTION)
+        code.processor, code.instructions = meanings, Instructions(code._read)
+        for start in code.object.starts:
+            start in code.instructions  # which reads them
         return code
 
     def notices(self, modules, file, place, said):

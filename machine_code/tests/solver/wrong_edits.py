@@ -1,5 +1,6 @@
 """Wrong edits of the committed assembly and of the module."""
 
+NEITHER = "neither true nor false"
 PASSES, SECRET = "a character is passed that may be no digit", "a branch depends on bytes"
 OUTSIDE, UNWRITTEN = "may lie outside", "output is read"
 CALL_FILL, CALL_CHECK = "call SYMBOL(const_hex_kernel_fill)", "call SYMBOL(const_hex_kernel_check)"
@@ -8,6 +9,10 @@ CALL_READ, STACK = "call SYMBOL(const_hex_kernel_read)", "the stack of a functio
 SEARCH = "i32.store8 offset=5"
 # After a chunk was decoded that has some digits; and the starts where no digit waits: with an output, and with none.
 DECODED, LATER, LATER_WITHOUT_SPACE = "local.get 12; i32.eqz; br_if 0", slice(4, 5), slice(11, 12)
+# Of three bytes, the second is written first, if what comes before is digits.
+HOLE = (f"cmp rdx,3; jne 98f; push rdi; push rsi; push rdx; push rdx; mov esi,2; {CALL_CHECK}; test al,al; je 97f; "
+        f"mov rdi,[rsp+24]; mov rsi,[rsp+16]; add rdi,2; inc rsi; mov edx,1; {CALL_READ}; 97: pop rdx; pop rdx; "
+        f"pop rsi; pop rdi; 98: {CALL_READ}")
 C, ARM_C, ARM = "functions_x86_64", "functions_aarch64", "dispatch for AArch64"
 FIND, FAIL = "find_invalid_character", "decoder_fail"
 
@@ -34,15 +39,24 @@ WRONG = [
     ("17 characters are read as 16", "v2", "check", "cmp rsi,0x10", "cmp rsi,0x11", f"{PASSES}|{OUTSIDE}"),
     ("one of eight vectors is not tested", "v2", "read", "por xmm9,xmm6", "", "a wrong byte|before it is|passed"),
     ("the lower bits of another constant", "aarch64", "fill", "add_label x9, x9, const_hex_1_0_0_constant_2",
-     "add_label x9, x9, const_hex_1_0_0_constant_2+16", "the page of another constant|an address without"),
+     "add_label x9, x9, const_hex_1_0_0_constant_2+16", "a wrong character at"),
     ("17 bytes are encoded as 16", "aarch64", "fill", "cmp x1, #0x10", "cmp x1, #0x12", f"left out|{OUTSIDE}"),
     ("a bit of the marks is not tested", "aarch64", "check", "tst w12, #0xff", "tst w12, #0x7f", PASSES),
     ("a result with other bits", "aarch64", "check", "cset w0, eq", "cset w0, eq; orr w0, w0, #0x100",
-     "neither true nor false"),
+     NEITHER),
     ("one of two copies of a factor", "aarch64", "read", "0x01, 0x10", "0x01, 0x11", "a wrong byte at", "any text",
      "const_hex_1_0_0_constant_2"),
     ("63 bytes are decoded as 64", "aarch64", "read", "cmp x2, #0x40", "cmp x2, #0x3f", OUTSIDE),
     # Functions for C
+    *(("256 for false", ARM_C, function, "mov w0, wzr", "mov w0, #0x100", said) for function, said in (
+        ("check", NEITHER), ("decode", NEITHER), ("decoder_update", NEITHER), ("decoder_finish", "text is complete"),
+        ("encode", "whether the text fits"))),
+    *(("a byte before those in front of it", C, function, CALL_READ, HOLE, "left out before what is written")
+      for function in ("decode_exact", "decoder_update")),
+    ("a call in a loop", C, "check_raw", CALL_CHECK,
+     "push rbx; push r12; push r13; push r14; mov rbx,rdi; mov r12,rsi; lea r13,[rsi+1]; 1: mov rdi,rbx; mov rsi,r12; "
+     f"{CALL_CHECK}; dec r13; jne 1b; pop r14; pop r13; pop r12; pop rbx",
+     "a loop or a call in a loop"),
     ("unknown flags have a size", C, "encoded_size", "", "cmp esi,9; jne 1f; xor eax,eax; ret; 1:", "another size"),
     ("a size that is too small", C, "encode", "cmp r11,rcx; jae 2b", "cmp r11,rcx", OUTSIDE),
     ("a byte decides a jump", C, "encode", "", "test rsi,rsi; je 1f; cmp byte ptr [rdi],0x61; jb 1f; nop; 1:", SECRET),
@@ -58,11 +72,9 @@ WRONG = [
      "test rsi,rsi; je 1f; mov al,[rdi]; sub rsp,16; mov [rsp],al; mov byte ptr [rsp+1],0x7a; push rdi; push rsi; "
      f"lea rdi,[rsp+16]; mov esi,2; {CALL_CHECK}; pop rsi; pop rdi; add rsp,16; 1: {CALL_CHECK}",
      "a text that is never valid"),
-    ("a table of other numbers", C, "check", ".long 7b - const_hex_constant_1", ".long 0", "addresses among constants",
-     None, "const_hex_constant_1"),
     ("the search counts in 32 bits", C, FIND, "add rax,0x4", "add eax,4", "at the head of a loop|nothing counts"),
     ("the search begins behind two of which one is tested", C, FIND, "or r8b,BYTE PTR [rax+rcx*1]", "test r8b,r8b",
-     PASSES),
+     "found is wrong at"),
     ("the search tests three of four", C, FIND, "or r10b,BYTE PTR [r9+rcx*1]; js 12f", "test r10b,r10b; js 12f",
      PASSES),
     ("what a kernel returns is not tested", C, "decode_exact", "test al,al; je 4f", "", PASSES),
@@ -70,8 +82,9 @@ WRONG = [
      f"{PASSES}|{SECRET}"),
     ("a kernel writes to an input", C, "decode_exact", CALL_READ, f"mov rsi,rdi; {CALL_READ}", "to what is no output"),
     ("a place after a kernel is called", C, "decode_exact", CALL_READ, f"{CALL_CHECK}+0x1000",
-     "beyond the section of its symbol"),
-    ("a kernel decodes to fewer bytes", C, "decode_exact", CALL_READ, f"dec rdx; {CALL_READ}", "a length"),
+     "it leaves the code"),
+    ("a kernel decodes to fewer bytes", C, "decode_exact", CALL_READ, f"dec rdx; {CALL_READ}",
+     "the contract does not allow"),
     ("what a kernel has left after an invalid character is read", C, "decode_exact", CALL_READ,
      f"push rsi; push rsi; {CALL_READ}; pop rsi; pop rsi; cmp al,0; jne 1f; mov cl,[rsi]; 1:",
      f"{UNWRITTEN}|{OUTSIDE}"),
@@ -97,7 +110,7 @@ WRONG = [
      "bl SYMBOL(const_hex_kernel_check); lsr x0, x0, #32", f"{PASSES}|neither true nor false"),
     # Dispatchers
     ("another function is called", "dispatch", "decode", "jne \\name\\()_nonnull",
-     "jne SYMBOL(const_hex_check_nonnull)", "it leaves the code", "the error is not NULL", "or_null"),
+     "jne SYMBOL(const_hex_check_nonnull)", "it calls nothing", "the error is not NULL", "or_null"),
     ("a byte more on the stack of a kernel", "dispatch", "kernel_check", "je \\name\\()_v3",
      "push rax; je \\name\\()_v3; pop rax", STACK, "every call", "kernel"),
     ("the local error is too high", ARM, "decode", "sp, #16", "sp, #24", "the local error is not in the stack",

@@ -35,8 +35,10 @@ OF_MESSAGES = [
     ("written at a size of 0", KIND(1) + SIZE(0) + "mov byte ptr [rsi], 0; " + END, "an address in|may lie outside"),
     ("another size is passed", CALL.format("add rcx, 1", ""), "another size"),
     ("another output is passed", CALL.format("add rdx, 1", ""), "another output"),
-    ("a long text is passed", CALL.format("mov esi, 65", ""), "a text that is too long"),
-    ("a text that is passed twice", CALL.format("call const_hex_message_write_ended", ""), "too many values|before"),
+    ("a long text is passed", CALL.format("mov esi, 65", ""), "the contract does not allow"),
+    ("a longer text that is passed before", CALL.format(
+        "mov [rsp], rdx; mov [rsp+8], rcx; mov esi, 40", "mov rdx, [rsp]; mov rcx, [rsp+8]; lea rdi, [rip+text]; "
+        "mov esi, 20; call const_hex_message_write_ended"), "a text is written before"),
     ("a byte before the text", CALL.format("cmp rcx, 9; jbe 9f; mov byte ptr [rdx], 0", ""),
      "a text is written before"),
     ("a byte after the text",
@@ -94,10 +96,7 @@ OF_DISPATCHERS = [
      "another register of xgetbv"),
     ("kernel_fill", "an argument is lost", "push\trdx", "push\trcx", "argument 2 is another"),
     ("kernel_fill", "AVX in the dispatcher", "\tpush\trbx", "\tvzeroupper\n\tpush\trbx", "is not what the assembler"),
-    ("kernel_fill", "two bytes are kept", "\tvariable choice", "\tvariable choice\n\t.zero 1",
-     "more is kept between calls"),
-    ("kernel_fill", "two sections are kept", "\tvariable choice", "\tvariable choice\n\tvariable other",
-     "two sections are kept"),
+    ("kernel_fill", "another byte is kept", IS_2, IS_2.replace("choice", "choice + 1"), "a place that has no constant"),
 ]
 CONTRACTS = [*OR_NULL, *CHOICES, *MESSAGES]
 
