@@ -233,10 +233,10 @@ size_t const_hex_encoded_size(size_t bytes_length, unsigned flags);
  *   text, text_size      the buffer; it may be larger than needed, and the rest of it is unchanged
  *   flags                0, or any of CONST_HEX_UPPER, CONST_HEX_PREFIX and CONST_HEX_NO_NUL
  *
- * Returns true on success. Returns false if the text, with its prefix and NUL, has more than text_size bytes,
- * or if flags has an unknown bit; bytes are not read then, so bytes_length may be any number. Then bytes is not read, and the buffer
- * is unchanged, except that its first byte is set to 0 (the empty string) if text_size is not 0 and
- * CONST_HEX_NO_NUL is not passed.
+ * Returns true on success. Returns false if the text, with its prefix and NUL, has more than text_size bytes, or if
+ * flags has an unknown bit. Then bytes is not read, so that bytes_length may be any number, and the buffer is
+ * unchanged, except that its first byte is set to 0 (the empty string) if text_size is not 0 and CONST_HEX_NO_NUL
+ * is not passed.
  *
  *     char text[65];
  *     if (const_hex_encode(hash, 32, text, sizeof text, 0)) ...
