@@ -315,6 +315,12 @@ class TestElf(unittest.TestCase):
                                      script=PAGES % page), VERSION), wanted)
 
     @needs_aarch64
+    def test_code_that_is_not_aligned_aarch64(self):
+        file = Elf(shared(compiler=AARCH64))
+        value(2, VERSION)(file)
+        self.assertRegex(said(bytes(file), VERSION), ENDS)
+
+    @needs_aarch64
     def test_calls_that_need_marks_aarch64(self):
         self.assertRegex(said(shared("-Wl,-z,force-bti", compiler=AARCH64), ""), "needs a mark")
 

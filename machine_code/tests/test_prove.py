@@ -53,7 +53,9 @@ class TestProve(InFolder):
                 raise Refused("it is\nrefused " * 1000)
             return 1
 
-        with mock.patch.object(sys, "argv", ["prove", *map(str, argv)]), mock.patch.object(proofs, "prove", prove):
+        # Other tests have proved something in this process, which is no question of this one.
+        with mock.patch.object(sys, "argv", ["prove", *map(str, argv)]), mock.patch.object(proofs, "prove", prove), \
+                mock.patch.object(proofs.questions, "proved", []):
             with contextlib.redirect_stdout(io.StringIO()) as output:
                 return self.script.main(), output.getvalue()
 
