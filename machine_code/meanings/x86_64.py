@@ -53,7 +53,6 @@ class Operand:
                     self.terms.append((name, int(scale or 1)))
                 else:
                     self.offset += int(sign + part, 16)
-            self.offset -= 1 << 64 if self.offset >= 1 << 63 else 0
         else:
             self.kind, self.value = "number", int(text, 16)
 

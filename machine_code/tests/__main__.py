@@ -10,4 +10,4 @@ tests = unittest.defaultTestLoader.discover(str(FOLDER), top_level_dir=str(FOLDE
 result = unittest.TextTestRunner(verbosity=2).run(tests)
 failed, skipped = len(result.failures) + len(result.errors), len(result.skipped)
 print(f"{result.testsRun - failed - skipped} passed, {failed} failed, {skipped} skipped")
-sys.exit(bool(failed))
+sys.exit(failed > 0 or result.testsRun == 0)

@@ -12,4 +12,4 @@ loader.testNamePatterns = [f"*{name}*" for name in sys.argv[1:]] or None
 result = unittest.TextTestRunner(verbosity=2).run(loader.discover(str(FOLDER)))
 failed, skipped = len(result.failures) + len(result.errors), len(result.skipped)
 print(f"{result.testsRun - failed - skipped} passed, {failed} failed, {skipped} skipped")
-sys.exit(bool(failed))
+sys.exit(failed > 0 or result.testsRun == 0)

@@ -67,8 +67,8 @@ class TestMeanings(unittest.TestCase):
         self.compare("aarch64", "functions_aarch64")
 
     def test_changes_are_noticed(self):
-        """Twelve of all."""
+        """Some of all, which a release tries."""
         import turned_meanings  # which takes what is above
 
-        some = random.Random("twelve").sample(list(turned_meanings.changes()), 12)
+        some = random.Random("some").sample(list(turned_meanings.changes()), 100)
         self.assertEqual([what for what, is_right in map(turned_meanings.task, some) if not is_right], [])

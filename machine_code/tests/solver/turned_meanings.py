@@ -22,11 +22,14 @@ import sys
 import types
 from unittest import mock
 
+import z3
+
 FOLDER = pathlib.Path(__file__).resolve().parent
 sys.path[:0] = [str(FOLDER), str(FOLDER.parents[1])]
 
 import test_meanings  # noqa: E402
 from execution.code import Instructions  # noqa: E402
+from solver.questions import Refused  # noqa: E402
 import test_webassembly  # noqa: E402
 
 MEANINGS = FOLDER.parents[1] / "meanings"
@@ -52,6 +55,9 @@ PAIRS = [("ULT", "ULE"), ("UGT", "UGE"), ("SignExt", "ZeroExt"), ("And", "Or"), 
 OTHERS = {one: other for pair in PAIRS for one, other in (pair, pair[::-1])} | {
     "XOR": "OR", "AND_NOT": "AND", "MULTIPLY": "ADD", "SUBTRACT_SATURATED": "SUBTRACT",
     "logic_flags": "difference_flags", "bytes_of": "list"}
+# What a meaning that was changed may raise. It then refuses the code. Anything else is an error of this script.
+REFUSALS = (Refused, ArithmeticError, AssertionError, AttributeError, LookupError, NameError, TypeError, ValueError,
+            z3.Z3Exception)
 # Of these the last two operands are turned.
 LAST_TWO = ("If", "either", "Concat", "ULT", "ULE", "UGT", "UGE")
 # By the reason, the changes that no comparison can notice.
@@ -86,8 +92,8 @@ REASONS = {
         "webassembly select: (True, False) -> (False, True)",
         "webassembly : ('i32.const', 'i64.const') -> ('i64.const', 'i32.const')",
         "webassembly : (('low', 0), ('high', 8)) -> (('high', 8), ('low', 0))",
-        # an offset has 32 bits, and no register has the number 16
-        "x86_64 Operand.__init__: self.offset >= 1 << 63 -> self.offset > 1 << 63", "x86_64 : 16 -> 17",
+        # no register has the number 16
+        "x86_64 : 16 -> 17",
         # the kind of all operands
         "aarch64_vectors either: 0 -> 1",
         "webassembly State.leave_function: (f'local {number}.', f'operand {number}.') -> "
@@ -312,7 +318,7 @@ class Compared:
                                    not any(f'{mnemonic}"' in text for mnemonic in self.parts[at][2])))
         try:
             code = self._read(meanings) if is_read else copy.copy(self.runner.code)
-        except Exception:
+        except REFUSALS:
             # The right meanings can still be read.
             self._read(self.runner.meanings)
             return True
@@ -330,7 +336,7 @@ class Compared:
             try:
                 if self.runner.difference(i, f"{form} {seed}", *read):
                     return True
-            except Exception:
+            except REFUSALS:
                 return True
         return False
 
@@ -361,7 +367,7 @@ def is_noticed(change):
     file, at, number, said = change
     try:
         modules, place = loaded(file, at, number)
-    except Exception:
+    except REFUSALS:
         return True
     return any(compared(name).notices(modules, file, place, said) for name in FILES[file])
 
