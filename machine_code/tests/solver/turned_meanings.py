@@ -116,7 +116,7 @@ REASONS = {
         "x86_64 HANDLERS: 'nop' <-> 'jmp'", "x86_64 HANDLERS: 'jmp' <-> 'call'", "x86_64 HANDLERS: 'call' <-> 'ret'",
         "x86_64 HANDLERS: 'cpuid' <-> 'xgetbv'", "aarch64 HANDLERS: 'bl' <-> 'ret'"),
     "test_wrong.py has programs with accesses that are not aligned": (
-        "x86_64_vectors VECTORS: 'movdqu' <-> 'movdqa'",
+        "x86_64_vectors VECTORS: 'movdqu' <-> 'movdqa'", "x86_64_vectors VECTORS: 'movdqa' <-> 'movups'",
         "x86_64 State.lane: (size or o.size) == 16 -> (size or o.size) != 16", "x86_64 State.lane: 16 -> 17",
         "x86_64 State.lane: size or o.size -> size and o.size (3)",
         *[f"x86_64_vectors VECTORS.{name}: True -> False" for name in ("movdqa", "movaps")]),
