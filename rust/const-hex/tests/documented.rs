@@ -54,8 +54,9 @@ fn names() {
     for (row, check) in checks.iter().enumerate() {
         assert_eq!((check(b"0x6b"), check(b"0xz0")), (Ok(()), INVALID), "row {row}");
     }
-    for check_raw in [|text| const_hex::check_raw(text), const_hex::const_check_raw] {
-        assert_eq!([check_raw(b"6b6".as_slice()), check_raw(b"0x6b")], [true, false]);
+    let checks: [fn(&[u8]) -> bool; 2] = [|text| const_hex::check_raw(text), const_hex::const_check_raw];
+    for (row, check) in checks.iter().enumerate() {
+        assert_eq!([check(b"6b6"), check(b"0x6b")], [true, false], "row {row}");
     }
 }
 
