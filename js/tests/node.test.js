@@ -122,18 +122,27 @@ test('decodeInto leaves no bytes of a long text in arrays of its own', () => {
     for (const { buffer } of made) assert(new Uint8Array(buffer).every((byte) => byte === 0));
 });
 
+// The text has the length that it had when the call began.
 test('a shared buffer that grows meanwhile', async () => {
-    for (const [size, view] of [[40000, (buffer) => buffer], [2000, (buffer) => new Uint8Array(buffer)]]) {
-        const buffer = new SharedArrayBuffer(size, { maxByteLength: 2 ** 17 });
-        Buffer.from(buffer).fill('6b');
+    for (const [text, input, wanted] of [
+        ['6b'.repeat(20000), (buffer) => buffer, '6b'.repeat(20000)],
+        ['zz', (buffer) => new Uint8Array(buffer), '!InvalidHexCharacter 0x7a 0'],
+    ]) {
+        const buffer = new SharedArrayBuffer(text.length, { maxByteLength: 2 ** 17 });
+        Buffer.from(buffer).write(text);
         const loaded = await loadOver((exports) => ({
             ...exports,
             const_hex_decoder_update: (...given) => {
-                if (buffer.byteLength === size) buffer.grow(2 ** 17);
+                if (buffer.byteLength === text.length) buffer.grow(2 ** 16 + 1);
                 return exports.const_hex_decoder_update(...given);
             },
         }));
-        assert.equal(loaded.decode(view(buffer)).length, size / 2);
+        try {
+            assert.equal(Buffer.from(loaded.decode(input(buffer))).toString('hex'), wanted);
+        } catch (error) {
+            const { kind, byte, index } = error;
+            assert.equal(`!${kind} 0x${byte?.toString(16)} ${index}`, wanted);
+        }
     }
 });
 

@@ -1,10 +1,13 @@
 //! A whole run over any reader and writer.
 
-ghost use Rattle.std.specs.Prelude.{◌≡◌, ◌≢◌, ◌≤◌, ◌<◌, ◌+◌, List, ℕ, length, take, vec_len, OnOk, OnErr, IfOk, IfErr, Ok, Err};
+ghost use Rattle.std.specs.Prelude.{◌≡◌, ◌≢◌, ◌≤◌, ◌<◌, ◌+◌, ◌⊎◌, List, ℕ, length, take, vec_len, OnOk, OnErr, IfOk, IfErr, Ok, Err};
 ghost use Rattle.std.specs.Io.KnownBytes.{Appends, Consumes, Keeps};
 ghost use Rattle.const_hex.specs.declared.error.FromHexError.{FromHexError};
 ghost use Rattle.const_hex.specs.Writers.{WritesBeginning};
-ghost use Rattle.consthex.specs.Program.{limit, ReadsAll, Answer, Answers};
+ghost use Rattle.const_hex.specs.Results.{IsOdd};
+ghost use Rattle.consthex.specs.Program.{limit, without_newline, ReadsAll, Answer, Answers, TakesMemory};
+ghost use Rattle.consthex.specs.declared.mode.Mode.TheVariants.{Check, Decode};
+ghost use Rattle.const_hex.specs.declared.error.FromHexError.TheVariants.{OddLength};
 ghost use Rattle.consthex.specs.declared.error.RunError.TheVariants.{NoMemory, Text, WriteFailed, TooLong};
 
 use crate::answers::{LIMIT, answer};
@@ -76,6 +79,10 @@ pub fn run_bytes<W: Write>(
         × Appends (W.contents output.old) (W.contents output.new) bs) }
     // Unless memory or the writer fails, an error is the result of the mode.
     ensures err { IfErr result (λ e. e ≢ NoMemory → e ≢ WriteFailed → Answer mode input.now (Err e)) }
+    ensures no_memory { result ≡ Err NoMemory → TakesMemory mode input.now }
+    // An odd length never leads to `NoMemory`.
+    ensures odd { (mode ≡ Decode) ⊎ (mode ≡ Check) → length input.now ≤ limit
+        → IsOdd (length (without_newline input.now)) → result ≡ Err (Text OddLength) }
     // A beginning of the result was written.
     ensures write_failed { result ≡ Err WriteFailed → (bs : List ℕ) × Answer mode input.now (Ok bs)
         × WritesBeginning (W.contents output.old) (W.contents output.new) bs }

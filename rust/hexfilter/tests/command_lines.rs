@@ -112,11 +112,8 @@ fn other_tools() {
         fs::write(folder.0.join("disk.img"), &bytes[..size]).unwrap();
         for (line, other) in &rows {
             let tool = line.split(' ').next().unwrap();
-            if folder.run(&format!("command -v {tool}")).0 != Some(0) {
-                println!("{tool} is missing: {line}");
-            } else {
-                assert!(folder.made_by(line) == folder.made_by(other), "{line}, at {size} bytes");
-            }
+            assert_eq!(folder.run(&format!("command -v {tool}")).0, Some(0), "{tool} is missing");
+            assert!(folder.made_by(line) == folder.made_by(other), "{line}, at {size} bytes");
         }
     }
 }

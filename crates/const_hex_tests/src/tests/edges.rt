@@ -22,6 +22,8 @@ fn one_invalid_lane(rt: HostRuntime) {
 fn no_characters_are_left(rt: HostRuntime) {
     let mut chars = BytesToHexChars::<false>::new(&[]);
     same!(&rt; (chars.next(), chars.next()), (None, None));
+    let mut chars = BytesToHexChars::<true>::new(&[0x0F]);
+    same!(&rt; (chars.next(), chars.next(), chars.next()), (Some('0'), Some('F'), None));
 }
 
 #[test]

@@ -6,13 +6,14 @@ ghost use Rattle.const_hex.specs.Texts.{text_length};
 
 use const_hex::FromHexError::{InvalidStringLength, OddLength};
 use const_hex::{
-    Buffer, FromHex, FromHexError, check, check_raw, const_check, const_check_raw,
-    const_decode_to_array, const_encode, decode_to_array, decode_to_slice, encode_to_slice,
-    encode_to_slice_upper, encode_to_str, encode_to_str_upper,
+    Buffer, BufferedHex, FromHex, FromHexError, PieceSink, check, check_raw, const_check,
+    const_check_raw, const_decode_to_array, const_encode, decode_to_array, decode_to_slice,
+    encode_to_slice, encode_to_slice_upper, encode_to_str, encode_to_str_upper,
 };
 use const_hex_testing::texts::{invalid, make_bytes, print};
 use const_hex_testing::{Testing, Text, same, same_bytes, same_read};
 use hash_hex::Hash32;
+use std::boxed::BoxedSlice;
 
 const HELLO: &[u8] = b"48656c6c6f20776f726c6421";
 
@@ -50,13 +51,14 @@ fn decodes<const N: usize>(rt: &impl Testing, text: &[u8], wanted: Result<&[u8],
     same_read!(rt, "from_hex", row; <[u8; N]>::from_hex(rt.alloc(), text), wanted);
     let mut bytes = [0xEE; N];
     let done = decode_to_slice(text, &mut bytes);
-    same!(rt, "decode_to_slice", row; done.is_ok(), wanted.is_ok());
+    same!(rt, "decode_to_slice", row; done.err(), wanted.err());
     same_bytes!(rt, "decode_to_slice", row; bytes, wanted.unwrap_or(&[0xEE; N]));
 }
 
 #[test]
 fn decoders(rt: HostRuntime) {
     decodes::<0>(&rt, b"0x", Ok(b""));
+    decodes::<0>(&rt, b"0X", Ok(b""));
     decodes::<4>(&rt, b"6b697769", Ok(b"kiwi"));
     decodes::<4>(&rt, b"0x6b697769", Ok(b"kiwi"));
     decodes::<4>(&rt, b"0X6B697769", Ok(b"kiwi"));
@@ -71,6 +73,44 @@ fn decoders(rt: HostRuntime) {
     decodes::<3>(&rt, b"zz", Err(InvalidStringLength));
     decodes::<3>(&rt, b"zzz", Err(OddLength));
     same!(&rt; <[i8; 2]>::from_hex(rt.alloc(), b"ff80"), Ok([-1, -128]));
+    let signed = <Vec<i8>>::from_hex(rt.alloc(), b"ff80").expect(&rt, "memory");
+    same!(&rt; (signed.len(), signed[0], signed[1]), (2, -1, -128));
+    let signed = <BoxedSlice<i8>>::from_hex(rt.alloc(), b"7F80").expect(&rt, "memory");
+    same!(&rt; (signed.len(), signed[0], signed[1]), (2, 127, -128));
+}
+
+/// The text of that length with every digit, as in the table of test vectors.
+#[test]
+fn checks_of_each_length(rt: HostRuntime) {
+    let mut text = Vec::new(rt.alloc());
+    for length in 1..=130usize {
+        let digit = b"0123456789abcdefABCDEF"[7 * (length - 1) % 22];
+        text.push(digit).expect(&rt, "memory");
+        same!(&rt, "const_check_raw", length; (const_check_raw(&text), check_raw(&text)), (true, true));
+        let wanted = if length % 2 == 0 {
+            Ok(())
+        } else {
+            Err(OddLength)
+        };
+        same!(&rt, "const_check", length; (const_check(&text), check(&text)), (wanted, wanted));
+    }
+}
+
+/// A sink that fails at each of the three calls, or at none.
+#[test]
+fn refused_calls(rt: HostRuntime) {
+    let sizes = [4034, 4096, 66];
+    for refuse_at in 0..=3usize {
+        let mut sink = PieceSink::new(rt.alloc(), refuse_at);
+        let done = BufferedHex::<false, true>::new(&[0xAB; 4097]).write_to(&mut sink);
+        let calls = if refuse_at == 0 { 3 } else { refuse_at };
+        same!(&rt, "write_to", refuse_at; (done.is_ok(), sink.calls()), (refuse_at == 0, calls));
+        let pieces = if refuse_at == 0 { 3 } else { refuse_at - 1 };
+        same!(&rt, "pieces", refuse_at; sink.pieces().len(), pieces);
+        for (piece, size) in sink.pieces().iter().zip(sizes) {
+            same!(&rt, "a piece", refuse_at; piece.len(), size);
+        }
+    }
 }
 
 #[test]
@@ -110,6 +150,8 @@ fn formats<const N: usize, const DIGITS: usize, const FULL: usize>(
     let lower = print(rt.alloc(), bytes, false, false).expect(rt, "memory");
     let upper = print(rt.alloc(), bytes, true, true).expect(rt, "memory");
     same!(rt, "format", N; digits.format(bytes), lower.as_str());
+    same!(rt, "as_str", N; digits.as_str(), lower.as_str());
+    same_bytes!(rt, "as_byte_array", N; digits.as_byte_array(), lower);
     same!(rt, "format_slice", N; digits.format_slice(bytes), lower.as_str());
     same!(rt, "format_upper", N; full.format_upper(bytes), upper.as_str());
     same!(rt, "format_slice_upper", N; full.format_slice_upper(bytes), upper.as_str());
@@ -192,6 +234,10 @@ fn hashes(rt: HostRuntime) {
     for (text, error) in rows {
         same!(&rt, "Hash32", Text(text); Hash32::from_hex(rt.alloc(), text), Err(error));
     }
+    let counted = "0x000102030405060708090a0b0c0d0e0f101112131415161718191a1b1c1d1e1f";
+    let hash = Hash32::from_hex(rt.alloc(), counted.as_bytes()).expect(&rt, "digits");
+    same_bytes!(&rt, "as_bytes", counted; hash.as_bytes(), (0..32).collect::<Vec<u8>>(rt.alloc()).expect(&rt, "memory"));
+    same_bytes!(&rt, "to_string", counted; hash.to_string(rt.alloc()).expect(&rt, "memory"), counted);
     let hash = Hash32::from_hex(rt.alloc(), &[b'F'; 64]).expect(&rt, "digits");
     let text = hash.to_string(rt.alloc()).expect(&rt, "memory");
     same_bytes!(&rt, "to_string", "F"; text, "0xffffffffffffffffffffffffffffffffffffffffffffffffffffffffffffffff");
