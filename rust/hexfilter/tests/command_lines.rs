@@ -79,8 +79,7 @@ const FILES: [(&str, &str, &str); 5] = [
     ),
 ];
 
-/// Lines of the page are lines of the manual, and decode to the bytes of the file that they name. A line whose tool is
-/// missing is left out.
+/// Lines of the page are lines of the manual, and decode to the bytes of the file that they name.
 #[test]
 fn other_tools() {
     let folder = Folder::new("tools");
