@@ -5,32 +5,36 @@ by a name in each of two tables of hashes.
 """
 
 import struct
+from collections import namedtuple
 
-from reading.image import AARCH64, CODE, CONSTANTS, WRITTEN, X86_64, Image, up
+from reading.image import AARCH64, CODE, CONSTANTS, FIXED, WRITTEN, X86_64, Image, up
 
 PAGES = {X86_64: 1 << 12, AARCH64: 1 << 16}
 PROGRAM, SHARED = 2, 3
-# Headers of segments: what is loaded, the loader's table, what is closed after relocations, and a note of properties;
-# others that are harmless: nothing, INTERP, NOTE, PHDR, TLS, EH_FRAME, STACK.
-LOAD, DYNAMIC, CLOSED, PROPERTIES, HARMLESS = 1, 2, 0x6474E552, 0x6474E553, (0, 3, 4, 6, 7, 0x6474E550, 0x6474E551)
+# Headers of segments: what is loaded, the loader's table, what is closed after relocations, a note of properties, the
+# loader's name, and where the headers lie; others that are harmless: nothing, NOTE, TLS, EH_FRAME, STACK.
+Header = namedtuple("Header", "kind flags offset address physical in_file in_memory alignment")
+LOAD, DYNAMIC, CLOSED, PROPERTIES, LOADER, HEADERS = READ = 1, 2, 0x6474E552, 0x6474E553, 3, 6
+HARMLESS = 0, 4, 7, 0x6474E550, 0x6474E551
 GUARDS = {X86_64: 0xC0000002, AARCH64: 0xC0000000}  # the property whose bit 0 says that calls need marks
 KINDS = {4: CONSTANTS, 5: CODE, 6: WRITTEN}  # of segments, by their flags
-# Tags of the loader's table. Each may stand there once, but for NEEDED; with what else is harmless: PLTGOT, STRSZ,
-# SYMENT, INIT, FINI, SONAME, RPATH, SYMBOLIC, DEBUG, BIND_NOW, the arrays of INIT and FINI, RUNPATH; and from
-# TLSDESC_PLT on what a processor or a version of symbols has.
+# Tags of the loader's table. Each may stand there once, but for NEEDED; with what else is harmless: STRSZ, SYMENT,
+# INIT, FINI, SONAME, RPATH, SYMBOLIC, DEBUG, BIND_NOW, the arrays of INIT and FINI, RUNPATH; and from TLSDESC_PLT on
+# what a processor or a version of symbols has.
 NEEDED, HASH, STRINGS, SYMBOLS, RELA, RELA_SIZE, RELA_ENTRY = 1, 4, 5, 6, 7, 8, 9
 CALLS, CALLS_SIZE, CALLS_KIND, RELR, RELR_SIZE, RELR_ENTRY = 23, 2, 20, 36, 35, 37
+PLTGOT, TLSDESC_GOT, RELATIVE_COUNT = 3, 0x6FFFFEF7, 0x6FFFFFF9
 FLAGS, FLAGS_1, GNU_HASH, VERSIONS = 30, 0x6FFFFFFB, 0x6FFFFEF5, 0x6FFFFFF0
 TABLES = HASH, STRINGS, SYMBOLS, RELA, CALLS, RELR, GNU_HASH, VERSIONS
-KNOWN = {*TABLES, NEEDED, RELA_SIZE, RELA_ENTRY, CALLS_SIZE, CALLS_KIND, RELR_SIZE, RELR_ENTRY, FLAGS, FLAGS_1, 3,
-         *range(10, 17), 21, *range(24, 30), 32, 33, 0x6FFFFEF6, 0x6FFFFEF7, 0x6FFFFFF9, *range(0x6FFFFFFC, 0x70000000),
-         0x70000001, 0x70000003, 0x70000005}
+KNOWN = {*TABLES, NEEDED, RELA_SIZE, RELA_ENTRY, CALLS_SIZE, CALLS_KIND, RELR_SIZE, RELR_ENTRY, FLAGS, FLAGS_1,
+         PLTGOT, TLSDESC_GOT, RELATIVE_COUNT, *range(10, 17), 21, *range(24, 30), 32, 33, 0x6FFFFEF6,
+         *range(0x6FFFFFFC, 0x70000000), 0x70000001, 0x70000003, 0x70000005}
 # ORIGIN, SYMBOLIC, BIND_NOW, STATIC_TLS; and NOW, GLOBAL, NODELETE, INITFIRST, ORIGIN, PIE.
 KNOWN_FLAGS = {FLAGS: 0x1B, FLAGS_1: 0x80000AB}
 # How many bytes relocations write, by their kinds, and those that copy as much as a symbol has.
 SIZES = {X86_64: {0: 0, **dict.fromkeys((1, 6, 7, 8, 16, 17, 18, 37), 8), 36: 16},
          AARCH64: {0: 0, **dict.fromkeys((257, *range(1025, 1031), 1032), 8), 1031: 16}}
-COPY = {X86_64: 5, AARCH64: 1024}
+COPY, RELATIVE = {X86_64: 5, AARCH64: 1024}, {X86_64: 8, AARCH64: 1027}
 # Symbols: a table of them, a function that all see, a file's name, no section's number, and kinds that have a place.
 SYMBOL_TABLE, GLOBAL_FUNCTION, SOURCE_FILE, RESERVED, PLACED = 2, 0x12, 4, 0xFF00, (0, 1, 2)
 
@@ -42,37 +46,47 @@ def read(data):
         raise ValueError("no shared library and no program for a processor that is known here; "
                          "an object has to be linked, as machine_code/README.md says")
     [first, sections], [size, count] = struct.unpack_from("<QQ", data, 32), struct.unpack_from("<HH", data, 54)
-    image, headers = Image(machine, PAGES[machine]), []
-    for at in range(count):
-        kind, flags, offset, address, _, in_file, in_memory, _ = struct.unpack_from("<IIQQQQQQ", data, first + 56 * at)
-        headers.append((kind, address, in_memory))
-        if kind == LOAD and (flags not in KINDS or (address - offset) % image.page):
-            raise ValueError(f"a segment with the flags {flags}, or at another place of a page than in the file")
-        if kind == LOAD:
-            image.add_segment(data, address, in_memory, offset, in_file, KINDS[flags])
-        elif kind == PROPERTIES:
-            _refuse_guards(data[offset : offset + in_file], GUARDS[machine])
-        elif kind not in (DYNAMIC, CLOSED, *HARMLESS):
-            raise ValueError(f"a header of the kind {kind:#x}")
-    end = first + 56 * count
-    if size != 56 or image.segments[0].content[:end] != data[:end]:
-        raise ValueError("the headers do not lie at the start of the first segment")
-    for _, address, in_memory in (header for header in headers if header[0] == CLOSED):
-        _close(image, address, in_memory)
-    tables = [header for header in headers if header[0] == DYNAMIC]
+    image, end = Image(machine, PAGES[machine]), first + 56 * count
+    headers = [Header(*struct.unpack_from("<IIQQQQQQ", data, at)) for at in range(first, end, 56)]
+    for kind in {it.kind for it in headers}.difference(READ, HARMLESS):
+        raise ValueError(f"a header of the kind {kind:#x}")
+    loaded, tables, closed, notes, loaders, said = [[it for it in headers if it.kind == kind] for kind in READ]
+    for header in loaded:
+        _load(image, data, header)
+    # Linux tells a program the place of those in the last segment that has any.
+    if size != 56 or image.segments[0].content[:end] != data[:end] or any(it.offset < end for it in loaded[1:]):
+        raise ValueError("the headers do not lie at the start of the first segment, and only there")
+    # glibc and musl take the difference between their place and what PT_PHDR says for the address of a program.
+    if (said or loaders) and {it.address for it in said} != {image.segments[0].address + first}:
+        raise ValueError("PT_PHDR is missing, or says another place than that of the headers")
+    for header in notes:
+        _refuse_guards(image, data, header)
+    for header in closed:
+        _close(image, header.address, header.in_memory)
     if len(tables) > 1:
         raise ValueError("two tables for the loader")
     _read_symbols(image, data, sections, *struct.unpack_from("<H", data, 60))
-    for _, address, in_memory in tables:
-        _read_dynamic(image, address, in_memory)
+    for header in tables:
+        _read_dynamic(image, header.address, header.in_memory, (WRITTEN,) if header.flags & 2 else FIXED)
     return image
 
 
-def _refuse_guards(note, guards):
-    at = 16
+def _load(image, data, header):
+    if header.flags not in KINDS or (header.address - header.offset) % image.page:
+        raise ValueError(f"a segment with the flags {header.flags}, or at another place of a page than in the file; "
+                         f"pages of {image.page} bytes are needed (-z max-page-size={image.page})")
+    image.add_segment(data, header.address, header.in_memory, header.offset, header.in_file, KINDS[header.flags])
+
+
+def _refuse_guards(image, data, header):
+    """Linux reads this note in the file, and glibc in memory, where it may be one of several."""
+    note, at = image.bytes_at(header.address, header.in_memory), 16
+    if note != data[header.offset :][: header.in_file] or struct.unpack("<III4s", note[:at]) != (
+            4, len(note) - at, 5, b"GNU\0"):
+        raise ValueError("a note of properties that is another one in memory than in the file, or is not the only one")
     while at < len(note):
         kind, size = struct.unpack_from("<II", note, at)
-        if kind == guards and note[at + 8] & 1:
+        if kind == GUARDS[image.machine] and note[at + 8] & 1:
             raise ValueError("each function needs a mark (BTI or IBT), which these do not have")
         at += 8 + up(size, 8)
 
@@ -85,9 +99,9 @@ def _close(image, address, size):
     image.closed.append((address // image.page * image.page, address + size))
 
 
-def _read_dynamic(image, address, size):
-    """Reads the loader's table up to its end, and what it names."""
-    dynamic, content = {}, image.bytes_at(address, size // 16 * 16, (CODE, CONSTANTS, WRITTEN))
+def _read_dynamic(image, address, size, kinds):
+    """Reads the loader's table, in a segment of these kinds, up to its end, and what it names."""
+    dynamic, content = {}, image.bytes_at(address, size // 16 * 16, kinds)
     for tag, value in struct.iter_unpack("<QQ", content):
         if not tag:
             break
@@ -95,21 +109,41 @@ def _read_dynamic(image, address, size):
             raise ValueError(f"the loader's table has the tag {tag:#x} with {value:#x}, twice or not known here")
         dynamic[tag] = value
     else:
-        raise ValueError("the loader's table has no end")
-    if not all(image.bytes_at(dynamic[tag], 1) for tag in TABLES if tag in dynamic):
-        raise ValueError("a table for the loader that is written, or is nowhere")
-    if dynamic.get(CALLS_KIND, RELA) != RELA:
-        raise ValueError("relocations of calls of a form that is not known here")
+        raise ValueError("the loader's table has no end, or other flags than its segment")
+    _check_tables(image, dynamic)
     _read_relocations(image, dynamic)
     if len(image.unchanged(address, content)) < len(content):
         raise ValueError("the loader changes its own table")
+    # glibc makes the addresses in it absolute.
+    if kinds != FIXED:
+        image.change(address, len(content))
     if HASH in dynamic or GNU_HASH in dynamic:
         for name in image.names:
             _read_exported(image, dynamic, name)
 
 
+def _check_tables(image, dynamic):
+    """The loader's tables have to be constant, and those of relocations as glibc and musl both read them."""
+    if not all(image.bytes_at(dynamic[tag], 1) for tag in TABLES if tag in dynamic):
+        raise ValueError("a table for the loader that is written, or is nowhere; patchelf makes such a file")
+    # A loader may read a table as soon as it has one of its tags, and reads whole entries.
+    for *tags, entry in (RELA, RELA_SIZE, 24), (CALLS, CALLS_SIZE, CALLS_KIND, 24), (RELR, RELR_SIZE, 8):
+        if (len(dynamic.keys() & tags) not in (0, len(tags)) or dynamic.get(tags[1], 0) % entry
+                or dynamic.get(CALLS_KIND, RELA) != RELA):
+            raise ValueError("a table of relocations without a size, without a known form, or with a part of an entry")
+    # glibc takes so many for relative ones, whatever they are.
+    kinds = [image.numbers("<I", dynamic[RELA] + 8 + at)[0] for at in range(0, dynamic.get(RELA_SIZE, 0), 24)]
+    count = dynamic.get(RELATIVE_COUNT, 0)
+    if kinds[:count].count(RELATIVE[image.machine]) != count:
+        raise ValueError(f"fewer than {count} relative relocations at the start of their table")
+
+
 def _read_relocations(image, dynamic):
     """What the loader writes: by two tables of places and kinds, and by one of bits for the words after a place."""
+    # glibc writes addresses there for what it binds later.
+    for tag, start, size in (PLTGOT, 8, 16), (TLSDESC_GOT, 0, 8):
+        if tag in dynamic:
+            image.change(dynamic[tag] + start, size)
     for table, size in (RELA, RELA_SIZE), (CALLS, CALLS_SIZE):
         for at in range(0, dynamic.get(size, 0), 24):
             place, kind, symbol = image.numbers("<QII", dynamic[table] + at)
@@ -145,7 +179,8 @@ def _read_exported(image, dynamic, name):
     _, info, other, index, place, _ = image.numbers("<IBBHQQ", dynamic[SYMBOLS] + 24 * at)
     is_plain = VERSIONS not in dynamic or image.numbers("<H", dynamic[VERSIONS] + 2 * at) == (1,)
     if info != GLOBAL_FUNCTION or other not in (0, 3) or not 0 < index < RESERVED or not is_plain:
-        raise ValueError(f"{name} is no plain function for the loader: another kind, no section, or a version")
+        raise ValueError(f"{name} is no plain function for the loader: another kind, no section, or a version "
+                         "(by a version script or --default-symver)")
     image.add_exported(name, place)
 
 

@@ -43,7 +43,7 @@ class Image:
 
     def add_segment(self, data, address, size, offset, in_file, kind):
         if up(self.first + self.size, self.page) > address:
-            raise ValueError("two segments that share a page")
+            raise ValueError(f"two segments that share a page of {self.page} bytes")
         if not in_file <= size < 1 << 62 or len(data) < offset + in_file:
             raise ValueError("a segment that is larger in the file than in memory, or not in it")
         self.first = self.first if self.segments else address // self.page * self.page

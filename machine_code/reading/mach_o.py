@@ -28,6 +28,9 @@ BINDS = [NOTHING, NOTHING, NUMBER, NOTHING, NAME, NOTHING, NUMBER, PLACE, MOVE, 
 # Chains: no first link in a page, and the forms of links that have the distance to the next one at the same bits.
 NO_LINK, FORMS = 0xFFFF, (2, 6)
 DEBUG, TYPE, IN_SECTION, RESOLVED = 0xE0, 0xE, 0xE, 0x100  # of symbols
+# Kinds of sections: variables of threads, which dyld writes, and others that are harmless: up to GB_ZEROFILL,
+# 16BYTE_LITERALS, DTRACE_DOF, and from THREAD_LOCAL_REGULAR to INIT_FUNC_OFFSETS. In one it finds what replaces others.
+VARIABLES, HARMLESS_SECTIONS, REPLACING = 0x13, {*range(13), 14, 15, *range(0x11, 0x17)}, b"__interpose"
 
 
 def read(data):
@@ -44,8 +47,11 @@ def read(data):
         elif command not in HARMLESS:
             commands[command] = struct.unpack_from(f"<{size // 4 - 2}I", data, at + 8)
         at += size
-    if image.segments[0].content[:at] != data[:at] or sum(tag in commands for tag in (*INFO, TRIE)) > 1:
-        raise ValueError("the first segment does not begin with the file, or there are two trees of names")
+    if image.segments[0].content[:at] != data[:at]:
+        raise ValueError("the first segment does not begin with the file")
+    # With another set, dyld reads DYSYMTAB, or one of two trees of names.
+    if commands.keys() - {SYMBOLS} not in ({INFO[0]}, {INFO[1]}, {TRIE, FIXUPS}):
+        raise ValueError("tables for dyld that are neither INFO, nor a tree of names and chains")
     tables = next((commands[tag] for tag in INFO if tag in commands), (0,) * 10)
     for number, opcodes in enumerate((REBASES, BINDS, BINDS, BINDS)):
         first, size = tables[2 * number :][:2]
@@ -67,12 +73,17 @@ def read(data):
 
 def _add_segment(image, data, at):
     """Adds a segment, if it is in memory, and gives where it begins."""
-    address, in_memory, offset, in_file, _, protection, _, flags = struct.unpack_from("<QQQQIIII", data, at + 24)
+    address, in_memory, offset, in_file, _, protection, count, flags = struct.unpack_from("<QQQQIIII", data, at + 24)
     kind = KINDS.get((protection, flags), "unknown")
     if kind == "unknown" or address % image.page or offset % image.page or kind == WRITTEN and in_file % image.page:
         raise ValueError(f"a segment that is {protection}, {flags}, or is no whole pages in the file or in memory")
     if protection:
         image.add_segment(data, address, in_memory, offset, in_file, kind)
+    for section in range(at + 72, at + 72 + 80 * count, 80):
+        if data[section + 64] not in HARMLESS_SECTIONS or data.startswith(REPLACING, section):
+            raise ValueError("a section of a kind that is not known here, or with functions that replace others")
+        if data[section + 64] == VARIABLES:
+            image.change(*struct.unpack_from("<QQ", data, section + 32), FIXED_UP)
     return address
 
 

@@ -32,7 +32,8 @@ def read(data):
         kind = KINDS.get(flags & ~(NO_MEANING | (UNINITIALIZED if flags & 0x80000000 else 0)), OTHER)
         if address % PAGE or offset % IN_FILE or alignment < PAGE or in_file < IN_FILE:
             raise ValueError("a section that begins in a page, or in a part of the file")
-        image.add_segment(data, address, in_memory, offset, min(size, in_memory), kind)
+        # An offset of 0 means that nothing is read from the file.
+        image.add_segment(data, address, in_memory, offset, offset and min(size, in_memory), kind)
     tables = [struct.unpack_from("<II", data, start + 136 + 8 * at) for at in range(16)]
     if any(where and at not in (*READ, *HARMLESS) for at, (where, _) in enumerate(tables)):
         raise ValueError("a table for the loader that is not known here")
@@ -84,7 +85,8 @@ def _read_exports(image, address, size):
     if not address:
         return
     limit, count, places, names, numbers = image.numbers("<IIIII", address + 20)
-    found = [image.bytes_at(name, 1 << 12).split(b"\0")[0].decode() for name in image.numbers(f"<{count}I", names)]
+    found = [image.numbers(f"{image.bytes_at(name, 1 << 12).find(0)}sx", name)[0].decode()
+             for name in image.numbers(f"<{count}I", names)]
     if found != sorted(set(found)):
         raise ValueError("a table of names that is not sorted, or has one twice")
     wanted = image.names

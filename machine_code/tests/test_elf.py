@@ -58,12 +58,13 @@ def tag(wanted, new, more=0):
     return lambda file: file.put("<Q", file.tag(wanted) + more, new)
 
 
-def relocation(kind, place, table=7):
-    """The first relocation writes to a place, which may be that of a symbol."""
+def relocation(kind, place, counted=0):
+    """The first relocation writes to a place, which may be that of a symbol, and so many count as relative."""
 
     def changed(file):
         at = file.value(place) if type(place) is str else place(file)
-        file.put("<QQ", file.table(table), at, kind)
+        file.put("<QQ", file.table(7), at, kind)
+        file.put("<Q", file.tag(0x6FFFFFF9), counted)
 
     return changed
 
@@ -71,6 +72,11 @@ def relocation(kind, place, table=7):
 def copy_over_the_choice(file):
     relocation(5 | 3 << 32, lambda file: file.value("choice") - 8)(file)
     file.put("<Q", file.table(6) + 24 * 3 + 16, 9)
+
+
+def bound_over_the_loaders_table(file):
+    """Two addresses for calls that are bound later."""
+    file.put("<Q", file.tag(3), next(it[4] for it in file.segments if it[1] == 2))
 
 
 def other_header(kind):
@@ -149,6 +155,8 @@ def without_relocation(file):
 WRITTEN, ENDS, PLAIN = "a place that has no constant, or may be written", "it leaves the code", "is no plain function"
 VERSION, CHECK, FILL = "const_hex_version", "const_hex_kernel_check", "const_hex_kernel_fill_v3"
 CLOSED, KNOWN, PLACES = "is no part of a segment", "twice or not known here", "const_hex_decode has the places"
+FIRST, SAID, OTHERS = "first segment, and only there", "PT_PHDR is missing, or", "other flags than its segment"
+PARTS, CONSTANT, NOTE = "a table of relocations without", "what must not be written", "a note of properties"
 PAGE = 1 << 12
 # What is forged in the bytes of a right library, how, of which function, and what the tool says.
 CHANGED = [
@@ -165,14 +173,17 @@ CHANGED = [
      "larger in the file"),
     ("a segment with random bytes", other_header(0x65A3DBE6), "", "a header of the kind 0x65a3dbe6"),
     ("a second table for the loader", other_header(2), "", "two tables for the loader"),
-    ("other headers in memory", headers_elsewhere, "", "the headers do not lie at the start"),
-    ("headers of another size", lambda file: file.put("<H", 54, 64), "", "the headers do not lie at the start"),
+    ("other headers in memory", headers_elsewhere, "", FIRST),
+    ("headers of another size", lambda file: file.put("<H", 54, 64), "", FIRST),
+    ("headers in two segments", segment(4, lambda f, o, *rest: (f, 0, *rest), place=PAGE), "", FIRST),
+    ("headers that are said to lie elsewhere", other_header(6), "", SAID),
+    ("a program that does not say where its headers lie", other_header(3), "", SAID),
     ("a choice that is closed", closed(0, 4096), CHECK, WRITTEN),
     ("code that is closed", closed(VERSION, 16), "", CLOSED),
     ("what is closed is nowhere", closed(1 << 30, 16), "", CLOSED),
     ("what is closed has no end", closed(0, 1 << 20), "", CLOSED),
     ("a program", lambda file: file.put("<H", 16, 2), VERSION, "accepted"),
-    ("calls with relocations of another form", tag(10, 20, -8), "", "of a form that is not known here"),
+    ("calls with relocations of another form", tag(10, 20, -8), "", PARTS),
     ("a protected function", of_the_loader("<B", 5, 3), VERSION, "accepted"),
     ("a file of 32 bits", lambda file: file.put("<B", 4, 1), "", "no shared library and no program"),
     ("another processor", lambda file: file.put("<H", 18, 40), "", "no shared library and no program"),
@@ -183,6 +194,8 @@ CHANGED = [
     ("a library before all others", tag(0x6FFFFFFB, 0x400), "", KNOWN),
     ("a table for the loader without an end",
      segment(6, lambda f, o, a, b, size, _, e: (f, o, a, b, size, 96, e), kind=2), "", "the loader's table has no end"),
+    ("a table for the loader in constants", segment(6, lambda f, o, a, *rest: (f, 0, 0, *rest), kind=2), "", OTHERS),
+    ("a table for the loader that is said to be constant", segment(6, flags(4), kind=2), "", OTHERS),
     ("a table of names that is nowhere", tag(6, 1 << 20), "", "is nowhere"),
     ("tables of the loader that are written", segment(4, flags(6)), "", "a table for the loader that is written"),
     ("a function without a section", of_the_loader("<H", 6, 0), "", PLAIN),
@@ -214,10 +227,12 @@ CHANGED = [
     ("an object", lambda file: file.put("<H", 16, 1), "", "no shared library and no program"),
     ("nothing at all", lambda file: file.clear(), "", "no linked file"),
 ]
-# The same in a library by other options: with both tables of hashes, with relocations, and with those that are packed.
+# The same in a library by other options: with both tables of hashes, with relocations, with those that are packed, with
+# a call that is bound later, and with functions that need marks.
 DATA = ".bss; .space 64; .data; .balign 8; .hidden more; .globl more; more: .quad other, other; .text; other: ret"
 MORE = {"hashes": shared("-Wl,--hash-style=both"), "sysv": shared("-Wl,--hash-style=sysv"),
-        "relocations": shared(more=DATA), "packed": shared("-Wl,-z,pack-relative-relocs", more=DATA)}
+        "relocations": shared(more=DATA), "packed": shared("-Wl,-z,pack-relative-relocs", more=DATA),
+        "later": shared("-Wl,-z,lazy", more="call other@PLT"), "marks": shared("-Wl,-z,ibt")}
 CHANGED_MORE = [
     ("both tables", "hashes", lambda file: None, VERSION, "accepted"),
     ("tables that differ", "hashes", bucket(lambda file, table, at, number: file.put("<I", at, 0)), "",
@@ -239,6 +254,25 @@ CHANGED_MORE = [
      relocation(8, lambda file: max(it[4] + it[7] for it in file.segments if it[1] == 1) - 4), "", "where nothing is"),
     ("a relocation of an unknown kind", "relocations", relocation(33, "more"), "", "a relocation of the kind 33"),
     ("a copy over the choice", "relocations", copy_over_the_choice, CHECK, WRITTEN),
+    ("a relocation that counts as relative", "relocations", relocation(0, "more", 1), "", "fewer than 1 relative"),
+    ("more relative relocations than are there", "relocations", tag(0x6FFFFFF9, 3), "", "fewer than 3 relative"),
+    ("a table without a size", "relocations", tag(8, 21, -8), "", PARTS),
+    ("a table with a part of a relocation", "relocations", tag(8, 40), "", PARTS),
+    ("a table without a size", "packed", tag(35, 21, -8), "", PARTS),
+    ("a table with a part of a relocation", "packed", tag(35, 12), "", PARTS),
+    ("a call that is bound later", "later", lambda file: None, CHECK, "accepted"),
+    ("a call without a form", "later", tag(20, 21, -8), "", PARTS),
+    ("a call of another form", "later", tag(20, 17), "", PARTS),
+    ("what is bound later is written over code", "later", lambda file: file.put("<Q", file.tag(3), file.value(VERSION)),
+     "", CONSTANT),
+    ("what is bound later is written over the choice", "later",
+     lambda file: file.put("<Q", file.tag(3), file.value("choice") - 23), CHECK, WRITTEN),
+    ("what is bound later is written over names", "later", tag(10, 0x6FFFFEF7, -8), "", CONSTANT),
+    ("what is bound later is written over the table", "later", bound_over_the_loaders_table, "", "its own table"),
+    ("other properties in the file", "marks",
+     segment(4, lambda f, o, a, b, size, *rest: (f, o, a, b, 0, *rest), kind=0x6474E553), "", NOTE),
+    ("two notes of properties", "marks",
+     lambda file: file.put("<I", next(it[3] for it in file.segments if it[1] == 0x6474E553) + 4, 0), "", NOTE),
     ("packed relocations", "packed", lambda file: None, CHECK, "accepted"),
     ("a packed relocation of the choice", "packed",
      lambda file: file.put("<Q", file.table(36), file.value("choice") // 8 * 8), CHECK, WRITTEN),
@@ -265,6 +299,8 @@ LINKED = [
     ("relocations of code", "", ["-Wl,-z,notext"], [(C, END, f"\t.quad const_hex_check_raw; {END}")], "", "", KNOWN),
     ("a choice in a section of data", CHECK, [],
      [(DISPATCH, "variable choice", ".section .data.choice, \"aw\"; choice: .byte 2")], "", "", WRITTEN),
+    ("a choice in the loader's table", CHECK, ["-Wl,-z,norelro"],
+     [(DISPATCH, "variable choice", ".hidden _DYNAMIC; .set choice, _DYNAMIC + 7")], "", "", WRITTEN),
     ("a version of another function", "", [SCRIPT], [],
      f".globl other; .symver other, {VERSION}@V1; .type other, @function; other: {FALSE}",
      "V1 {}; V2 { const_hex_*; };", "or a version"),
@@ -319,6 +355,13 @@ class TestElf(unittest.TestCase):
         file = Elf(shared(compiler=AARCH64))
         value(2, VERSION)(file)
         self.assertRegex(said(bytes(file), VERSION), ENDS)
+
+    @needs_aarch64
+    def test_a_relocation_that_counts_as_relative_aarch64(self):
+        for kind, wanted in (1027, "accepted"), (0, "fewer than 1 relative"):
+            file = Elf(shared(more=DATA, compiler=AARCH64))
+            relocation(kind, "more", 1)(file)
+            self.assertRegex(said(bytes(file), ""), wanted)
 
     @needs_aarch64
     def test_calls_that_need_marks_aarch64(self):

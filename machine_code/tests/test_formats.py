@@ -119,6 +119,11 @@ def names_of_exports(change):
     return changed
 
 
+def relocated(file, names):
+    """The loader writes over a name."""
+    base_relocation(".edata", file.numbers("<I", names)[0] + 12 - place_of(file, ".edata"))(file)
+
+
 def exported(place):
     """The first function that is exported lies at another place."""
     return lambda file: file.put("<I", file.offset(file.numbers("<I", file.at(0, 28))[0]), place(file))
@@ -141,6 +146,7 @@ PES = [
     ("constants that are not in the file", section(".rdata", FLAGS, lambda old: (old | 0x80,)), NO_CONSTANT),
     ("code that can be written", section(".text", FLAGS, lambda old: (old | 1 << 31,)), NO_CODE),
     ("code that is discarded", section(".text", FLAGS, lambda old: (old | 1 << 25,)), NO_CODE),
+    ("code from nowhere in the file", section(".text", 20, lambda old: (0,)), NO_CODE),
     ("code in a part of the file", section(".text", 20, lambda old: (old + 16,)), "begins in a page"),
     ("code in a page", section(".text", 12, lambda old: (old + 16,)), "begins in a page"),
     ("sections in a page", lambda file: file.put("<I", file.head + 56, 512), "begins in a page"),
@@ -167,6 +173,7 @@ PES = [
     ("another form of programs", lambda file: file.put("<2s", file.head, b"NE"), "no DLL and no program"),
     ("another processor", lambda file: file.put("<H", file.head + 4, 0x14C), "no DLL and no program"),
     ("names that are not sorted", names_of_exports(swapped), "not sorted"),
+    ("a name that is relocated", names_of_exports(relocated), "is written, or nowhere"),
     ("a name twice", names_of_exports(twice), "not sorted"),
     ("a name that is missing", lambda file: file.put("<I", file.at(0, 24), 9), "does not find const_hex_version"),
     ("a function of another file", exported(lambda file: file.numbers("<I", file.table(0))[0] + 40),
@@ -242,6 +249,8 @@ def chain(place, form=6, flag=0):
         [first], [value] = file.numbers("<Q", file.segment("__DATA") + 24), file.numbers("<Q", file.symbol(place) + 8)
         page = value // 4096 * 4096
         starts = struct.pack("<IIIIIHHQIHH", 3, 0, 16, 0, 24, 4096, form, page, 0, 1, value % 4096 // 8 * 8 | flag)
+        [at] = file.commands(0x80000022)
+        file.put("<IIIIII", at, 0x80000033, 16, *file.numbers("<II", at + 40), 0x2A, 32)
         file.add(0x80000034, struct.pack("<IIIIIII", 0, 28, 0, 0, 0, 0, 0) + starts)
 
     return changed
@@ -287,7 +296,12 @@ MACH_OS = [
     # Of two tables of symbols, linkers take the first.
     ("a second table of symbols", "x86_64", lambda file: file.put("<I", file.commands(0x26)[0], 2),
      "the command 0x2,"),
-    ("a second tree of names", "x86_64", lambda file: file.add(0x80000033, bytes(8)), "two trees of names"),
+    ("a second tree of names", "x86_64", lambda file: file.add(0x80000033, bytes(8)), "neither INFO, nor"),
+    ("no tables", "x86_64", lambda file: file.put("<I", file.commands(0x80000022)[0], 0x2A), "neither INFO, nor"),
+    ("functions that replace others", "x86_64", segment("__DATA", 136, 13, form="<B"), "that replace others"),
+    ("a name of those that replace others", "x86_64", segment("__DATA", 72, b"__interpose", form="<16s"),
+     "that replace others"),
+    ("a choice in a variable of threads", "x86_64", segment("__DATA", 216, 0x13, form="<B"), NO_CHOICE),
     ("code that can be written", "x86_64", segment("__TEXT", 56, 7, 7), "a segment that is 7"),
     ("constants that cannot be read", "x86_64", segment("__TEXT", 56, 4, 4), "a segment that is 4"),
     ("code that is encrypted", "x86_64", segment("__TEXT", 68, 8, form="<I"), "a segment that is 5, 8"),

@@ -62,11 +62,11 @@ class TestProve(InFolder):
     def test_last_lines(self):
         for argv, refused, wanted in (
             (["/dev/null"], None, "0 passed, 1 failed"), (["nowhere"], None, "0 passed, 1 failed"),
-            ([self.file], None, "42 passed, 0 failed"), ([self.file], "version", "41 passed, 1 failed"),
+            ([self.file], None, "43 passed, 0 failed"), ([self.file], "version", "42 passed, 1 failed"),
             # Each of two files counts, also if they are the same.
-            ([self.file, self.other, "/dev/null"], "version", "82 passed, 3 failed"),
-            ([self.file, "--call", "version"], None, "1 passed, 0 failed; --call has left out 41 of 42 proofs"),
-            ([self.file, "--call", "kernel_fill"], None, "5 passed, 0 failed; --call has left out 37 of 42 proofs"),
+            ([self.file, self.other, "/dev/null"], "version", "84 passed, 3 failed"),
+            ([self.file, "--call", "version"], None, "1 passed, 0 failed; --call has left out 42 of 43 proofs"),
+            ([self.file, "--call", "kernel_fill"], None, "5 passed, 0 failed; --call has left out 38 of 43 proofs"),
         ):
             has_failed, output = self.said(*argv, refused=refused)
             self.assertEqual((has_failed, output.splitlines()[-1]), ("0 failed" not in wanted, wanted))
@@ -106,15 +106,16 @@ class TestProve(InFolder):
         self.assertEqual(users, ["proofs.py"])
 
     def test_contracts_of_functions(self):
-        """Each function has them, with as many arguments; and those that are not constant-time are known."""
-        contracts = [contract for contract in (*FUNCTIONS, *MESSAGES) if not contract.is_local]
+        """Each function has them, with as many arguments; and those that are not constant-time are known. What a
+        decoder is that a program has changed is no secret."""
+        contracts = [it for it in (*FUNCTIONS, *MESSAGES) if not it.is_local and "changed" not in it.name]
         self.assertEqual({(it.function, len(it.arguments), not it.may_leak) for it in contracts},
                          {(name, len(function.parameters.split()), function.is_constant_time)
                           for name, function in names.FUNCTIONS.items()})
 
     def test_local_function_by_the_name_of_another_file(self):
         """Where it is not proved, it is not called by its contract."""
-        for name in proofs.callees.LOCAL:
+        for name in {contract.symbol for contract in (*FUNCTIONS, *MESSAGES) if contract.is_local}:
             content = assembled_object(CALLS_A_LOCAL_ONE.format("const_hex_1_0_0_check_v3", name))
             with self.subTest(name), self.assertRaisesRegex(Refused, "nothing counts down"):
                 proofs.prove(content, "const_hex_1_0_0_check_v3", Check())
