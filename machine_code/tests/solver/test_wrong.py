@@ -3,6 +3,7 @@
 import ast
 import contextlib
 import functools
+import os
 import re
 import traceback
 import unittest
@@ -234,8 +235,9 @@ class TestWrong(unittest.TestCase):
         unused = {(str(file), check.lineno) for file, check in deletions.checks()} - lines
         self.assertEqual(sorted(unused), [])
 
-    def test_zz_each_part_refuses_a_row(self):
-        """The same of a condition, a row of a table, or a state that a contract yields."""
+    def each_part_refuses_a_row(self):
+        """The same of a condition, a row of a table, or a state that a contract yields. It takes hours, so that only a
+        run with the variable CONST_HEX_PARTS does it."""
         if len(self.refused) < self.most:
             self.skipTest("not all rows have run")
         unused = [f"{file.name}:{part.lineno} {ast.unparse(part)}" for file, part, new in deletions.parts()
@@ -301,3 +303,5 @@ for function, what, old, new, said, *name in wrong_messages.OF_DISPATCHERS:
 for contract in wrong_messages.CONTRACTS[: -len(MESSAGES)]:
     _add(f"of dispatchers {contract.function} {contract.name} as it is", contract.function, wrong_messages.dispatcher,
          contracts=wrong_messages.CONTRACTS, name=contract.name)
+if os.environ.get("CONST_HEX_PARTS"):
+    TestWrong.test_zz_each_part_refuses_a_row = TestWrong.each_part_refuses_a_row
