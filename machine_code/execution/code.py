@@ -8,7 +8,6 @@ import z3
 
 from execution.state import Region, word
 from reading import library
-from solver.questions import require
 
 # Loaders keep no greater alignment.
 PAGE = 4096
@@ -33,7 +32,6 @@ class Code:
 
     def __init__(self, content, processors, symbol, effects, level=None):
         self.object = library.read(content)
-        require(symbol in self.object.symbols, f"no function {symbol}")
         self.processor, self.level = processors[self.object.machine], level or symbol.rpartition("_")[2]
         self.start, self.kept = self.object.symbols[symbol], None
         self.callees = {self.object.symbols[name]: effect for name, effect in effects.items()

@@ -14,7 +14,8 @@ import wrong_for_c
 import wrong_forms
 import wrong_messages
 import wrong_module
-from contracts.library import FUNCTIONS
+from contracts.functions import N
+from contracts.library import FUNCTIONS, CheckRaw
 from contracts.messages import MESSAGES
 from programs import BYTE, COMMITTED, LOAD, edited, program, prove
 from solver.questions import Refused
@@ -141,6 +142,9 @@ WRONG = [
     ("a branch by what is unknown", "v3", "check", {"start": "test r15, r15; je 5f; nop; 5:"}, SECRET),
     ("an address by a digit", "v3", "check", {"character": "and eax, 7; lea rcx, [rip+table]; mov al, [rcx+rax]"},
      "an address depends on bytes"),
+    ("an address in two buffers", "v3", "read", {"start": "mov al, [rdi+rsi]"}, "an address in"),
+    ("a jump by a digit", "v3", "check", {"character": "lea rcx, [rip+table]; add rax, rcx; jmp rax"},
+     "a jump depends on bytes"),
     ("a write of the text", "v3", "check", {"character": "mov [rdi], al"}, "input is written"),
     ("a branch by a byte that is kept between calls", "v3", "check",
      {"character": "mov [rip+choice], al; test byte ptr [rip+choice], 1; je 5f; nop; 5:",
@@ -173,6 +177,8 @@ WRONG = [
      PASSES),
     ("a byte before those in front of it", "v3", "read",
      {"start": f"cmp rdx, 3; jne 1f; {FIRST}{SECOND}mov [rsi+1], al; cmp byte ptr [rdi+4], 0x30; jb 3f"}, HOLE),
+    ("a byte before those in front of it, and the end", "v3", "read",
+     {"start": f"cmp rdx, 3; jne 1f; {FIRST}{SECOND}mov [rsi+1], al; jmp 3f"}, HOLE),
     ("a byte in each round before those in front of it", "v3", "read",
      {"start": f"cmp rdx, 4; jne 1f; {FIRST}movd xmm0, eax; {SECOND}{THIRD}movd ecx, xmm0; 5: sub rdx, 1; jb 6f; "
                "mov r10b, [rdi+6]; mov [rsi], cl; mov [rsi+2], al; jmp 5b; 6: mov edx, 4; "
@@ -226,6 +232,14 @@ class TestWrong(unittest.TestCase):
 
     def test_a_function_that_is_missing(self):
         self.prove(assembled("check: ret\n"), "check", "0 functions const_hex_")
+
+    def test_a_start_that_is_missing(self):
+        class Empty(CheckRaw):
+            def cases(self, state):
+                return [state.when(N == 0, state.at)]
+
+        content = edited("functions_x86_64", "check_raw", "", "")
+        self.prove(content, "check_raw", "a start is missing", contracts=[Empty()])
 
     def test_zz_each_check_refuses_a_row(self):
         """After the rows: without a check, one that is refused by it would not be, or by another message."""
