@@ -26,8 +26,6 @@ PROCESSORS = {X86_64: x86_64, AARCH64: aarch64, None: webassembly}
 SAMPLE = 100
 # So many characters of a line are shown.
 LONGEST = 300
-
-
 CONTRACTS = (*FUNCTIONS, *MESSAGES, *KERNELS, *dispatch.OR_NULL, *dispatch.CHOICES)
 # On x86-64 the kernels have these ends of names, and others choose one of them.
 LEVEL = re.compile("_v[23]$")

@@ -45,8 +45,9 @@ def split(term):
     """The bytes of a number. One of 32 or 64 bits, and the lower half of one of 64, are kept for `joined`, which would
     not find the same sums again."""
     lane = [simple(z3.Extract(at + 7, at, term)) for at in range(0, term.size(), 8)]
-    for size in [size for size in (4, 8) if len(lane) in (size, 8)]:
-        _wholes[tuple(part.get_id() for part in lane[:size])] = simple(z3.Extract(8 * size - 1, 0, term)), lane
+    for size in (4, 8):
+        if len(lane) in (size, 8):
+            _wholes[tuple(part.get_id() for part in lane[:size])] = simple(z3.Extract(8 * size - 1, 0, term)), lane
     return lane
 
 
