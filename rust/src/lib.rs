@@ -85,10 +85,7 @@ pub use crate::traits::{FromHex, ToHex};
 use crate::proved::codec::encoders::encode_full_to_slice;
 use crate::proved::codec::{checks, decoders};
 #[cfg(feature = "alloc")]
-use crate::{
-    proved::codec::body::{find_invalid_character, strip_even},
-    proved::text_length,
-};
+use crate::proved::codec::body::{find_invalid_character, strip_even};
 #[cfg(feature = "alloc")]
 use alloc::{string::String, vec::Vec};
 
@@ -176,11 +173,11 @@ encoders! {
 
 /// Returns the text of bytes.
 #[cfg(feature = "alloc")]
+#[allow(unsafe_code)]
 #[inline(always)]
 fn owned(data: &[u8], prefix: bool, upper: bool) -> String {
-    let mut text = String::with_capacity(text_length(prefix, data.len()));
-    append(data, prefix, upper, &mut text);
-    text
+    // SAFETY: the text is ASCII: `0x`, and digits, of which this is proved.
+    unsafe { String::from_utf8_unchecked(kernel::encode(data, prefix, upper)) }
 }
 
 /// Appends the text of bytes to a string.
@@ -188,7 +185,7 @@ fn owned(data: &[u8], prefix: bool, upper: bool) -> String {
 #[allow(unsafe_code)]
 #[inline]
 fn append(data: &[u8], prefix: bool, upper: bool, output: &mut String) {
-    // SAFETY: what is appended is ASCII: `0x`, and digits, of which this is proved.
+    // SAFETY: what is appended is ASCII, as in `owned`.
     kernel::encode_append(data, prefix, upper, unsafe { output.as_mut_vec() });
 }
 
@@ -215,12 +212,7 @@ fn text_in<'a>(data: &[u8], prefix: bool, upper: bool, output: &'a mut [u8]) -> 
 #[inline]
 pub fn decode<T: AsRef<[u8]>>(data: T) -> Result<Vec<u8>, FromHexError> {
     let text = data.as_ref();
-    let digits = strip_even(text)?;
-    let mut bytes = Vec::with_capacity(digits.len() / 2);
-    match kernel::decode_append(digits, &mut bytes) {
-        true => Ok(bytes),
-        false => Err(invalid(text, bytes)),
-    }
+    kernel::decode(strip_even(text)?).map_err(|bytes| invalid(text, bytes))
 }
 
 /// Returns the error for an invalid text, and drops the vector for its bytes.

@@ -5,6 +5,7 @@ pub mod FirstInvalid
 pub mod LaneBytes
 pub mod LaneLookups
 pub mod LaneMarks
+pub mod LanePairs
 pub mod LaneText
 pub mod LaneValues
 pub mod LeftOutputs

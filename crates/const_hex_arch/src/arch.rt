@@ -5,6 +5,7 @@ ghost use Rattle.const_hex_arch.specs.Outputs.{HasSpace, WritesPieces, piece_siz
 ghost use Rattle.const_hex_arch.specs.Texts.{hex_text, AllDigits, Spells, Partial};
 
 pub mod check_first;
+pub mod interleaved;
 mod lanes;
 pub mod lanes16;
 pub mod lanes32;

@@ -13,6 +13,7 @@ pub mod tables;
 pub mod text;
 
 pub use crate::arch::check_first::CheckFirst;
+pub use crate::arch::interleaved::Interleaved;
 pub use crate::arch::lanes16::Lanes16;
 pub use crate::arch::lanes32::Lanes32;
 pub use crate::arch::plain::{Compact, Plain};

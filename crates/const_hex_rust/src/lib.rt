@@ -9,7 +9,7 @@
 ghost use Rattle.std.specs.Prelude.{◌≡◌, ◌↔◌, ◌*◌, IsTrue, false, length};
 ghost use Rattle.const_hex_arch.specs.Texts.{hex_text, AllDigits, Spells, Partial};
 
-use const_hex_arch::{FixedKernel, Kernel};
+use const_hex_arch::{FixedKernel, Interleaved, Kernel};
 
 /// Fills the text with two digits for each byte, in order.
 #[inline(never)]
@@ -39,9 +39,28 @@ fn read(text: &[u8], bytes: &mut [u8]) -> bool
     FixedKernel::decode_all(text, bytes)
 }
 
-/// Calls `fill` if the text has two characters for each byte. Returns whether it has.
+/// As `fill`, for AArch64.
+#[inline(never)]
+fn interleaved_fill(bytes: &[u8], upper: bool, text: &mut [u8])
+    requires { length text.old ≡ 2 * length bytes.now }
+    ensures { text.new ≡ hex_text upper bytes.now }
+{
+    Interleaved::fill(bytes, upper, text);
+}
+
+/// As `read`, for AArch64.
+#[inline(never)]
+fn interleaved_read(text: &[u8], bytes: &mut [u8]) -> bool
+    requires { length text.now ≡ 2 * length bytes.old }
+    ensures spells { IsTrue result → Spells text.now bytes.new }
+    ensures refused { result ≡ false → Partial bytes.old text.now bytes.new }
+{
+    Interleaved::decode_all(text, bytes)
+}
+
+/// Calls `fill` or `interleaved_fill` if the text has two characters for each byte. Returns whether it has.
 #[unsafe(no_mangle)]
-pub extern "C" fn const_hex_rust_fill(bytes: &[u8], upper: bool, text: &mut [u8]) -> bool
+pub extern "C" fn const_hex_rust_fill(is_interleaved: bool, bytes: &[u8], upper: bool, text: &mut [u8]) -> bool
     ensures fits { IsTrue result ↔ (2 * length bytes.now ≡ length text.old) }
     ensures text { IsTrue result → text.new ≡ hex_text upper bytes.now }
     ensures kept { result ≡ false → text.new ≡ text.old }
@@ -49,7 +68,11 @@ pub extern "C" fn const_hex_rust_fill(bytes: &[u8], upper: bool, text: &mut [u8]
     if text.len() % 2 != 0 || bytes.len() != text.len() / 2 {
         return false;
     }
-    fill(bytes, upper, text);
+    if is_interleaved {
+        interleaved_fill(bytes, upper, text);
+    } else {
+        fill(bytes, upper, text);
+    }
     true
 }
 
@@ -61,9 +84,9 @@ pub extern "C" fn const_hex_rust_check(text: &[u8]) -> bool
     check(text)
 }
 
-/// Calls `read` if the text has two characters for each byte, and returns false otherwise.
+/// Calls `read` or `interleaved_read` if the text has two characters for each byte, and returns false otherwise.
 #[unsafe(no_mangle)]
-pub extern "C" fn const_hex_rust_read(text: &[u8], bytes: &mut [u8]) -> bool
+pub extern "C" fn const_hex_rust_read(is_interleaved: bool, text: &[u8], bytes: &mut [u8]) -> bool
     ensures fits { IsTrue result → length text.now ≡ 2 * length bytes.old }
     ensures spells { IsTrue result → Spells text.now bytes.new }
     ensures refused { result ≡ false → length text.now ≡ 2 * length bytes.old
@@ -73,5 +96,5 @@ pub extern "C" fn const_hex_rust_read(text: &[u8], bytes: &mut [u8]) -> bool
     if text.len() % 2 != 0 || bytes.len() != text.len() / 2 {
         return false;
     }
-    read(text, bytes)
+    if is_interleaved { interleaved_read(text, bytes) } else { read(text, bytes) }
 }

@@ -14,7 +14,7 @@
 	vmovq  xmm0,QWORD PTR [rdi+rsi*1-0x8]
 	vmovq  xmm1,QWORD PTR [rdi]
 	vpunpcklqdq xmm0,xmm1,xmm0
-	jmp    16f
+	jmp    15f
 2:
 	xor    eax,eax
 	mov    rcx,rsi
@@ -75,7 +75,7 @@
 	cmp    rsi,0x10
 	jne    8f
 	vmovdqu xmm0,XMMWORD PTR [rdi+rsi*1-0x10]
-	jmp    16f
+	jmp    15f
 7:
 	cmp    rsi,0x4
 	jb     14f
@@ -84,7 +84,7 @@
 	mov    eax,0x30303030
 	vpinsrd xmm0,xmm0,eax,0x2
 	vpinsrd xmm0,xmm0,eax,0x3
-	jmp    16f
+	jmp    15f
 8:
 	vmovdqu xmm0,XMMWORD PTR [rdi]
 	vmovdqu xmm1,XMMWORD PTR [rdi+rsi*1-0x10]
@@ -136,7 +136,7 @@
 	ret
 14:
 	cmp    rsi,0x2
-	jb     15f
+	jb     16f
 	movzx  eax,WORD PTR [rdi]
 	vmovd  xmm0,eax
 	vpinsrw xmm0,xmm0,WORD PTR [rdi+rsi*1-0x2],0x1
@@ -147,8 +147,15 @@
 	vpinsrw xmm0,xmm0,eax,0x5
 	vpinsrw xmm0,xmm0,eax,0x6
 	vpinsrw xmm0,xmm0,eax,0x7
-	jmp    16f
 15:
+	vpaddb xmm1,xmm0,XMMWORD PTR [rip + const_hex_1_0_0_constant_6_v3]
+	vmovdqa xmm2,XMMWORD PTR [rip + const_hex_1_0_0_constant_2_v3]
+	vpshufb xmm0,xmm2,xmm0
+	vpsubusb xmm0,xmm1,xmm0
+	vptest xmm0,XMMWORD PTR [rip + const_hex_1_0_0_constant_4_v3]
+	sete   al
+	ret
+16:
 	test   rsi,rsi
 	je     17f
 	movzx  eax,BYTE PTR [rdi]
@@ -169,12 +176,11 @@
 	vpinsrb xmm0,xmm0,eax,0xd
 	vpinsrb xmm0,xmm0,eax,0xe
 	vpinsrb xmm0,xmm0,eax,0xf
-16:
 	vpaddb xmm1,xmm0,XMMWORD PTR [rip + const_hex_1_0_0_constant_6_v3]
 	vmovdqa xmm2,XMMWORD PTR [rip + const_hex_1_0_0_constant_2_v3]
 	vpshufb xmm0,xmm2,xmm0
 	vpsubusb xmm0,xmm1,xmm0
-	vptest xmm0,XMMWORD PTR [rip + const_hex_1_0_0_constant_4_v3]
+	vptest xmm0,XMMWORD PTR [rip + const_hex_1_0_0_constant_7_v3]
 	sete   al
 	ret
 17:
@@ -185,180 +191,185 @@
 /* const_hex_rust::fill */
 	hidden const_hex_1_0_0_fill_v3
 	function const_hex_1_0_0_fill_v3
-	cmp    rsi,0x3f
-	ja     3f
-	cmp    rsi,0x20
-	jb     6f
-	vpmovzxbw ymm1,XMMWORD PTR [rdi]
-	lea    rax,[rip + const_hex_1_0_0_constant_7_v3]
-	movzx  edx,dl
-	shl    edx,0x4
-	vbroadcasti128 ymm0,XMMWORD PTR [rdx+rax*1]
-	vpmullw ymm1,ymm0,ymm1
-	vpsrlw ymm2,ymm1,0x4
-	vbroadcasti128 ymm1,XMMWORD PTR [rdx+rax*1+0x20]
-	vpshufb ymm2,ymm1,ymm2
-	vpmovzxbw ymm3,XMMWORD PTR [rdi+0x10]
-	vpmullw ymm3,ymm0,ymm3
-	vpsrlw ymm3,ymm3,0x4
-	vmovdqu YMMWORD PTR [rcx],ymm2
-	vpshufb ymm2,ymm1,ymm3
-	vmovdqu YMMWORD PTR [rcx+0x20],ymm2
-	cmp    rsi,0x20
-	jne    5f
-2:
-	vzeroupper
-	ret
-3:
-	mov    eax,esi
-	and    eax,0x10
-	lea    r8,[rip + const_hex_1_0_0_constant_7_v3]
-	vbroadcasti128 ymm0,XMMWORD PTR [rax+r8*1]
-	movzx  eax,dl
-	shl    eax,0x4
-	vbroadcasti128 ymm1,XMMWORD PTR [rax+r8*1+0x20]
-	xor    edx,edx
-	mov    rax,rsi
-	.byte 0xf, 0x1f, 0x40, 0x0  /* nop    DWORD PTR [rax+0x0] */
-4:
-	vpmovzxbw ymm2,XMMWORD PTR [rdi+rdx*1]
-	vpmullw ymm2,ymm0,ymm2
-	vpsrlw ymm2,ymm2,0x4
-	vpshufb ymm2,ymm1,ymm2
-	vpmovzxbw ymm3,XMMWORD PTR [rdi+rdx*1+0x10]
-	vpmullw ymm3,ymm0,ymm3
-	vpsrlw ymm3,ymm3,0x4
-	vpshufb ymm3,ymm1,ymm3
-	vmovdqu YMMWORD PTR [rcx+rdx*2],ymm2
-	vmovdqu YMMWORD PTR [rcx+rdx*2+0x20],ymm3
-	vpmovzxbw ymm2,XMMWORD PTR [rdi+rdx*1+0x20]
-	vpmullw ymm2,ymm0,ymm2
-	vpsrlw ymm2,ymm2,0x4
-	vpmovzxbw ymm3,XMMWORD PTR [rdi+rdx*1+0x30]
-	vpshufb ymm2,ymm1,ymm2
-	vpmullw ymm3,ymm0,ymm3
-	vpsrlw ymm3,ymm3,0x4
-	vpshufb ymm3,ymm1,ymm3
-	vmovdqu YMMWORD PTR [rcx+rdx*2+0x40],ymm2
-	vmovdqu YMMWORD PTR [rcx+rdx*2+0x60],ymm3
-	add    rdx,0x40
-	add    rax,0xffffffffffffffc0
-	cmp    rax,0x3f
-	ja     4b
-	cmp    rdx,rsi
-	je     2b
-	cmp    rax,0x21
-	jb     5f
-	vpmovzxbw ymm2,XMMWORD PTR [rdi+rdx*1]
-	vpmullw ymm2,ymm0,ymm2
-	vpsrlw ymm2,ymm2,0x4
-	vpmovzxbw ymm3,XMMWORD PTR [rdi+rdx*1+0x10]
-	vpshufb ymm2,ymm1,ymm2
-	vpmullw ymm3,ymm0,ymm3
-	vpsrlw ymm3,ymm3,0x4
-	vpshufb ymm3,ymm1,ymm3
-	vmovdqu YMMWORD PTR [rcx+rdx*2],ymm2
-	vmovdqu YMMWORD PTR [rcx+rdx*2+0x20],ymm3
-5:
-	vpmovzxbw ymm2,XMMWORD PTR [rdi+rsi*1-0x20]
-	vpmullw ymm2,ymm0,ymm2
-	vpsrlw ymm2,ymm2,0x4
-	vpmovzxbw ymm3,XMMWORD PTR [rdi+rsi*1-0x10]
-	vpshufb ymm2,ymm1,ymm2
-	vpmullw ymm0,ymm0,ymm3
-	vpsrlw ymm0,ymm0,0x4
-	vpshufb ymm0,ymm1,ymm0
-	vmovdqu YMMWORD PTR [rcx+rsi*2-0x40],ymm2
-	vmovdqu YMMWORD PTR [rcx+rsi*2-0x20],ymm0
-	vzeroupper
-	ret
-6:
-	cmp    rsi,0x10
-	jb     7f
-	vpmovzxbw ymm1,XMMWORD PTR [rdi]
-	lea    rax,[rip + const_hex_1_0_0_constant_7_v3]
-	movzx  edx,dl
-	shl    edx,0x4
-	vbroadcasti128 ymm0,XMMWORD PTR [rdx+rax*1]
-	vpmullw ymm1,ymm0,ymm1
-	vpsrlw ymm2,ymm1,0x4
-	vbroadcasti128 ymm1,XMMWORD PTR [rdx+rax*1+0x20]
-	vpshufb ymm2,ymm1,ymm2
-	vmovdqu YMMWORD PTR [rcx],ymm2
-	cmp    rsi,0x10
-	je     2b
-	vpmovzxbw ymm2,XMMWORD PTR [rdi+rsi*1-0x10]
-	vpmullw ymm0,ymm0,ymm2
-	vpsrlw ymm0,ymm0,0x4
-	vpshufb ymm0,ymm1,ymm0
-	vmovdqu YMMWORD PTR [rcx+rsi*2-0x20],ymm0
-	vzeroupper
-	ret
-7:
+	cmp    rsi,0xf
+	ja     2f
 	cmp    rsi,0x1
-	jne    8f
+	jne    3f
 	movzx  eax,BYTE PTR [rdi]
 	vmovd  xmm0,eax
+	vpbroadcastb xmm0,xmm0
+	vpinsrb xmm0,xmm0,eax,0x0
 	vpinsrb xmm0,xmm0,eax,0x1
-	lea    rax,[rip + const_hex_1_0_0_constant_7_v3]
+	movzx  eax,dl
+	shl    eax,0x4
+	lea    rdx,[rip + const_hex_1_0_0_constant_8_v3]
 	vpmovzxbw xmm0,xmm0
-	movzx  edx,dl
-	shl    edx,0x4
-	vpmullw xmm0,xmm0,XMMWORD PTR [rdx+rax*1]
+	vpmullw xmm0,xmm0,XMMWORD PTR [rax+rdx*1]
 	vpsrlw xmm0,xmm0,0x4
-	vmovdqu xmm1,XMMWORD PTR [rdx+rax*1+0x20]
+	lea    rdx,[rip + const_hex_1_0_0_constant_9_v3]
+	vmovdqu xmm1,XMMWORD PTR [rax+rdx*1]
 	vpshufb xmm0,xmm1,xmm0
 	vpextrw WORD PTR [rcx],xmm0,0x1
 	ret
-8:
+2:
+	cmp    rsi,0x3f
+	ja     4f
+	cmp    rsi,0x1f
+	ja     6f
+	vpmovzxbw ymm1,XMMWORD PTR [rdi]
+	movzx  eax,dl
+	shl    eax,0x4
+	lea    rdx,[rip + const_hex_1_0_0_constant_8_v3]
+	vbroadcasti128 ymm0,XMMWORD PTR [rax+rdx*1]
+	vpmullw ymm1,ymm0,ymm1
+	vpsrlw ymm2,ymm1,0x4
+	lea    rdx,[rip + const_hex_1_0_0_constant_9_v3]
+	vbroadcasti128 ymm1,XMMWORD PTR [rax+rdx*1]
+	vpshufb ymm2,ymm1,ymm2
+	vmovdqu YMMWORD PTR [rcx],ymm2
+	cmp    rsi,0x10
+	je     9f
+	vpmovzxbw ymm2,XMMWORD PTR [rdi+rsi*1-0x10]
+	vpmullw ymm0,ymm0,ymm2
+	jmp    8f
+3:
 	cmp    rsi,0x8
-	jb     9f
+	jb     12f
 	vmovq  xmm0,QWORD PTR [rdi+rsi*1-0x8]
 	vmovq  xmm1,QWORD PTR [rdi]
 	vpunpcklqdq xmm0,xmm1,xmm0
-	lea    rax,[rip + const_hex_1_0_0_constant_7_v3]
+	movzx  eax,dl
+	shl    eax,0x4
+	lea    rdx,[rip + const_hex_1_0_0_constant_8_v3]
 	vpmovzxbw ymm0,xmm0
-	movzx  edx,dl
-	shl    edx,0x4
-	vbroadcasti128 ymm1,XMMWORD PTR [rdx+rax*1]
+	vbroadcasti128 ymm1,XMMWORD PTR [rax+rdx*1]
 	vpmullw ymm0,ymm1,ymm0
 	vpsrlw ymm0,ymm0,0x4
-	vbroadcasti128 ymm1,XMMWORD PTR [rdx+rax*1+0x20]
+	lea    rdx,[rip + const_hex_1_0_0_constant_9_v3]
+	vbroadcasti128 ymm1,XMMWORD PTR [rax+rdx*1]
 	vpshufb ymm0,ymm1,ymm0
 	vmovdqu XMMWORD PTR [rcx],xmm0
 	vextracti128 XMMWORD PTR [rcx+rsi*2-0x10],ymm0,0x1
 	vzeroupper
 	ret
+4:
+	mov    eax,esi
+	and    eax,0x10
+	lea    r8,[rip + const_hex_1_0_0_constant_8_v3]
+	vbroadcasti128 ymm0,XMMWORD PTR [rax+r8*1]
+	movzx  eax,dl
+	shl    eax,0x4
+	lea    rdx,[rip + const_hex_1_0_0_constant_9_v3]
+	vbroadcasti128 ymm1,XMMWORD PTR [rax+rdx*1]
+	xor    edx,edx
+	mov    rax,rsi
+	.byte 0x66, 0x2e, 0xf, 0x1f, 0x84, 0x0, 0x0, 0x0, 0x0, 0x0  /* cs nop WORD PTR [rax+rax*1+0x0] */
+5:
+	vpmovzxbw ymm2,XMMWORD PTR [rdi+rdx*1]
+	vpmullw ymm2,ymm0,ymm2
+	vpsrlw ymm2,ymm2,0x4
+	vpshufb ymm2,ymm1,ymm2
+	vpmovzxbw ymm3,XMMWORD PTR [rdi+rdx*1+0x10]
+	vmovdqu YMMWORD PTR [rcx+rdx*2],ymm2
+	vpmullw ymm2,ymm0,ymm3
+	vpsrlw ymm2,ymm2,0x4
+	vpshufb ymm2,ymm1,ymm2
+	vmovdqu YMMWORD PTR [rcx+rdx*2+0x20],ymm2
+	vpmovzxbw ymm2,XMMWORD PTR [rdi+rdx*1+0x20]
+	vpmullw ymm2,ymm0,ymm2
+	vpsrlw ymm2,ymm2,0x4
+	vpmovzxbw ymm3,XMMWORD PTR [rdi+rdx*1+0x30]
+	vpshufb ymm2,ymm1,ymm2
+	vmovdqu YMMWORD PTR [rcx+rdx*2+0x40],ymm2
+	vpmullw ymm2,ymm0,ymm3
+	vpsrlw ymm2,ymm2,0x4
+	vpshufb ymm2,ymm1,ymm2
+	vmovdqu YMMWORD PTR [rcx+rdx*2+0x60],ymm2
+	add    rdx,0x40
+	add    rax,0xffffffffffffffc0
+	cmp    rax,0x3f
+	ja     5b
+	cmp    rdx,rsi
+	je     9f
+	cmp    rax,0x21
+	jb     7f
+	vpmovzxbw ymm2,XMMWORD PTR [rdi+rdx*1]
+	vpmullw ymm2,ymm0,ymm2
+	vpsrlw ymm2,ymm2,0x4
+	vpmovzxbw ymm3,XMMWORD PTR [rdi+rdx*1+0x10]
+	vpshufb ymm2,ymm1,ymm2
+	vmovdqu YMMWORD PTR [rcx+rdx*2],ymm2
+	vpmullw ymm2,ymm0,ymm3
+	vpsrlw ymm2,ymm2,0x4
+	vpshufb ymm2,ymm1,ymm2
+	vmovdqu YMMWORD PTR [rcx+rdx*2+0x20],ymm2
+	jmp    7f
+6:
+	vpmovzxbw ymm1,XMMWORD PTR [rdi]
+	movzx  eax,dl
+	shl    eax,0x4
+	lea    rdx,[rip + const_hex_1_0_0_constant_8_v3]
+	vbroadcasti128 ymm0,XMMWORD PTR [rax+rdx*1]
+	vpmullw ymm1,ymm0,ymm1
+	vpsrlw ymm2,ymm1,0x4
+	lea    rdx,[rip + const_hex_1_0_0_constant_9_v3]
+	vbroadcasti128 ymm1,XMMWORD PTR [rax+rdx*1]
+	vpshufb ymm2,ymm1,ymm2
+	vpmovzxbw ymm3,XMMWORD PTR [rdi+0x10]
+	vmovdqu YMMWORD PTR [rcx],ymm2
+	vpmullw ymm2,ymm0,ymm3
+	vpsrlw ymm2,ymm2,0x4
+	vpshufb ymm2,ymm1,ymm2
+	vmovdqu YMMWORD PTR [rcx+0x20],ymm2
+	cmp    rsi,0x20
+	je     9f
+7:
+	vpmovzxbw ymm2,XMMWORD PTR [rdi+rsi*1-0x20]
+	vpmullw ymm2,ymm0,ymm2
+	vpsrlw ymm2,ymm2,0x4
+	vpmovzxbw ymm3,XMMWORD PTR [rdi+rsi*1-0x10]
+	vpshufb ymm2,ymm1,ymm2
+	vmovdqu YMMWORD PTR [rcx+rsi*2-0x40],ymm2
+	vpmullw ymm0,ymm0,ymm3
+8:
+	vpsrlw ymm0,ymm0,0x4
+	vpshufb ymm0,ymm1,ymm0
+	vmovdqu YMMWORD PTR [rcx+rsi*2-0x20],ymm0
 9:
+	vzeroupper
+	ret
+12:
 	cmp    rsi,0x4
-	jb     12f
+	jb     13f
 	vmovd  xmm0,DWORD PTR [rdi+rsi*1-0x4]
 	vmovd  xmm1,DWORD PTR [rdi]
 	vpunpckldq xmm0,xmm1,xmm0
-	lea    rax,[rip + const_hex_1_0_0_constant_7_v3]
+	movzx  eax,dl
+	shl    eax,0x4
+	lea    rdx,[rip + const_hex_1_0_0_constant_8_v3]
 	vpmovzxbw xmm0,xmm0
-	movzx  edx,dl
-	shl    edx,0x4
-	vpmullw xmm0,xmm0,XMMWORD PTR [rdx+rax*1]
+	vpmullw xmm0,xmm0,XMMWORD PTR [rax+rdx*1]
 	vpsrlw xmm0,xmm0,0x4
-	vmovdqu xmm1,XMMWORD PTR [rdx+rax*1+0x20]
+	lea    rdx,[rip + const_hex_1_0_0_constant_9_v3]
+	vmovdqu xmm1,XMMWORD PTR [rax+rdx*1]
 	vpshufb xmm0,xmm1,xmm0
 	vmovq  QWORD PTR [rcx],xmm0
 	vpextrq QWORD PTR [rcx+rsi*2-0x8],xmm0,0x1
 	ret
-12:
+13:
 	test   rsi,rsi
-	je     2b
+	je     9b
 	movzx  eax,WORD PTR [rdi]
 	vmovd  xmm0,eax
 	vpinsrw xmm0,xmm0,WORD PTR [rdi+rsi*1-0x2],0x1
-	lea    rax,[rip + const_hex_1_0_0_constant_7_v3]
+	movzx  eax,dl
+	shl    eax,0x4
+	lea    rdx,[rip + const_hex_1_0_0_constant_8_v3]
 	vpmovzxbw xmm0,xmm0
-	movzx  edx,dl
-	shl    edx,0x4
-	vpmullw xmm0,xmm0,XMMWORD PTR [rdx+rax*1]
+	vpmullw xmm0,xmm0,XMMWORD PTR [rax+rdx*1]
 	vpsrlw xmm0,xmm0,0x4
-	vmovdqu xmm1,XMMWORD PTR [rdx+rax*1+0x20]
+	lea    rdx,[rip + const_hex_1_0_0_constant_9_v3]
+	vmovdqu xmm1,XMMWORD PTR [rax+rdx*1]
 	vpshufb xmm0,xmm1,xmm0
 	vmovd  DWORD PTR [rcx],xmm0
 	vpextrd DWORD PTR [rcx+rsi*2-0x4],xmm0,0x1
@@ -368,11 +379,28 @@
 /* const_hex_rust::read */
 	hidden const_hex_1_0_0_read_v3
 	function const_hex_1_0_0_read_v3
-	cmp    rdx,0x10
+	cmp    rdx,0x11
 	jae    2f
-	push   rax
-	call   const_hex_1_0_0_small_input_decode_small_v3
-	add    rsp,0x8
+	cmp    rdx,0x1
+	jne    5f
+	movzx  eax,WORD PTR [rdi]
+	vmovd  xmm0,eax
+	vpinsrw xmm0,xmm0,eax,0x1
+	mov    eax,0x3030
+	vpinsrw xmm0,xmm0,eax,0x2
+	vpinsrw xmm0,xmm0,eax,0x3
+	vpinsrw xmm0,xmm0,eax,0x4
+	vpinsrw xmm0,xmm0,eax,0x5
+	vpinsrw xmm0,xmm0,eax,0x6
+	vpinsrw xmm0,xmm0,eax,0x7
+	vpaddb xmm1,xmm0,XMMWORD PTR [rip + const_hex_1_0_0_constant_6_v3]
+	vmovdqa xmm2,XMMWORD PTR [rip + const_hex_1_0_0_constant_2_v3]
+	vpshufb xmm0,xmm2,xmm0
+	vpminub xmm0,xmm1,xmm0
+	vpsubb xmm1,xmm1,xmm0
+	vptest xmm1,XMMWORD PTR [rip + const_hex_1_0_0_constant_4_v3]
+	je     13f
+	xor    eax,eax
 	ret
 2:
 	cmp    rdx,0x40
@@ -381,7 +409,7 @@
 	and    eax,0x10
 	xor    ecx,ecx
 	mov    r8,rdx
-	.byte 0x66, 0x66, 0x2e, 0xf, 0x1f, 0x84, 0x0, 0x0, 0x0, 0x0, 0x0  /* data16 cs nop WORD PTR [rax+rax*1+0x0] */
+	.byte 0x66, 0x66, 0x66, 0x66, 0x66, 0x2e, 0xf, 0x1f, 0x84, 0x0, 0x0, 0x0, 0x0, 0x0  /* data16 data16 data16 data16 cs nop WORD PTR [rax+rax*1+0x0] */
 3:
 	vpbroadcastd ymm3,DWORD PTR [rip + const_hex_1_0_0_constant_1_v3]
 	vmovdqu ymm0,YMMWORD PTR [rdi+rcx*2]
@@ -410,8 +438,8 @@
 	vpor   ymm4,ymm5,ymm4
 	vpbroadcastq ymm5,QWORD PTR [rip + const_hex_1_0_0_constant_3_v3]
 	vptest ymm4,ymm5
-	jne    4f
-	lea    r9,[rip + const_hex_1_0_0_constant_7_v3]
+	jne    9f
+	lea    r9,[rip + const_hex_1_0_0_constant_8_v3]
 	vbroadcasti128 ymm4,XMMWORD PTR [rax+r9*1]
 	vpmullw ymm0,ymm4,ymm0
 	vpmullw ymm1,ymm4,ymm1
@@ -431,13 +459,12 @@
 	add    r8,0xffffffffffffffc0
 	cmp    r8,0x3f
 	ja     3b
-4:
 	mov    rax,rdx
 	sub    rax,rcx
 	cmp    rax,0x20
 	jb     7f
-	.byte 0xf, 0x1f, 0x44, 0x0, 0x0  /* nop    DWORD PTR [rax+rax*1+0x0] */
-5:
+	nop
+4:
 	vmovdqu ymm0,YMMWORD PTR [rdi+rcx*2]
 	vmovdqu ymm1,YMMWORD PTR [rdi+rcx*2+0x20]
 	vpbroadcastd ymm2,DWORD PTR [rip + const_hex_1_0_0_constant_1_v3]
@@ -466,14 +493,35 @@
 	add    rcx,0x20
 	add    rax,0xffffffffffffffe0
 	cmp    rax,0x1f
-	ja     5b
+	ja     4b
 	jmp    7f
+5:
+	cmp    rdx,0x8
+	jb     12f
+	vmovdqu xmm0,XMMWORD PTR [rdi]
+	vmovdqu xmm1,XMMWORD PTR [rdi+rdx*2-0x10]
+	vpbroadcastd xmm2,DWORD PTR [rip + const_hex_1_0_0_constant_1_v3]
+	vpaddb xmm3,xmm0,xmm2
+	vmovdqa xmm4,XMMWORD PTR [rip + const_hex_1_0_0_constant_2_v3]
+	vpshufb xmm0,xmm4,xmm0
+	vpminub xmm0,xmm3,xmm0
+	vpsubb xmm3,xmm3,xmm0
+	vpaddb xmm2,xmm1,xmm2
+	vpshufb xmm1,xmm4,xmm1
+	vpminub xmm1,xmm2,xmm1
+	vpsubb xmm2,xmm2,xmm1
+	vpor   xmm2,xmm2,xmm3
+	vptest xmm2,XMMWORD PTR [rip + const_hex_1_0_0_constant_4_v3]
+	je     15f
+	xor    eax,eax
+	vzeroupper
+	ret
 6:
 	xor    ecx,ecx
 	mov    rax,rdx
 	sub    rax,rcx
 	cmp    rax,0x20
-	jae    5b
+	jae    4b
 7:
 	cmp    rax,0x10
 	jb     8f
@@ -503,7 +551,7 @@
 8:
 	mov    al,0x1
 	cmp    rcx,rdx
-	je     13f
+	je     17f
 	vmovdqu xmm0,XMMWORD PTR [rdi+rdx*2-0x20]
 	vmovdqu xmm1,XMMWORD PTR [rdi+rdx*2-0x10]
 	vpbroadcastd xmm2,DWORD PTR [rip + const_hex_1_0_0_constant_1_v3]
@@ -518,49 +566,14 @@
 	vpsubb xmm2,xmm2,xmm1
 	vpor   xmm2,xmm2,xmm3
 	vptest xmm2,XMMWORD PTR [rip + const_hex_1_0_0_constant_4_v3]
-	je     12f
+	je     16f
 9:
 	xor    eax,eax
 	vzeroupper
 	ret
 12:
-	vinserti128 ymm0,ymm0,xmm1,0x1
-	vpsllw ymm1,ymm0,0xc
-	vpaddw ymm0,ymm0,ymm1
-	vpsrlw ymm0,ymm0,0x8
-	vextracti128 xmm1,ymm0,0x1
-	vpackuswb xmm0,xmm0,xmm1
-	vmovdqu XMMWORD PTR [rsi+rdx*1-0x10],xmm0
-13:
-	vzeroupper
-	ret
-	end const_hex_1_0_0_read_v3
-
-/* const_hex_arch::arch::small_input::decode_small */
-	function const_hex_1_0_0_small_input_decode_small_v3
-	cmp    rdx,0x8
-	jb     2f
-	vmovdqu xmm0,XMMWORD PTR [rdi]
-	vmovdqu xmm1,XMMWORD PTR [rdi+rdx*2-0x10]
-	vpbroadcastd xmm2,DWORD PTR [rip + const_hex_1_0_0_constant_1_v3]
-	vpaddb xmm3,xmm0,xmm2
-	vmovdqa xmm4,XMMWORD PTR [rip + const_hex_1_0_0_constant_2_v3]
-	vpshufb xmm0,xmm4,xmm0
-	vpminub xmm0,xmm3,xmm0
-	vpsubb xmm3,xmm3,xmm0
-	vpaddb xmm2,xmm1,xmm2
-	vpshufb xmm1,xmm4,xmm1
-	vpminub xmm1,xmm2,xmm1
-	vpsubb xmm2,xmm2,xmm1
-	vpor   xmm2,xmm2,xmm3
-	vptest xmm2,XMMWORD PTR [rip + const_hex_1_0_0_constant_4_v3]
-	je     4f
-	xor    eax,eax
-	vzeroupper
-	ret
-2:
 	cmp    rdx,0x4
-	jb     3f
+	jb     14f
 	vmovq  xmm0,QWORD PTR [rdi+rdx*2-0x8]
 	vmovq  xmm1,QWORD PTR [rdi]
 	vpunpcklqdq xmm0,xmm1,xmm0
@@ -570,28 +583,37 @@
 	vpminub xmm0,xmm1,xmm0
 	vpsubb xmm1,xmm1,xmm0
 	vptest xmm1,XMMWORD PTR [rip + const_hex_1_0_0_constant_4_v3]
-	je     6f
+	je     18f
 	xor    eax,eax
 	ret
-3:
-	cmp    rdx,0x2
-	jb     5f
+13:
+	vpextrw eax,xmm0,0x1
+	mov    ecx,eax
+	shl    ecx,0xc
+	add    ecx,eax
+	mov    BYTE PTR [rsi],ch
+	mov    al,0x1
+	ret
+14:
+	mov    al,0x1
+	test   rdx,rdx
+	je     17f
 	vmovd  xmm0,DWORD PTR [rdi]
 	vpinsrd xmm0,xmm0,DWORD PTR [rdi+rdx*2-0x4],0x1
-	mov    eax,0x30303030
-	vpinsrd xmm0,xmm0,eax,0x2
-	vpinsrd xmm0,xmm0,eax,0x3
+	mov    ecx,0x30303030
+	vpinsrd xmm0,xmm0,ecx,0x2
+	vpinsrd xmm0,xmm0,ecx,0x3
 	vpaddb xmm1,xmm0,XMMWORD PTR [rip + const_hex_1_0_0_constant_6_v3]
 	vmovdqa xmm2,XMMWORD PTR [rip + const_hex_1_0_0_constant_2_v3]
 	vpshufb xmm0,xmm2,xmm0
 	vpminub xmm0,xmm1,xmm0
 	vpsubb xmm1,xmm1,xmm0
 	vptest xmm1,XMMWORD PTR [rip + const_hex_1_0_0_constant_4_v3]
-	je     7f
+	je     19f
 	xor    eax,eax
 	vzeroupper
 	ret
-4:
+15:
 	vinserti128 ymm0,ymm0,xmm1,0x1
 	vpsllw ymm1,ymm0,0xc
 	vpaddw ymm0,ymm0,ymm1
@@ -603,38 +625,26 @@
 	mov    al,0x1
 	vzeroupper
 	ret
-5:
-	mov    al,0x1
-	test   rdx,rdx
-	je     9f
-	movzx  ecx,WORD PTR [rdi]
-	vmovd  xmm0,ecx
-	vpinsrw xmm0,xmm0,ecx,0x1
-	mov    ecx,0x3030
-	vpinsrw xmm0,xmm0,ecx,0x2
-	vpinsrw xmm0,xmm0,ecx,0x3
-	vpinsrw xmm0,xmm0,ecx,0x4
-	vpinsrw xmm0,xmm0,ecx,0x5
-	vpinsrw xmm0,xmm0,ecx,0x6
-	vpinsrw xmm0,xmm0,ecx,0x7
-	vpaddb xmm1,xmm0,XMMWORD PTR [rip + const_hex_1_0_0_constant_6_v3]
-	vmovdqa xmm2,XMMWORD PTR [rip + const_hex_1_0_0_constant_2_v3]
-	vpshufb xmm0,xmm2,xmm0
-	vpminub xmm0,xmm1,xmm0
-	vpsubb xmm1,xmm1,xmm0
-	vptest xmm1,XMMWORD PTR [rip + const_hex_1_0_0_constant_4_v3]
-	je     8f
-	xor    eax,eax
+16:
+	vinserti128 ymm0,ymm0,xmm1,0x1
+	vpsllw ymm1,ymm0,0xc
+	vpaddw ymm0,ymm0,ymm1
+	vpsrlw ymm0,ymm0,0x8
+	vextracti128 xmm1,ymm0,0x1
+	vpackuswb xmm0,xmm0,xmm1
+	vmovdqu XMMWORD PTR [rsi+rdx*1-0x10],xmm0
+17:
+	vzeroupper
 	ret
-6:
+18:
 	vpsllw xmm1,xmm0,0xc
 	vpaddw xmm0,xmm0,xmm1
-	vpshufb xmm0,xmm0,XMMWORD PTR [rip + const_hex_1_0_0_constant_8_v3]
+	vpshufb xmm0,xmm0,XMMWORD PTR [rip + const_hex_1_0_0_constant_10_v3]
 	vmovd  DWORD PTR [rsi],xmm0
 	vpextrd DWORD PTR [rsi+rdx*1-0x4],xmm0,0x1
 	mov    al,0x1
 	ret
-7:
+19:
 	vpsllw ymm1,ymm0,0xc
 	vpaddw ymm0,ymm0,ymm1
 	vpsrlw ymm0,ymm0,0x8
@@ -642,18 +652,9 @@
 	vpackuswb xmm0,xmm0,xmm1
 	vpextrw WORD PTR [rsi],xmm0,0x0
 	vpextrw WORD PTR [rsi+rdx*1-0x2],xmm0,0x1
-	mov    al,0x1
 	vzeroupper
 	ret
-8:
-	vpextrw ecx,xmm0,0x1
-	mov    edx,ecx
-	shl    edx,0xc
-	add    edx,ecx
-	mov    BYTE PTR [rsi],dh
-9:
-	ret
-	end const_hex_1_0_0_small_input_decode_small_v3
+	end const_hex_1_0_0_read_v3
 
 	constant const_hex_1_0_0_constant_1_v3, 2
 	.byte 0xd0, 0xd0, 0xd0, 0xd0
@@ -674,11 +675,16 @@
 	constant const_hex_1_0_0_constant_6_v3, 4
 	.byte 0xd0, 0xd0, 0xd0, 0xd0, 0xd0, 0xd0, 0xd0, 0xd0, 0xd0, 0xd0, 0xd0, 0xd0, 0xd0, 0xd0, 0xd0, 0xd0
 
-	constant const_hex_1_0_0_constant_7_v3, 0
+	constant const_hex_1_0_0_constant_7_v3, 4
+	.byte 0xd8, 0xd8, 0x00, 0x00, 0x00, 0x00, 0x00, 0x00, 0xd8, 0xd8, 0x00, 0x00, 0x00, 0x00, 0x00, 0x00
+
+	constant const_hex_1_0_0_constant_8_v3, 5
 	.byte 0x01, 0x10, 0x01, 0x10, 0x01, 0x10, 0x01, 0x10, 0x01, 0x10, 0x01, 0x10, 0x01, 0x10, 0x01, 0x10
 	.byte 0x01, 0x10, 0x01, 0x10, 0x01, 0x10, 0x01, 0x10, 0x01, 0x10, 0x01, 0x10, 0x01, 0x10, 0x01, 0x10
+
+	constant const_hex_1_0_0_constant_9_v3, 5
 	.byte 0x30, 0x31, 0x32, 0x33, 0x34, 0x35, 0x36, 0x37, 0x38, 0x39, 0x61, 0x62, 0x63, 0x64, 0x65, 0x66
 	.byte 0x30, 0x31, 0x32, 0x33, 0x34, 0x35, 0x36, 0x37, 0x38, 0x39, 0x41, 0x42, 0x43, 0x44, 0x45, 0x46
 
-	constant const_hex_1_0_0_constant_8_v3, 4
+	constant const_hex_1_0_0_constant_10_v3, 4
 	.byte 0x01, 0x03, 0x05, 0x07, 0x09, 0x0b, 0x0d, 0x0f, 0x00, 0x00, 0x00, 0x00, 0x00, 0x00, 0x00, 0x00

@@ -1,7 +1,7 @@
 -- Digits in a vector: their values and the test of each lane by one look-up, and the test of all lanes. The numbers
 -- are those of lanes16.rt and lanes.rt, which docs/DESIGN.md explains under "Checking and decoding one vector": adding
 -- 208 subtracts `0`, 143 (0x8F) is the part of a byte that looks up its limit, and 216 (0xD8) are the bits of a mark.
-use Rattle.std.proofs.Common.{◌≡◌, ℕ, zero, suc, ◌+◌, ◌-◌, ◌*◌, ◌/◌, ◌%◌, ◌<◌, ◌≤◌, ◌↔◌, Bool, true, eqb, cond, ltb, ◌||◌, T, List, [], ◌∷◌, ◌++◌, length, replicate, get_or, bit_and, bit_or, refl, subst, arith, w8, Fits, IsTrue, Some}
+use Rattle.std.proofs.Common.{◌≡◌, ℕ, zero, suc, ◌+◌, ◌-◌, ◌*◌, ◌/◌, ◌%◌, ◌<◌, ◌≤◌, ◌↔◌, Bool, true, eqb, cond, ltb, ltb→lt, ◌||◌, T, List, [], ◌∷◌, ◌++◌, length, replicate, get_or, bit_and, bit_or, refl, subst, arith, w8, Fits, IsTrue, Some}
 use Rattle.std.specs.List.{AllZip}
 use Rattle.std.specs.Int.{bit_at}
 use Rattle.std.specs.Option.{is_some}
@@ -11,7 +11,7 @@ use Rattle.std.proofs.lemmas.List.Elements.{All-nil, All-head, All-tail, All-con
 use Rattle.std.proofs.lemmas.Nat.{le_or_l, le_or_r}
 use Rattle.std.proofs.lemmas.Nat.Bits.{bit_at_or}
 use Rattle.std.proofs.lemmas.Simd.{swz_l}
-use lib.Lanes.{zip2, fold_l, Each1}
+use lib.Lanes.{zip2, fold_l, Each1, number_l, digits_l}
 use mir.Val.{zeroes}
 use Rattle.const_hex_arch.specs.Texts.{hex_value, IsDigit, AllDigits}
 use Rattle.const_hex_arch.specs.Lanes.{IsUnmarked, AllUnmarked, IsValueOf, IsPartOf, IsLimitOf}
@@ -129,14 +129,39 @@ unmarked_at : (x : ℕ) → x < 256 → (marked x ≡ 0) ↔ IsUnmarked x
 unmarked_at x h =
     grind (arith, nat_tests, agree_below_at (λ x. eqb (marked x) 0) (λ x. eqb (mark_bits x) 0) 256 x refl h)
 
-unmarked_fold : (a : ℕ) (xs : List ℕ) → Each1 (Fits w8) xs
-    → (fold_l bit_or a (zip2 bit_and xs (replicate (length xs) 216)) ≡ 0) ↔ ((a ≡ 0) × AllUnmarked xs)
-unmarked_fold a [] f = (λ e. (e, tt), λ h. h.0)
-unmarked_fold a (x ∷ xs) f =
-    grind (arith, unmarked_at x f.0.fits, unmarked_fold (bit_or a (marked x)) xs f.1, le_or_l, le_or_r)
+below_256 : (x : ℕ) → x < 256 → marked x < 256
+below_256 x h = ltb→lt _ _ (every_below (λ x. ltb (marked x) 256) 256 tt x h)
 
--- no lane has a mark if and only if all lanes AND 216, joined by OR, are 0
-pub are_unmarked : (n : ℕ) (xs : List ℕ) → (length xs ≡ n) × Each1 (Fits w8) xs
-    → IsTrue (eqb (fold_l bit_or 0 (zip2 bit_and xs (replicate n 216))) 0) ↔ AllUnmarked xs
+abbrev all_marked : List ℕ → List ℕ
+all_marked xs = zip2 bit_and xs (replicate (length xs) 216)
+
+-- eight lanes as one number of 64 bits
+unmarked_numbers : (a n : ℕ) (xs : List ℕ) → length xs ≡ 8 * n → Each1 (Fits w8) xs
+    → (fold_l bit_or a (digits_l 18446744073709551616 n (number_l 256 (all_marked xs))) ≡ 0) ↔ ((a ≡ 0) × AllUnmarked xs)
+unmarked_numbers a zero [] e f = (λ h. (h, tt), λ h. h.0)
+unmarked_numbers a (suc n) (x0 ∷ x1 ∷ x2 ∷ x3 ∷ x4 ∷ x5 ∷ x6 ∷ x7 ∷ xs) e f =
+    let rest = number_l 256 (all_marked xs) in
+    let b0 = below_256 x0 f.0.fits in
+    let b1 = below_256 x1 f.1.0.fits in
+    let b2 = below_256 x2 f.1.1.0.fits in
+    let b3 = below_256 x3 f.1.1.1.0.fits in
+    let b4 = below_256 x4 f.1.1.1.1.0.fits in
+    let b5 = below_256 x5 f.1.1.1.1.1.0.fits in
+    let b6 = below_256 x6 f.1.1.1.1.1.1.0.fits in
+    let b7 = below_256 x7 f.1.1.1.1.1.1.1.0.fits in
+    let number = number_l 256 (all_marked (x0 ∷ x1 ∷ x2 ∷ x3 ∷ x4 ∷ x5 ∷ x6 ∷ x7 ∷ xs)) in
+    let above : number / 18446744073709551616 ≡ rest = omega arith in
+    let here : (number % 18446744073709551616 ≡ 0) ↔ ((marked x0 + marked x1 + marked x2 + marked x3 + marked x4 + marked x5 + marked x6 + marked x7) ≡ 0) = omega arith in
+    rw above
+    (grind (arith, here, unmarked_at x0 f.0.fits, unmarked_at x1 f.1.0.fits, unmarked_at x2 f.1.1.0.fits,
+    unmarked_at x3 f.1.1.1.0.fits, unmarked_at x4 f.1.1.1.1.0.fits, unmarked_at x5 f.1.1.1.1.1.0.fits,
+    unmarked_at x6 f.1.1.1.1.1.1.0.fits, unmarked_at x7 f.1.1.1.1.1.1.1.0.fits,
+    unmarked_numbers (bit_or a (number % 18446744073709551616)) n xs (omega arith) f.1.1.1.1.1.1.1.1, le_or_l, le_or_r))
+unmarked_numbers a _ _ e f = absurd (omega arith)
+
+-- no lane has a mark if and only if all lanes AND 216, joined by OR in numbers of 64 bits, are 0
+pub are_unmarked : (n : ℕ) (xs : List ℕ) → (length xs ≡ 8 * n) × Each1 (Fits w8) xs
+    → IsTrue (eqb (fold_l bit_or 0 (digits_l 18446744073709551616 n (number_l 256 (zip2 bit_and xs (replicate (8 * n) 216))))) 0)
+    ↔ AllUnmarked xs
 are_unmarked n xs f =
-    rw (← f.0) (grind (arith, nat_tests, unmarked_fold 0 xs f.1))
+    rw (← f.0) (grind (arith, nat_tests, unmarked_numbers 0 n xs f.0 f.1))

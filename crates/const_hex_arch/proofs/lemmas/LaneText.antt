@@ -56,7 +56,7 @@ halves_ok v f =
 abbrev pub is_table : Bool → List ℕ → ℕ → Bool
 is_table up t n = holds_below (λ i. holds_below (λ j. eqb (get_or t (16 * ((0 + i) / 16) + j) 0) (hex_digit up j)) 16) n
 
-looked_up : (up : Bool) (t js : List ℕ) (n : ℕ) → length js ≡ n → Each1 (λ j. j < 16) js → T (is_table up t n)
+pub looked_up : (up : Bool) (t js : List ℕ) (n : ℕ) → length js ≡ n → Each1 (λ j. j < 16) js → T (is_table up t n)
     → swz_l w8 16 t 0 js ≡ map (hex_digit up) js
 looked_up up t js n long below table =
     ext_get_or 0 _ _ (rw (length-swz_l, length-map)) (λ i h.
@@ -98,18 +98,5 @@ in_halves n t long = rw append-nil (halves n t long)
 -- the texts of both halves of a vector of 2 * n lanes
 pub text_of_halves : (n : ℕ) (up : Bool) (v a b : List ℕ) → length v ≡ 2 * n
     → a ≡ hex_text up (pick_l 0 (v ++ v) (range_with_len 0 n))
-    → b ≡ hex_text up (pick_l 0 (v ++ v) (range_with_len n n)) → concat (a ∷ b ∷ []) ≡ hex_text up v
-text_of_halves n up v a b long p q = rw (append-nil, p, q, ← hex_text-append, halves n v long)
-
--- stored one after the other
-pub stored_pair : (n : ℕ) (vs : List (List ℕ)) (old : List ℕ) → map (λ x. length x) vs ≡ n ∷ n ∷ [] → length old ≡ 2 * n
-    → put_chunk n (put_chunk 0 old (get_or vs 0 [])) (get_or vs 1 []) ≡ concat vs
-stored_pair n (a ∷ b ∷ []) old e h =
-    let first : length a ≡ n = cc in
-    let second : length b ≡ n = cc in
-    let mid = put_chunk 0 old a in
-    let long = length-put_chunk 0 old a in
-    let all = take_all (2 * n) (put_chunk n mid b) (omega (arith, length-put_chunk n mid b)) in
-    let front = take_more_put_chunk 0 old a n (omega arith) (omega arith) in
-    rw (append-nil, ← all) (rw front at (take_more_put_chunk n mid b (2 * n) (omega arith) (omega arith)))
-stored_pair n _ old e h = absurd (cc)
+    → b ≡ hex_text up (pick_l 0 (v ++ v) (range_with_len n n)) → a ++ b ≡ hex_text up v
+text_of_halves n up v a b long p q = rw (p, q, ← hex_text-append, halves n v long)

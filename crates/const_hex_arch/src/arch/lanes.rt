@@ -2,7 +2,7 @@
 //! the digit of a value, and the test whether all lanes are digits. docs/DESIGN.md works through an
 //! example.
 
-ghost use Rattle.std.specs.Prelude.{◌≡◌, ◌++◌, ◌≤◌, ◌↔◌, [], ◌∷◌, length, map, IsTrue};
+ghost use Rattle.std.specs.Prelude.{◌≡◌, ◌*◌, ◌++◌, ◌≤◌, ◌↔◌, [], ◌∷◌, length, map, IsTrue};
 ghost use Rattle.std.specs.List.{AllZip, concat};
 ghost use Rattle.const_hex_arch.specs.Texts.{hex_value, hex_text, AllDigits, Spells};
 ghost use Rattle.const_hex_arch.specs.Lanes.{AllNibbles, AllUnmarked, byte_pairs, as_value, IsValueOf, IsPartOf, IsLimitOf};
@@ -13,10 +13,10 @@ use std::simd::prelude::*;
 /// over this trait. The argument `row_copy` never changes a result: it selects one of two equal rows, as
 /// [`lanes16::factors_row`](super::lanes16::factors_row) explains.
 pub(crate) trait LaneOps<const N: usize> {
-    /// Two digits for each lane, in order: the text of the first half, and the text of the second.
-    fn digits_of(v: Simd<u8, N>, upper: bool, row_copy: bool) -> [Simd<u8, N>; 2]
-        ensures text { concat result ≡ hex_text upper v.entry }
-        ensures lanes { map length result ≡ N ∷ N ∷ [] };
+    /// Fills the output with two digits for each lane, in order.
+    fn write_digits(v: Simd<u8, N>, upper: bool, row_copy: bool, output: &mut [u8])
+        requires { length output.old ≡ 2 * N }
+        ensures { output.new ≡ hex_text upper v.entry };
 
     /// The limit of each lane. If the lane is a digit, its value is at most the limit.
     fn look_up_limits(v: Simd<u8, N>) -> Simd<u8, N>
@@ -26,6 +26,10 @@ pub(crate) trait LaneOps<const N: usize> {
     fn merge(first: Simd<u8, N>, second: Simd<u8, N>, row_copy: bool) -> Simd<u8, N>
         ensures { AllNibbles (first.entry ++ second.entry)
             → result ≡ byte_pairs (first.entry ++ second.entry) };
+
+    /// Whether every mark has the bits 7, 6, 4 and 3 clear.
+    fn are_unmarked(marks: Simd<u8, N>) -> bool
+        ensures { IsTrue result ↔ AllUnmarked marks.entry };
 
     /// A step has at least one byte, so that a loop ends. It has at most 32, so that two steps of 16
     /// lanes, which may overlap, encode or decode what is shorter than a step.
@@ -47,15 +51,6 @@ pub(crate) fn nibbles<const N: usize>(v: Simd<u8, N>) -> Simd<u8, N>
     // The paper adds 10 with saturation. `min(letter, 245) + 10` is the same, and does not wrap.
     let letter = letter.simd_min(Simd::splat(245)) + Simd::splat(10);
     decimal.simd_min(letter)
-}
-
-/// Whether every mark has the bits 7, 6, 4 and 3 clear.
-#[inline(always)]
-#[tactic(auto, using(crate::proofs::lemmas::LaneMarks::are_unmarked))]
-pub(crate) fn are_unmarked<const N: usize>(marks: Simd<u8, N>) -> bool
-    ensures { IsTrue result ↔ AllUnmarked marks.entry }
-{
-    (marks & Simd::splat(0xD8)).reduce_or() == 0
 }
 
 /// The value of each lane that is a digit.
@@ -96,7 +91,7 @@ fn marks<const N: usize, V: LaneOps<N>>(v: Simd<u8, N>) -> Simd<u8, N>
 pub(crate) fn are_digits<const N: usize, V: LaneOps<N>>(v: Simd<u8, N>) -> bool
     ensures { IsTrue result ↔ AllDigits v.entry }
 {
-    are_unmarked(marks::<N, V>(v))
+    V::are_unmarked(marks::<N, V>(v))
 }
 
 /// The marks of two vectors, joined.

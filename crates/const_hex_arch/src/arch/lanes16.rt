@@ -6,7 +6,7 @@
 ghost use Rattle.std.specs.Prelude.{◌≡◌, ◌↔◌, [], ◌∷◌, ◌++◌, length, map, IsTrue, false, IsNone, IfSome};
 ghost use Rattle.std.specs.List.{AllZip, concat, range_with_len};
 ghost use Rattle.const_hex_arch.specs.Texts.{hex_digit, hex_value, hex_text, AllDigits, Spells};
-ghost use Rattle.const_hex_arch.specs.Lanes.{AllNibbles, byte_pairs, bytes_of_4097, halves_of, as_value, IsValueOf, IsLimitOf};
+ghost use Rattle.const_hex_arch.specs.Lanes.{AllNibbles, AllUnmarked, byte_pairs, bytes_of_4097, halves_of, as_value, IsValueOf, IsLimitOf};
 
 use crate::arch::lanes::{self, LaneOps};
 use crate::arch::{Kernel, loops, small_input};
@@ -21,34 +21,36 @@ use std::simd::prelude::*;
 // the value itself, `P`, `W`, `X` and `Y` would leave the mark 32, and pass as digits.
 const LIMITS: [u8; 16] = [1, 10, 11, 12, 13, 14, 15, 8, 9, 10, 0, 0, 0, 0, 0, 0];
 
-/// Two equal rows of the factor 4097 in each lane of 16 bits, and the 16 digits in lowercase and in
-/// uppercase.
+/// The 16 digits in lowercase and in uppercase.
+const DIGITS: &[[u8; 16]; 2] = &[*b"0123456789abcdef", *b"0123456789ABCDEF"];
+
+/// Two equal rows of the factor 4097 in each lane of 16 bits.
 // Why two: a compiler that knows a factor of 4097 multiplies by a shift and a sum (LLVM 22, for x86-64),
 // which costs more instructions. In Rattle's build these are 2361 in place of 1823 to encode 2047 bytes,
 // and 3645 in place of 3347 to decode to 2048; by rustc 1.95 with AVX2, 1919 in place of 1827 to decode.
 // So `fill_in_steps`, and the loops of the decoders that take most of a long text, choose a row by a bit
 // that is known only at run time, and a short input takes the row of its case. All else takes the first
-// one: the choice would cost up to 4 instructions a call. They stand first, so that the offset of the chosen
-// row is one bit of the length: in WebAssembly, other places made a `select` of it.
-const ROWS: &[[u8; 16]; 4] = &[FACTORS, FACTORS, *b"0123456789abcdef", *b"0123456789ABCDEF"];
-
-const FACTORS: [u8; 16] = [1, 16, 1, 16, 1, 16, 1, 16, 1, 16, 1, 16, 1, 16, 1, 16];
+// one: the choice would cost up to 4 instructions a call.
+const FACTORS: &[[u8; 16]; 2] = &[
+    [1, 16, 1, 16, 1, 16, 1, 16, 1, 16, 1, 16, 1, 16, 1, 16],
+    [1, 16, 1, 16, 1, 16, 1, 16, 1, 16, 1, 16, 1, 16, 1, 16],
+];
 
 /// The digits of a case.
 #[inline(always)]
-fn digits_row(upper: bool) -> [u8; 16]
+pub(crate) fn digits_row(upper: bool) -> [u8; 16]
     ensures { result ≡ map (hex_digit upper) (range_with_len 0 16) }
 {
-    ROWS[if upper { 3 } else { 2 }]
+    DIGITS[upper as usize]
 }
 
 /// The factors, from the first row of them or the second. Both are equal, so no result depends on
-/// `row_copy`. The comment at [`ROWS`] says why there are two.
+/// `row_copy`. The comment at [`FACTORS`] says why there are two.
 #[inline(always)]
 pub(crate) fn factors_row(row_copy: bool) -> [u8; 16]
     ensures { result ≡ bytes_of_4097 }
 {
-    ROWS[if row_copy { 1 } else { 0 }]
+    FACTORS[row_copy as usize]
 }
 
 /// The row of factors for a loop over so many bytes. Any bit that is known only at run time would do.
@@ -78,7 +80,7 @@ pub fn encode_chunk<const UPPER: bool>(v: u8x16) -> [u8x16; 2]
     ensures text { concat result ≡ hex_text UPPER v }
     ensures lanes { map length result ≡ 16 ∷ 16 ∷ [] }
 {
-    Lanes16::digits_of(v, UPPER, false)
+    in_two(encode_lanes(v, UPPER, false))
 }
 
 /// Whether every lane is a digit.
@@ -162,7 +164,7 @@ impl Kernel for Lanes16 {
 
     #[inline(always)]
     fn fill(input: &[u8], upper: bool, output: &mut [u8]) {
-        loops::fill_in_steps::<16, Lanes16>(input, upper, output);
+        loops::fill_in_steps::<16, Lanes16, Lanes16>(input, upper, output);
     }
 
     // Not `always`: `decode_body` calls `CheckFirst::<K>` in a branch that is never taken for this
@@ -177,22 +179,23 @@ impl Kernel for Lanes16 {
 
     #[inline(always)]
     fn decode_checked(input: &[u8], output: &mut [u8]) -> bool {
-        loops::decode_in_steps::<16, true, Lanes16>(input, output)
+        loops::decode_in_steps::<16, true, Lanes16, Lanes16>(input, output)
     }
 
     #[inline(always)]
     fn decode_unchecked(input: &[u8], output: &mut [u8]) {
-        loops::decode_digits_in_steps::<16, Lanes16>(input, output);
+        loops::decode_digits_in_steps::<16, Lanes16, Lanes16>(input, output);
     }
 }
 
 impl LaneOps<16> for Lanes16 {
     #[inline(always)]
-    fn digits_of(v: u8x16, upper: bool, row_copy: bool) -> [u8x16; 2]
-        ensures text { concat result ≡ hex_text upper v }
-        ensures lanes { map length result ≡ 16 ∷ 16 ∷ [] }
+    #[tactic(auto, using(std::proofs::lemmas::Simd::put_chunk_whole))]
+    fn write_digits(v: u8x16, upper: bool, row_copy: bool, output: &mut [u8])
+        requires { length output.old ≡ 32 }
+        ensures { output.new ≡ hex_text upper v }
     {
-        in_two(encode_lanes(v, upper, row_copy))
+        encode_lanes(v, upper, row_copy).copy_to_slice(output);
     }
 
     // Constant time: this is a shuffle within a register, so no byte selects a memory address.
@@ -211,6 +214,14 @@ impl LaneOps<16> for Lanes16 {
         ensures { AllNibbles (first ++ second) → result ≡ byte_pairs (first ++ second) }
     {
         pack(join(first, second), row_copy)
+    }
+
+    // In lanes of 64 bits: for AArch64, LLVM joins those of 8 bits by five instructions more.
+    #[inline(always)]
+    fn are_unmarked(marks: u8x16) -> bool
+        ensures { IsTrue result ↔ AllUnmarked marks }
+    {
+        u64x2::from_le_bytes(marks & u8x16::splat(0xD8)).reduce_or() == 0
     }
 
     ghost use Rattle.std.proofs.Common.{arith};
@@ -260,7 +271,7 @@ fn decode_flagged(text: [u8x16; 2]) -> (u8x16, bool)
 {
     let marks = lanes::joint_marks::<16, Lanes16>(text[0], text[1]);
     let bytes = lanes::decode::<16, Lanes16>(text[0], text[1], false);
-    (bytes, lanes::are_unmarked(marks))
+    (bytes, Lanes16::are_unmarked(marks))
 }
 
 /// The lanes of both vectors, in order.

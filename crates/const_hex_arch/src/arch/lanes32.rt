@@ -6,7 +6,7 @@
 ghost use Rattle.std.specs.Prelude.{◌≡◌, ◌↔◌, [], ◌∷◌, ◌++◌, length, map, IsTrue, false, IsNone, IfSome};
 ghost use Rattle.std.specs.List.{AllZip, concat};
 ghost use Rattle.const_hex_arch.specs.Texts.{hex_value, hex_text, AllDigits, Spells};
-ghost use Rattle.const_hex_arch.specs.Lanes.{AllNibbles, byte_pairs, as_value, IsValueOf, IsLimitOf};
+ghost use Rattle.const_hex_arch.specs.Lanes.{AllNibbles, AllUnmarked, byte_pairs, as_value, IsValueOf, IsLimitOf};
 
 use crate::arch::lanes::{self, LaneOps};
 use crate::arch::lanes16::{self, Lanes16};
@@ -24,7 +24,8 @@ pub fn encode_chunk<const UPPER: bool>(v: u8x32) -> [u8x32; 2]
     ensures text { concat result ≡ hex_text UPPER v }
     ensures lanes { map length result ≡ 32 ∷ 32 ∷ [] }
 {
-    Lanes32::digits_of(v, UPPER, false)
+    let first = lanes16::encode_lanes(v.extract::<0, 16>(), UPPER, false);
+    [first, lanes16::encode_lanes(v.extract::<16, 16>(), UPPER, false)]
 }
 
 /// Whether every lane is a digit.
@@ -108,7 +109,7 @@ impl Kernel for Lanes32 {
 
     #[inline(always)]
     fn fill(input: &[u8], upper: bool, output: &mut [u8]) {
-        loops::fill_in_steps::<32, Lanes32>(input, upper, output);
+        loops::fill_in_steps::<32, Lanes32, Lanes16>(input, upper, output);
     }
 
     // Not `always`: `decode_body` calls `CheckFirst::<K>` in a branch that is never taken for this
@@ -123,29 +124,29 @@ impl Kernel for Lanes32 {
 
     #[inline(always)]
     fn decode_checked(input: &[u8], output: &mut [u8]) -> bool {
-        loops::decode_in_steps::<32, true, Lanes32>(input, output)
+        loops::decode_in_steps::<32, true, Lanes32, Lanes16>(input, output)
     }
 
     #[inline(always)]
     fn decode_all(input: &[u8], output: &mut [u8]) -> bool {
-        loops::decode_in_steps::<32, false, Lanes32>(input, output)
+        loops::decode_in_steps::<32, false, Lanes32, Lanes16>(input, output)
     }
 
     #[inline(always)]
     fn decode_unchecked(input: &[u8], output: &mut [u8]) {
-        loops::decode_digits_in_steps::<32, Lanes32>(input, output);
+        loops::decode_digits_in_steps::<32, Lanes32, Lanes16>(input, output);
     }
 }
 
 impl LaneOps<32> for Lanes32 {
     #[inline(always)]
-    fn digits_of(v: u8x32, upper: bool, row_copy: bool) -> [u8x32; 2]
-        ensures text { concat result ≡ hex_text upper v }
-        ensures lanes { map length result ≡ 32 ∷ 32 ∷ [] }
+    fn write_digits(v: u8x32, upper: bool, row_copy: bool, output: &mut [u8])
+        requires { length output.old ≡ 64 }
+        ensures { output.new ≡ hex_text upper v }
     {
-        let first = lanes16::encode_lanes(v.extract::<0, 16>(), upper, row_copy);
-        let second = lanes16::encode_lanes(v.extract::<16, 16>(), upper, row_copy);
-        [first, second]
+        let (front, back) = output.split_at_mut(32);
+        Lanes16::write_digits(v.extract::<0, 16>(), upper, row_copy, front);
+        Lanes16::write_digits(v.extract::<16, 16>(), upper, row_copy, back);
     }
 
     // In halves of 16 lanes, for which the mask costs nothing. With AVX2 the compiler makes one shuffle
@@ -166,6 +167,14 @@ impl LaneOps<32> for Lanes32 {
         pack(join(first, second), row_copy)
     }
 
+    // In lanes of 64 bits: for AArch64, LLVM joins those of 8 bits by five instructions more.
+    #[inline(always)]
+    fn are_unmarked(marks: u8x32) -> bool
+        ensures { IsTrue result ↔ AllUnmarked marks }
+    {
+        u64x4::from_le_bytes(marks & u8x32::splat(0xD8)).reduce_or() == 0
+    }
+
     ghost use Rattle.std.proofs.Common.{arith};
 
     ghost sizes = { (Prim.omega arith, Prim.omega arith) };
@@ -181,7 +190,7 @@ fn decode_flagged(text: [u8x32; 2]) -> (u8x32, bool)
 {
     let marks = lanes::joint_marks::<32, Lanes32>(text[0], text[1]);
     let bytes = lanes::decode::<32, Lanes32>(text[0], text[1], false);
-    (bytes, lanes::are_unmarked(marks))
+    (bytes, Lanes32::are_unmarked(marks))
 }
 
 /// The lanes of both vectors, in order.

@@ -9,32 +9,31 @@ use crate::arch::plain::Plain;
 use crate::arch::{Kernel, steps};
 use std::simd::prelude::*;
 
-/// Fills the output with two digits for each byte of less than two steps. `V` has the `N` lanes of a
-/// step.
+/// Fills the output with two digits for each of at most 15 bytes.
 #[inline(always)]
-pub(crate) fn fill<const N: usize, V: LaneOps<N>>(bytes: &[u8], upper: bool, output: &mut [u8])
+pub(crate) fn fill<S: LaneOps<16>>(bytes: &[u8], upper: bool, output: &mut [u8])
     requires size { length output.old ≡ 2 * length bytes.now }
-    requires short { length bytes.now < 2 * N }
+    requires short { length bytes.now < 16 }
     ensures { output.new ≡ hex_text upper bytes.now }
 {
-    if bytes.len() >= N {
-        fill_overlapping::<N, V>(bytes, upper, output);
-    } else if bytes.len() >= 16 {
-        fill_overlapping::<16, Lanes16>(bytes, upper, output);
-    } else if bytes.len() == 1 {
-        fill_ends::<1, 2>(bytes, upper, output);
+    if bytes.len() == 1 {
+        fill_ends::<1, 2, S>(bytes, upper, output);
     } else if bytes.len() >= 8 {
-        fill_ends::<8, 16>(bytes, upper, output);
+        fill_ends::<8, 16, S>(bytes, upper, output);
     } else if bytes.len() >= 4 {
-        fill_ends::<4, 8>(bytes, upper, output);
+        fill_ends::<4, 8, S>(bytes, upper, output);
     } else if bytes.len() >= 2 {
-        fill_ends::<2, 4>(bytes, upper, output);
+        fill_ends::<2, 4, S>(bytes, upper, output);
     }
 }
 
-/// As `fill`, for one to two steps: the first one, and the last one.
+/// As `fill`, for one to two steps: the first one, and the last one. `V` has the `N` lanes of a step.
 #[inline(always)]
-fn fill_overlapping<const N: usize, V: LaneOps<N>>(bytes: &[u8], upper: bool, output: &mut [u8])
+pub(crate) fn fill_overlapping<const N: usize, V: LaneOps<N>>(
+    bytes: &[u8],
+    upper: bool,
+    output: &mut [u8],
+)
     requires size { length output.old ≡ 2 * length bytes.now }
     requires least { N ≤ length bytes.now }
     requires most { length bytes.now ≤ 2 * N }
@@ -49,7 +48,7 @@ fn fill_overlapping<const N: usize, V: LaneOps<N>>(bytes: &[u8], upper: bool, ou
 
 /// As `fill`, for `H` to `2 * H` bytes. `D` is `2 * H`, the number of digits of `H` bytes.
 #[inline(always)]
-fn fill_ends<const H: usize, const D: usize>(bytes: &[u8], upper: bool, output: &mut [u8])
+fn fill_ends<const H: usize, const D: usize, S: LaneOps<16>>(bytes: &[u8], upper: bool, output: &mut [u8])
     requires half { (1 ≤ H) × (H ≤ 8) }
     requires digits { D ≡ 2 * H }
     requires size { length output.old ≡ 2 * length bytes.now }
@@ -58,8 +57,9 @@ fn fill_ends<const H: usize, const D: usize>(bytes: &[u8], upper: bool, output: 
     ensures { output.new ≡ hex_text upper bytes.now }
 {
     let mut text = [0; 32];
-    let ends = steps::load_ends::<H, 16>(bytes, 0);
-    steps::fill_step::<16, Lanes16>(&ends, upper, upper, &mut text);
+    // A single byte stands in each lane: one instruction loads it so.
+    let ends = steps::load_ends::<H, 16>(bytes, if H == 1 { bytes[0] } else { 0 });
+    steps::fill_step::<16, S>(&ends, upper, upper, &mut text);
     // Two parts of the array, which LLVM keeps in registers.
     let (first, last) = (Simd::from_slice(&text), Simd::from_slice(&text[D..]));
     // Not by the output's length: so a function that is not inlined needs no register for it.
@@ -97,24 +97,36 @@ fn check_ends<const H: usize>(text: &[u8]) -> bool
 
 /// Decodes a text to at most 16 bytes, by one vector operation on its first and last characters, and
 /// returns true. If some character is invalid, returns false, and the output is unchanged.
-// Not inlined: with this body the public decoders would be too large to be inlined.
-#[inline(never)]
-pub(crate) fn decode_small(text: &[u8], output: &mut [u8]) -> bool
+#[inline(always)]
+pub(crate) fn decode_short<S: LaneOps<16>>(text: &[u8], output: &mut [u8]) -> bool
     requires size { length text.now ≡ 2 * length output.old }
     requires short { length output.old ≤ 16 }
     ensures digits { IsTrue result ↔ AllDigits text.now }
     ensures spells { IsTrue result → Spells text.now output.new }
     ensures unchanged { result ≡ false → output.new ≡ output.old }
 {
-    if output.len() >= 8 {
-        decode_ends::<8, 16>(text, output)
+    if output.len() == 1 {
+        decode_ends::<1, 2, S>(text, output)
+    } else if output.len() >= 8 {
+        decode_ends::<8, 16, S>(text, output)
     } else if output.len() >= 4 {
-        decode_ends::<4, 8>(text, output)
-    } else if output.len() >= 2 {
-        decode_ends::<2, 4>(text, output)
+        decode_ends::<4, 8, S>(text, output)
     } else {
-        output.is_empty() || decode_ends::<1, 2>(text, output)
+        output.is_empty() || decode_ends::<2, 4, S>(text, output)
     }
+}
+
+/// As `decode_short`.
+// Not inlined: with this body the public decoders would be too large to be inlined.
+#[inline(never)]
+pub(crate) fn decode_small<S: LaneOps<16>>(text: &[u8], output: &mut [u8]) -> bool
+    requires size { length text.now ≡ 2 * length output.old }
+    requires short { length output.old ≤ 16 }
+    ensures digits { IsTrue result ↔ AllDigits text.now }
+    ensures spells { IsTrue result → Spells text.now output.new }
+    ensures unchanged { result ≡ false → output.new ≡ output.old }
+{
+    decode_short::<S>(text, output)
 }
 
 /// Decodes a text in which some character is invalid pair by pair, up to that one, and returns false.
@@ -133,7 +145,7 @@ pub(crate) fn decode_pairs(text: &[u8], output: &mut [u8]) -> bool
 /// false, and the output is unchanged. `D` is `2 * H`, the number of digits of `H` bytes.
 #[inline(always)]
 #[tactic(auto, using(crate::proofs::lemmas::Standard::through, crate::proofs::lemmas::Ends::digits_ends, std::proofs::lemmas::List::take_all))]
-fn decode_ends<const H: usize, const D: usize>(text: &[u8], output: &mut [u8]) -> bool
+fn decode_ends<const H: usize, const D: usize, S: LaneOps<16>>(text: &[u8], output: &mut [u8]) -> bool
     requires half { H ≤ 8 }
     requires digits { D ≡ 2 * H }
     requires size { length text.now ≡ 2 * length output.old }
@@ -146,7 +158,7 @@ fn decode_ends<const H: usize, const D: usize>(text: &[u8], output: &mut [u8]) -
     let mut bytes = [0; 16];
     // Not by the text's length: so a function that is not inlined needs no register for it.
     let step = steps::load_ends::<D, 32>(&text[..2 * output.len()], b'0');
-    let are_digits = steps::decode_step::<16, Lanes16>(&step, false, &mut bytes);
+    let are_digits = steps::decode_step::<16, S>(&step, false, &mut bytes);
     if are_digits {
         let last = Simd::from_slice(&bytes[H..]);
         put::<H>(Simd::from_slice(&bytes), last, output.len() - H, output);

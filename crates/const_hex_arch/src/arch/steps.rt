@@ -11,7 +11,7 @@ use std::simd::prelude::*;
 
 /// Fills the output with two digits for each byte of a step.
 #[inline(always)]
-#[tactic(auto, using(std::proofs::lemmas::List::take_all, crate::proofs::lemmas::LaneText::stored_pair))]
+#[tactic(auto, using(std::proofs::lemmas::List::take_all))]
 pub(crate) fn fill_step<const N: usize, V: LaneOps<N>>(
     bytes: &[u8],
     upper: bool,
@@ -22,9 +22,7 @@ pub(crate) fn fill_step<const N: usize, V: LaneOps<N>>(
     requires output { length output.old ≡ 2 * N }
     ensures { output.new ≡ hex_text upper bytes.now }
 {
-    let digits = V::digits_of(Simd::from_slice(bytes), upper, row_copy);
-    digits[0].copy_to_slice(output);
-    digits[1].copy_to_slice(&mut output[N..]);
+    V::write_digits(Simd::from_slice(bytes), upper, row_copy, output);
 }
 
 /// As `fill_step`, for the bytes of two steps.
@@ -81,7 +79,7 @@ pub(crate) fn check_pair<const N: usize, V: LaneOps<N>>(first: &[u8], second: &[
     ensures { IsTrue result ↔ AllDigits (first.now ++ second.now) }
 {
     let marks = lanes::joint_marks::<N, V>(Simd::from_slice(first), Simd::from_slice(second));
-    lanes::are_unmarked(marks)
+    V::are_unmarked(marks)
 }
 
 /// As `check_step`, for the text of two steps, by one test.
@@ -91,7 +89,7 @@ pub(crate) fn check_two_steps<const N: usize, V: LaneOps<N>>(text: &[u8]) -> boo
     requires { length text.now ≡ 2 * N }
     ensures { IsTrue result ↔ AllDigits text.now }
 {
-    lanes::are_unmarked(marks_of_two_steps::<N, V>(text))
+    V::are_unmarked(marks_of_two_steps::<N, V>(text))
 }
 
 /// As `check_step`, for the text of four steps, by one test.
@@ -101,7 +99,7 @@ pub(crate) fn check_four_steps<const N: usize, V: LaneOps<N>>(text: &[u8]) -> bo
     ensures { IsTrue result ↔ AllDigits text.now }
 {
     let (front, back) = text.split_at(2 * N);
-    lanes::are_unmarked(marks_of_two_steps::<N, V>(front) | marks_of_two_steps::<N, V>(back))
+    V::are_unmarked(marks_of_two_steps::<N, V>(front) | marks_of_two_steps::<N, V>(back))
 }
 
 /// Joined marks of the text of two steps. They are clear if and only if each byte is a digit.

@@ -1,4 +1,4 @@
-use Rattle.std.proofs.Common.{◌≡◌, ◌+◌, ◌-◌, ◌*◌, ◌≤◌, length, refl, arith}
+use Rattle.std.proofs.Common.{◌≡◌, ◌+◌, ◌-◌, ◌*◌, ◌≤◌, length, refl, arith, ◌∙◌, sym, subst}
 use Rattle.std.proofs.lemmas.List.{take_all}
 use borrow.Rule.Slice.PartMut.{put_mid}
 use Rattle.const_hex_arch.proofs.lemmas.LeftOutputs.{none_decoded}
@@ -6,7 +6,7 @@ use Rattle.const_hex_arch.proofs.lemmas.Standard.{false_is_true}
 use Rattle.const_hex_arch.proofs.lemmas.Steps.{IsDecoded, decoded_step, decoded_less, kept_step, refused_step, spells_rest, refused_rest}
 use Rattle.const_hex_arch.proofs.arch.loops.decode_in_steps.Given.{Over}
 use Rattle.const_hex_arch.proofs.arch.loops.decode_in_steps.Goals as goal
-use Rattle.const_hex_arch.proofs.arch.loops.decode_in_steps.Goals.{Joined-output-at-ge16, else-loop-output-test, then-loop-output-test+then-not-decode_two_steps, then-output-at-ge16+else-not-decode_step-2, else-output-at-ge16}
+use Rattle.const_hex_arch.proofs.arch.loops.decode_in_steps.Goals.{Joined-output-at-ge16, else-loop-output-test, then-loop-output-test+then-not-decode_two_steps+else-not-this-2, then-output-at-ge16+else-not-decode_step-2, else-output-at-ge16}
 
 pub loop-output-preserved : goal.loop-output-preserved
 loop-output-preserved g c =
@@ -16,7 +16,7 @@ loop-output-preserved g c =
 pub loop-output-2-init : goal.loop-output-2-init
 loop-output-2-init g c = elim c.loop-output-test.branch [
   | else-loop-output-test w ↦ rw w.output-is c.loop-output.invariant
-  | then-loop-output-test+then-not-decode_two_steps w ↦
+  | then-loop-output-test+then-not-decode_two_steps+else-not-this-2 w ↦
       rw (
         w.output-is,
         kept_step c.loop-output.output _ c.loop-output.at _
@@ -67,6 +67,16 @@ returns-then-decode_step-clause-spells g c = λ _.
     let start = length c.if-output-at-ge16.output - 16 in
     spells_rest _ (decoded_less start before.1 (omega arith)) (omega arith) (omega arith)
     (c.if-decode_step.ensures.spells refl)
+
+pub returns-then-output-le16-clause-refused : goal.returns-then-output-le16-clause-refused
+returns-then-output-le16-clause-refused g c = λ f.
+    let is = c.decode_short.ensures in
+    rw (is.unchanged f) (none_decoded _ _ (λ d. false_is_true (sym f ∙ is.digits.1 d)))
+
+pub returns-then-not-this-2-clause-refused : goal.returns-then-not-this-2-clause-refused
+returns-then-not-this-2-clause-refused g c = λ _.
+    let is = c.if-not-decode_two_steps.ensures in
+    refused_step _ _ _ _ c.loop-output.invariant c.requires (is.unchanged refl) (λ d. false_is_true (is.digits.1 d))
 
 pub returns-else-this-ne0-clause-refused : goal.returns-else-this-ne0-clause-refused
 returns-else-this-ne0-clause-refused g c = λ _.

@@ -1,0 +1,6 @@
+use Rattle.std.proofs.Common.{arith, length-append}
+use Rattle.const_hex_arch.proofs.lemmas.LanePairs.{pairs_are}
+use Rattle.const_hex_arch.proofs.arch.interleaved.InterleavedLaneOps16.merge.Goals as goal
+
+pub returns : goal.returns
+returns c = pairs_are 16 _ (simp length-append (omega arith))

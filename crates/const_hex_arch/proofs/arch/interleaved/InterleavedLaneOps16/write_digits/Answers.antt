@@ -1,0 +1,16 @@
+use Rattle.std.proofs.Common.{◌≡◌, ◌∙◌, ap, length, arith}
+use Rattle.std.proofs.lemmas.Simd.{put_chunk_whole}
+use Rattle.const_hex_arch.proofs.lemmas.LanePairs.{high_ok, low_ok, woven_text}
+use Rattle.const_hex_arch.proofs.arch.interleaved.InterleavedLaneOps16.write_digits.Goals as goal
+
+pub swizzle-first : goal.swizzle-first
+swizzle-first c = high_ok c.args.v c.fits-v
+
+pub swizzle-second : goal.swizzle-second
+swizzle-second c = low_ok c.args.v c.fits-v
+
+pub returns : goal.returns
+returns c =
+    let text = woven_text c.args.upper c.args.v c.fits-v in
+    put_chunk_whole _ _ (omega (arith, c.requires, ap length c.join.ensures)) ∙ c.join.ensures
+    ∙ rw c.digits_row-digits.ensures text

@@ -1,0 +1,131 @@
+//! The kernel for AArch64, whose vector instructions interleave the lanes of two vectors, and take them apart.
+
+ghost use Rattle.std.specs.Prelude.{◌≡◌, ◌↔◌, [], ◌∷◌, ◌++◌, length, map, IsTrue, false};
+ghost use Rattle.std.specs.List.{AllZip, concat};
+ghost use Rattle.const_hex_arch.specs.Texts.{hex_text};
+ghost use Rattle.const_hex_arch.specs.Lanes.{AllNibbles, AllUnmarked, byte_pairs, IsLimitOf};
+
+use crate::arch::lanes::LaneOps;
+use crate::arch::lanes16::{self, Lanes16};
+use crate::arch::lanes32::Lanes32;
+use crate::arch::{Kernel, loops};
+use std::simd::prelude::*;
+
+/// As [`Lanes32`], for a processor that interleaves the lanes of two vectors by one instruction. It decodes no
+/// pair of a remainder that has an invalid character.
+///
+/// ```rust
+/// let mut bytes = [0; 4];
+/// assert!(rt; Interleaved::decode_checked(b"6b697769", &mut bytes));
+/// assert_eq!(rt; bytes, *b"kiwi");
+/// ```
+#[derive(Drop)]
+pub struct Interleaved;
+
+impl Kernel for Interleaved {
+    ghost USE_CHECK_FN = { false };
+
+    const USE_CHECK_FN: bool = false;
+
+    ghost PIECE = { 64 };
+
+    const PIECE: usize = 64;
+
+    #[inline(always)]
+    fn fill(input: &[u8], upper: bool, output: &mut [u8]) {
+        loops::fill_in_steps::<32, Interleaved, Interleaved>(input, upper, output);
+    }
+
+    #[inline]
+    fn check(input: &[u8]) -> bool {
+        Lanes32::check(input)
+    }
+
+    #[inline(always)]
+    fn decode_checked(input: &[u8], output: &mut [u8]) -> bool {
+        loops::decode_in_steps::<32, false, Interleaved, Interleaved>(input, output)
+    }
+
+    #[inline(always)]
+    fn decode_unchecked(input: &[u8], output: &mut [u8]) {
+        Lanes32::decode_unchecked(input, output);
+    }
+}
+
+impl LaneOps<16> for Interleaved {
+    #[inline(always)]
+    fn write_digits(v: u8x16, upper: bool, _row_copy: bool, output: &mut [u8])
+        requires { length output.old ≡ 32 }
+        ensures { output.new ≡ hex_text upper v }
+    {
+        let digits = u8x16::from_array(lanes16::digits_row(upper));
+        let first = digits.swizzle_dyn(v >> u8x16::splat(4));
+        let second = digits.swizzle_dyn(v & u8x16::splat(15));
+        let (front, back) = first.interleave(second);
+        lanes16::join(front, back).copy_to_slice(output);
+    }
+
+    #[inline(always)]
+    fn look_up_limits(v: u8x16) -> u8x16
+        ensures { AllZip IsLimitOf v result }
+    {
+        Lanes16::look_up_limits(v)
+    }
+
+    #[inline(always)]
+    fn merge(first: u8x16, second: u8x16, _row_copy: bool) -> u8x16
+        ensures { AllNibbles (first ++ second) → result ≡ byte_pairs (first ++ second) }
+    {
+        let (high, low) = first.deinterleave(second);
+        (high << u8x16::splat(4)) | low
+    }
+
+    #[inline(always)]
+    fn are_unmarked(marks: u8x16) -> bool
+        ensures { IsTrue result ↔ AllUnmarked marks }
+    {
+        Lanes16::are_unmarked(marks)
+    }
+
+    ghost use Rattle.std.proofs.Common.{arith};
+
+    ghost sizes = { (Prim.omega arith, Prim.omega arith) };
+}
+
+impl LaneOps<32> for Interleaved {
+    #[inline(always)]
+    fn write_digits(v: u8x32, upper: bool, row_copy: bool, output: &mut [u8])
+        requires { length output.old ≡ 64 }
+        ensures { output.new ≡ hex_text upper v }
+    {
+        let (front, back) = output.split_at_mut(32);
+        <Interleaved as LaneOps<16>>::write_digits(v.extract::<0, 16>(), upper, row_copy, front);
+        <Interleaved as LaneOps<16>>::write_digits(v.extract::<16, 16>(), upper, row_copy, back);
+    }
+
+    #[inline(always)]
+    fn look_up_limits(v: u8x32) -> u8x32
+        ensures { AllZip IsLimitOf v result }
+    {
+        Lanes32::look_up_limits(v)
+    }
+
+    #[inline(always)]
+    fn merge(first: u8x32, second: u8x32, _row_copy: bool) -> u8x32
+        ensures { AllNibbles (first ++ second) → result ≡ byte_pairs (first ++ second) }
+    {
+        let (high, low) = first.deinterleave(second);
+        (high << u8x32::splat(4)) | low
+    }
+
+    #[inline(always)]
+    fn are_unmarked(marks: u8x32) -> bool
+        ensures { IsTrue result ↔ AllUnmarked marks }
+    {
+        Lanes32::are_unmarked(marks)
+    }
+
+    ghost use Rattle.std.proofs.Common.{arith};
+
+    ghost sizes = { (Prim.omega arith, Prim.omega arith) };
+}
