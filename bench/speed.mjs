@@ -68,7 +68,7 @@ const median = (times) => times.sort((a, b) => a - b)[times.length >> 1];
 
 /** Returns a row of cells for each way, by rounds in which all ways take turns. */
 function rowsOf(ways, inputsOf, read) {
-    const rows = Object.keys(ways).map((name) => [name]);
+    const rows = Object.keys(ways).map((name, way) => [way === 0 ? `${name}, ns` : name]);
     for (const size of SIZES) {
         const inputs = inputsOf(size);
         const calls = Object.values(ways);
@@ -80,7 +80,7 @@ function rowsOf(ways, inputsOf, read) {
             });
         }
         const [first, ...others] = times.map(median);
-        rows[0].push(`${Math.round(first)} ns`);
+        rows[0].push(Math.round(first));
         others.forEach((time, way) => rows[way + 1].push((time / first).toFixed(2)));
     }
     return rows;
