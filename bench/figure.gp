@@ -1,8 +1,9 @@
-# Draws how many instructions a byte costs, from the tables that `cargo run --release` prints: gnuplot -c figure.gp TABLES
-set terminal svg size 800,390 font "sans-serif,12"
+# Draws how many instructions a byte costs, from the tables that `cargo run --release` prints, below a title:
+# gnuplot -c figure.gp TABLES TITLE
+set terminal svg size 800,420 font "sans-serif,12" background "white"
 set datafile separator "|"
 set key autotitle columnhead
-set multiplot layout 1,2
+set multiplot layout 1,2 title ARG2 noenhanced
 set logscale xy 2
 set xlabel "bytes"
 set xrange [1:131072]

@@ -64,7 +64,10 @@ export interface Decoder {
     end(): void;
 }
 
-/** Returns a stream that encodes chunks of bytes: `blob.stream().pipeThrough(encoderStream({ prefix: true }))`. */
+/**
+ * Returns a stream that encodes chunks of bytes: `blob.stream().pipeThrough(encoderStream({ prefix: true }))`.
+ * The type `TransformStream` is in TypeScript's library `dom`, and in `@types/node`.
+ */
 export function encoderStream(options?: EncodeOptions | null): TransformStream<Bytes, string>;
 
 /** Returns a stream that decodes chunks of text: `response.body.pipeThrough(decoderStream())`. */

@@ -30,7 +30,8 @@ if(CMAKE_SYSTEM_PROCESSOR MATCHES "aarch64|arm64")
 endif()
 set(CPACK_DEBIAN_PACKAGE_SECTION libdevel)
 set(CPACK_PACKAGE_DESCRIPTION "The machine code of the library is formally verified, and constant-time
-for valid input. The package has the header, and both libraries.")
+for valid input, except for const_hex_error_message. The package has the header, and both
+libraries.")
 file(WRITE ${PROJECT_BINARY_DIR}/triggers "activate-noawait ldconfig\n")
 file(WRITE ${PROJECT_BINARY_DIR}/shlibs "libconst_hex ${PROJECT_VERSION_MAJOR} libconst-hex-dev (>= ${PROJECT_VERSION})\n")
 set(CPACK_DEBIAN_PACKAGE_CONTROL_EXTRA ${PROJECT_BINARY_DIR}/triggers ${PROJECT_BINARY_DIR}/shlibs)

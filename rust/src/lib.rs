@@ -25,6 +25,7 @@
 //!
 //! No function is claimed to be constant-time: of what runs, only the machine code is, and for valid input.
 #![no_std]
+#![cfg_attr(docsrs, feature(doc_cfg))]
 #![deny(unsafe_code, unsafe_op_in_unsafe_fn)]
 #![warn(missing_docs)]
 

@@ -54,7 +54,7 @@ const TOOLS: [(&str, &str); 5] = [
     ("xxd -p disk.img | tr -d '\\n' | sed 's/......../&-/g; s/-$//'", "-g4 -s-"),
 ];
 
-/// Files that the page names, how they are made, and what writes the bytes that they stand for.
+/// Files that the manual names, how they are made, and what writes the bytes that they stand for.
 const FILES: [(&str, &str, &str); 5] = [
     ("disk.img", "true", "cat disk.img"),
     (
@@ -79,24 +79,26 @@ const FILES: [(&str, &str, &str); 5] = [
     ),
 ];
 
-/// Lines of the page are lines of the manual, and decode to the bytes of the file that they name.
+/// Lines of the manual decode to the bytes of the file that they name. Those of the page are among them.
 #[test]
 fn other_tools() {
     let folder = Folder::new("tools");
-    let manual = include_str!("../hexfilter.1");
-    let manual = manual
+    let manual = include_str!("../hexfilter.1")
         .replace("\\-", "-")
         .replace("\\(aq", "'")
         .replace("\\(ha", "^")
         .replace("\\e", "\\");
+    let (_, lines) = manual.split_once("Each of these lines").unwrap();
+    let lines: Vec<&str> = lines.lines().filter(|line| line.contains("| hexfilter -d")).collect();
     let page = include_str!("../README.md")
         .lines()
-        .filter_map(|line| line.strip_prefix("    "));
-    let page = page
-        .filter(|line| line.contains("| hexfilter -d"))
-        .map(|line| line.split("  #").next().unwrap());
-    let decoded = page.map(|line| {
-        assert!(manual.contains(line.trim()), "{line} is not in the manual");
+        .filter_map(|line| line.strip_prefix("    "))
+        .filter(|line| line.contains("| hexfilter -d"));
+    for line in page {
+        let line = line.split("  #").next().unwrap().trim();
+        assert!(lines.contains(&line), "{line} is not in the manual");
+    }
+    let decoded = lines.iter().map(|line| {
         let is_named = |(name, _, _): &&(&str, _, _)| line.contains(name);
         (line.to_string(), FILES.iter().find(is_named).expect(line).2.to_string())
     });
