@@ -74,12 +74,12 @@ def mixed(function):
 
 
 def extract(s, i):
-    *vectors, at = i.operands
+    *vectors, first = i.operands
     to, one, other = same(*vectors)
-    s.put_lane(to, (s.lane(one) + s.lane(other))[at.value :][: to.size])
+    s.put_lane(to, (s.lane(one) + s.lane(other))[first.value :][: to.size])
 
 
 def look_up(s, i):
-    to, table, at = i.operands
+    to, table, by = i.operands
     entries = s.lane(table)
-    s.put_lane(to, [simple(z3.If(z3.ULT(index, 16), chosen(entries, index), byte(0))) for index in s.lane(at)])
+    s.put_lane(to, [simple(z3.If(z3.ULT(index, 16), chosen(entries, index), byte(0))) for index in s.lane(by)])

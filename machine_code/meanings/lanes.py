@@ -8,7 +8,7 @@ from execution.state import joined, simple, split
 
 def units(lane, size):
     """The numbers of so many bytes that a lane has."""
-    return [joined(lane[at : at + size]) for at in range(0, len(lane), size)]
+    return [joined(lane[first : first + size]) for first in range(0, len(lane), size)]
 
 
 def bytes_of(numbers):

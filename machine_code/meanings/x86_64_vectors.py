@@ -26,7 +26,7 @@ def by_halves(function):
     def handler(s, i):
         to, one, other = three(s, i)
         a, b = s.lane(one, i), s.lane(other, i)
-        s.put_vector(to, [x for at in range(0, to.size, 16) for x in function(a[at : at + 16], b[at : at + 16])])
+        s.put_vector(to, [x for first in range(0, to.size, 16) for x in function(a[first:][:16], b[first:][:16])])
     return handler
 
 
@@ -43,15 +43,15 @@ def looked_up(table, index):
 
 
 def interleaved(size):
-    return by_halves(lambda a, b: [x for at in range(0, 8, size) for x in a[at : at + size] + b[at : at + size]])
+    return by_halves(lambda a, b: [x for first in range(0, 8, size) for x in a[first:][:size] + b[first:][:size]])
 
 
 def move_vector(is_aligned):
     def handler(s, i):
         to, by = i.operands
         if to.kind == "memory":
-            return s.store(s.address(to, i), s.lane(by, i), is_aligned)
-        s.put_vector(to, s.load(s.address(by, i), by.size, is_aligned) if by.kind == "memory" else s.lane(by, i))
+            return s.store(s.address_of(to, i), s.lane(by, i), is_aligned)
+        s.put_vector(to, s.load(s.address_of(by, i), by.size, is_aligned) if by.kind == "memory" else s.lane(by, i))
     return handler
 
 
@@ -66,21 +66,18 @@ def move_low(size):
 
 def insert(size):
     def handler(s, i):
-        to, *one, by, at = i.operands
-        one = one[0] if one else to
-        require(at.value < to.size // size, "an index")
-        lane = list(s.lane(one, i))
-        lane[at.value * size : (at.value + 1) * size] = s.lane(by, i, size)
-        s.put_vector(to, lane)
+        to, *one, by, index = i.operands
+        require(index.value < to.size // size, "an index")
+        lane, first = s.lane([*one, to][0], i), index.value * size
+        s.put_vector(to, lane[:first] + s.lane(by, i, size) + lane[first + size :])
     return handler
 
 
 def extract(size):
     def handler(s, i):
-        to, one, at = i.operands
-        require(at.value < 16 // size, "an index")
-        lane = s.lane(one, i)[at.value * size : (at.value + 1) * size]
-        s.put(to, i, joined(lane + [byte(0)] * (to.size - size)))
+        to, one, index = i.operands
+        require(index.value < 16 // size, "an index")
+        s.put(to, i, joined(s.lane(one, i)[index.value * size :][:size] + [byte(0)] * (to.size - size)))
     return handler
 
 
@@ -106,14 +103,14 @@ def widen(s, i):
 def permute(s, i):
     to, by, how = i.operands
     lane = s.lane(by, i)
-    s.put_vector(to, [x for at in range(0, 8, 2) for x in lane[8 * (how.value >> at & 3) :][:8]])
+    s.put_vector(to, [x for bit in range(0, 8, 2) for x in lane[8 * (how.value >> bit & 3) :][:8]])
 
 
 def extract_half(s, i):
-    to, one, at = i.operands
-    require(at.value < 2, "an index")
-    lane = s.lane(one, i)[16 * at.value :][:16]
-    return s.store(s.address(to, i), lane) if to.kind == "memory" else s.put_vector(to, lane)
+    to, one, index = i.operands
+    require(index.value < 2, "an index")
+    lane = s.lane(one, i)[16 * index.value :][:16]
+    return s.store(s.address_of(to, i), lane) if to.kind == "memory" else s.put_vector(to, lane)
 
 
 def vzeroupper(s, i):

@@ -19,8 +19,6 @@ class Facts:
 
     def __init__(self, is_impossible):
         self.conditions, self.ranges, self.sums, self._is_impossible = [], {}, {}, is_impossible
-        # Values for which all of them hold, as far as some are known.
-        self.models = []
 
     def and_also(self, fact):
         """These facts and another one, or None if that is not linear."""
@@ -30,7 +28,6 @@ class Facts:
             other.conditions.append(other.condition(fact))
         except ValueError:
             return None
-        other.models = [model for model in self.models if z3.is_true(model.eval(other.conditions[-1], True))]
         return other
 
     def imply(self, *conditions):
@@ -65,10 +62,10 @@ class Facts:
             part = _divided(self._number(children[0]), 1 << low) if low else self._number(children[0])
             return part if high == children[0].size() - 1 else self._cut(term, part)
         if kind == z3.Z3_OP_CONCAT:
-            found = z3.IntVal(0)
+            whole = z3.IntVal(0)
             for child in children:
-                found = found * (1 << child.size()) + self._number(child)
-            return z3.simplify(found)
+                whole = whole * (1 << child.size()) + self._number(child)
+            return z3.simplify(whole)
         raise ValueError(term)
 
     def _cut(self, term, number):

@@ -55,7 +55,7 @@ class Processor:
         symbol = next(symbol for symbol in found.symbols if re.fullmatch(function, symbol))
         self.code = Code(content, PROCESSORS, symbol, {})
         for start in found.starts:
-            start in self.code.instructions  # which reads them
+            self.code.instructions[start]  # which reads them
         self.meanings = self.code.processor
         name = self.meanings.__name__.rpartition(".")[2]
         self.names, compiler, emulator, self.bits, self.jump, self.not_form = KINDS[name]
@@ -108,7 +108,7 @@ class Processor:
                 memory[0][at : at + len(lane)] = bytes(simple(value).as_long() for value in lane)
 
         state = Concrete()
-        state.code, state.calls, state.facts, state.is_clean, state.is_legacy = self.code, {}, [], True, False
+        state.code, state.calls, state.facts, state.is_legacy = self.code, {}, [], False
         near = some.choice(NEAR)
         state.general = {name: int.from_bytes(_random_bytes(some, 8), "little") if near is None else
                          (near + some.randrange(-1, 2)) % (1 << 64) for name in self.names}
@@ -125,7 +125,7 @@ class Processor:
         """Lets an address lie in the scratch area, aligned for any access."""
         for o in i.operands if i.mnemonic != "lea" else ():
             if o.kind == "memory" and ("rip", 1) not in getattr(o, "terms", ()):
-                terms = getattr(o, "terms", None) or [(o.base, 1)] + ([(o.index, 1 << o.count)] if o.index else [])
+                terms = getattr(o, "terms", None) or [(o.base, 1)] + ([(o.index, 1)] if o.index else [])
                 rest = o.offset
                 for name, scale in terms[1:]:
                     state.general[name] = some.randrange(256) & -32

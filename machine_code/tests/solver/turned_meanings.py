@@ -298,7 +298,7 @@ class Compared:
         code = copy.copy(self.runner.code)
         code.processor, code.instructions = meanings, Instructions(code._read)
         for start in code.object.starts:
-            start in code.instructions  # which reads them
+            code.instructions[start]  # which reads them
         return code
 
     def notices(self, modules, file, place, said):

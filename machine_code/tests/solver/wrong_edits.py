@@ -113,7 +113,7 @@ WRONG = [
      "jne SYMBOL(const_hex_check_nonnull)", "it calls nothing", "the error is not NULL", "or_null"),
     ("a byte more on the stack of a kernel", "dispatch", "kernel_check", "je \\name\\()_v3",
      "push rax; je \\name\\()_v3; pop rax", STACK, "every call", "kernel"),
-    ("the local error is too high", ARM, "decode", "sp, #16", "sp, #24", "the local error is not in the stack",
+    ("the local error is too high", ARM, "decode", "sp, #16", "sp, #24", "may lie outside of stack",
      "the error is NULL", "or_null"),
     # The module
     ("an access far beyond the constants", "wasm", "encode", "local.get 10; v128.load align=1; local.tee 12",
