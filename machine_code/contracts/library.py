@@ -139,21 +139,21 @@ class Search(Function):
 
 
 class FirstInvalid(Search):
-    """find_invalid_character(found, text, length): a text of less than 4 characters has no prefix."""
+    """find_invalid_character(result, text, length): a text of less than 4 characters has no prefix."""
 
     symbol, function, name = "const_hex_body_find_invalid_character", "find_invalid_character", "any text"
-    regions, arguments = (Region("found", word(16)), TEXT), (base("found"), base("input"), N)
+    regions, arguments = (Region("result", word(16)), TEXT), (base("result"), base("input"), N)
 
     def cases(self, state):
         return with_prefix_or_without(state, least=4)
 
     def returns(self, state):
-        must_have(state, "found", *self.outcome(state, *first_invalid(state)))
+        must_have(state, "result", *self.outcome(state, *first_invalid(state)))
 
-    def called(self, state, found, input, n):
+    def called(self, state, result, input, n):
         for way, first in by_prefix(state, offset_in(state, "input", input), n, least=4):
             for other, *invalid in first_invalid_from(way, input, first, n):
-                self.leave(other, found, self.outcome(other, *invalid), 16)
+                self.leave(other, result, self.outcome(other, *invalid), 16)
                 yield other, None
 
 
@@ -182,21 +182,18 @@ class Text(Exported):
         must_be_decoded(state, offset, lane)
 
     def returns(self, state):
-        result, errors, count = state.result(), self.errors(state), self.count(state)
-        is_true = state.holds(result == 1)
-        if "written" in state.regions:
-            must_have(state, "written", in_size_t(state, count if is_true else word(0)))
-        if is_true:
-            for is_error, what, *_ in errors:
+        result = state.result()
+        if state.holds(result == 1):
+            for is_error, what, *_ in self.errors(state):
                 state.must(z3.Not(is_error), f"{what} is accepted")
             must_be_digits(state, N)
-            if "output" in state.regions:
-                must_be_written(state, count, "a byte is left out")
             must_be_unchanged(state, "error")
             return self.accepts(state)
         state.must(result == 0, "the result is neither true nor false")
         must_be_a_front(state)
-        for is_error, what, *error in errors:
+        if "written" in state.regions:
+            must_have(state, "written", in_size_t(state, word(0)))
+        for is_error, what, *error in self.errors(state):
             if state.holds(is_error):
                 must_be_unchanged(state, "decoder")
                 return must_fail(state, *error)
@@ -207,9 +204,13 @@ class Text(Exported):
 
     def accepts(self, state):
         """What else holds if the result is true."""
+        if "output" in state.regions:
+            must_be_written(state, self.count(state), "a byte is left out")
+        if "written" in state.regions:
+            must_have(state, "written", in_size_t(state, self.count(state)))
 
     def rejects(self, state, index, character):
-        """What holds if the first invalid character is this one."""
+        """What holds if the first invalid character is this one, with its index."""
         must_fail(state, INVALID_CHARACTER, index, character)
 
 
@@ -321,6 +322,7 @@ class DecoderUpdate(Text):
                 (z3.UGT(self.count(state), SIZE), "more than fits", INVALID_LENGTH)]
 
     def accepts(self, state):
+        super().accepts(state)
         position, character, _ = decoder_of(state)
         must_have(state, "decoder", in_size_t(state, moved(state, position, N)))
         waits = self.waits(state)
@@ -356,13 +358,13 @@ class ChangedDecoder(DecoderUpdate):
 
 
 class DecoderFail(Search):
-    """decoder_fail(found, decoder, before, text, length), of a chunk, before which come some characters: the decoder
+    """decoder_fail(result, decoder, before, text, length), of a chunk, before which come some characters: the decoder
     moves to the invalid one, and keeps the error."""
 
     symbol, function, name = "const_hex_decoder_fail", "decoder_fail", "every decoder and chunk"
     before = z3.BitVec("p_before", 64)
-    regions = *[lambda size, name=name: Region(name, word(2 * size)) for name in ("found", "decoder")], TEXT
-    arguments = base("found"), base("decoder"), before, base("input"), N
+    regions = *[lambda size, name=name: Region(name, word(2 * size)) for name in ("result", "decoder")], TEXT
+    arguments = base("result"), base("decoder"), before, base("input"), N
 
     def cases(self, state):
         return [with_decoder(state)]
@@ -374,14 +376,14 @@ class DecoderFail(Search):
 
     def returns(self, state):
         outcomes = self.outcomes(state, decoder_of(state)[0], self.before, *first_invalid(state))
-        for name, numbers in zip(("found", "decoder"), outcomes):
+        for name, numbers in zip(("result", "decoder"), outcomes):
             must_have(state, name, *numbers)
 
-    def called(self, state, found, decoder, before, input, n):
-        require(set(names(found)).isdisjoint(names(decoder)), "a decoder in the place of what is found")
+    def called(self, state, result, decoder, before, input, n):
+        require(set(names(result)).isdisjoint(names(decoder)), "a decoder in the place of what is found")
         position = simple(z3.ZeroExt(64 - 8 * state.WORD, joined(state.load(decoder, state.WORD))))
         for way, *invalid in first_invalid_from(state, input, 0, n):
-            for address, numbers in zip((found, decoder), self.outcomes(way, position, before, *invalid)):
+            for address, numbers in zip((result, decoder), self.outcomes(way, position, before, *invalid)):
                 self.leave(way, address, numbers, 2 * way.WORD)
             yield way, None
 

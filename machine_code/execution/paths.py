@@ -88,7 +88,7 @@ def step(code, state):
     to = code.processor.HANDLERS[instruction.mnemonic](state, instruction)
     state.drop_below()
     if isinstance(to, Branch):
-        return branches(state, to)
+        return [*branches(state, to)]
     if isinstance(to, list):
         return [way for way in (state.when(condition, target) for condition, target in to) if way]
     if z3.is_expr(to):
@@ -98,12 +98,12 @@ def step(code, state):
 
 
 def branches(state, to):
+    """The states after a jump on a condition. Time may depend on the input where it is surely invalid."""
     certain = state.choose(to.choice)
-    ways = {True: state.when(to.choice, to.target), False: state.when(z3.Not(to.choice), state.next)}
-    for truth, way in ways.items():
-        if way and certain is not None and truth is not certain:
-            way.may_leak = True
-    return [way for way in ways.values() if way]
+    for truth, condition, target in (True, to.choice, to.target), (False, z3.Not(to.choice), state.next):
+        if way := state.when(condition, target):
+            way.may_leak |= certain is not None and truth is not certain
+            yield way
 
 
 def returned(state, to):

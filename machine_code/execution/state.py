@@ -146,7 +146,7 @@ class State:
             return None
         other = self.copy()
         other.assume(condition)
-        other.address = address or self.address
+        other.address = self.address if address is None else address
         return other
 
     def is_valid(self):

@@ -141,7 +141,7 @@ class Directed(Unproved):
     def when(self, condition, address=None):
         other = self.copy()
         other.assume(condition)
-        other.address = address or self.address
+        other.address = self.address if address is None else address
         return other
 
 

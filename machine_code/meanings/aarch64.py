@@ -11,10 +11,9 @@ import z3
 
 from execution import state
 from execution.paths import Branch
-from execution.state import byte, joined, simple, split, word
-from meanings.aarch64_vectors import (by_units, constant, duplicate, either, extract, look_up, mixed, move, narrow,
-                                      shift_right, widen)
-from meanings.lanes import ADD, AND, MINIMUM, MULTIPLY, OR, SUBTRACT, SUBTRACT_SATURATED, XOR
+from execution.state import byte, chosen, joined, simple, split, word
+from meanings.lanes import (ADD, AND, MINIMUM, MULTIPLY, OR, SUBTRACT, SUBTRACT_SATURATED, XOR, bytes_of, conditions,
+                            difference_flags, each, holds, logic_flags, sum_flags, units)
 from reading import assembled
 from reading.image import AARCH64
 from solver.questions import require
@@ -75,7 +74,7 @@ def _is_target(i):
 
 
 def instructions(code, part, level):
-    """Those of some code by their addresses."""
+    """The instructions of a part of a file, by their addresses."""
     command = ["aarch64-linux-gnu-as", "-march=armv8-a"]
     return assembled.read(part, AARCH64, _operands, command, assembled.with_distance, _is_page)
 
@@ -141,31 +140,16 @@ class State(state.State):
 
 
 SHIFTS = {"lsl": lambda a, by: a * (1 << by), "lsr": z3.LShR}
-CONDITIONS = {
-    "eq": lambda n, z, c, v: z, "cs": lambda n, z, c, v: c, "hi": lambda n, z, c, v: z3.And(c, z3.Not(z)),
-    "gt": lambda n, z, c, v: z3.And(z3.Not(z), n == v),
-}
-CONDITIONS |= {new: lambda *flags, old=old: z3.Not(CONDITIONS[old](*flags)) for new, old in
-               {"ne": "eq", "cc": "cs", "ls": "hi", "le": "gt"}.items()}
+CONDITIONS = conditions(
+    {"eq": lambda flag: flag("z"), "cs": lambda flag: flag("c"),
+     "hi": lambda flag: z3.And(flag("c"), z3.Not(flag("z"))),
+     "gt": lambda flag: z3.And(z3.Not(flag("z")), flag("s") == flag("o"))},
+    {"ne": "eq", "cc": "cs", "ls": "hi", "le": "gt"})
 
 
-def condition(s, name):
-    require(s.flags is not None, "a flag that is not known")
-    return simple(CONDITIONS[name](*s.flags))
-
-
-def sum_flags(a, b):
-    result = a + b
-    return result < 0, result == 0, z3.ULT(result, a), (a ^ result) & (b ^ result) < 0
-
-
-def difference_flags(a, b):
-    result = a - b
-    return result < 0, a == b, z3.UGE(a, b), (a ^ b) & (a ^ result) < 0
-
-
-def logic_flags(a, b):
-    return simple(a & b) < 0, simple(a & b) == 0, z3.BoolVal(False), z3.BoolVal(False)
+def comparison_flags(a, b):
+    """Of a difference. The carry says that nothing is borrowed."""
+    return difference_flags(a, b) | {"c": z3.UGE(a, b)}
 
 
 # General instructions
@@ -212,13 +196,92 @@ def select(function):
     def handler(s, i):
         to, one, other, name = i.operands
         a, b = s.number(one, to.size), s.number(other, to.size)
-        s.put(to, s.either(condition(s, name.text), a, simple(function(b))))
+        s.put(to, s.either(holds(s, CONDITIONS[name.text]), a, simple(function(b))))
     return handler
 
 
 def set_if(s, i):
     to, name = i.operands
-    s.put(to, s.either(condition(s, name.text), z3.BitVecVal(1, 8 * to.size), z3.BitVecVal(0, 8 * to.size)))
+    s.put(to, s.either(holds(s, CONDITIONS[name.text]), z3.BitVecVal(1, 8 * to.size), z3.BitVecVal(0, 8 * to.size)))
+
+
+# Vectors
+def same(*vectors):
+    """The vectors have the same lanes."""
+    require(all(o.kind == "vector" and o.lane for o in vectors), "vectors are needed")
+    return vectors
+
+
+def by_units(function):
+    def handler(s, i):
+        to, one, other = same(*i.operands)
+        s.put_lane(to, each(function, to.lane, s.lane(one), s.lane(other)))
+    return handler
+
+
+def either(of_general, of_vectors):
+    return lambda s, i: (of_general if i.operands[0].kind == "general" else of_vectors)(s, i)
+
+
+def shift_right(s, i):
+    *vectors, by = i.operands
+    to, one = same(*vectors)
+    s.put_lane(to, each(lambda a: z3.LShR(a, by.value), to.lane, s.lane(one)))
+
+
+def constant(s, i):
+    to, number = i.operands
+    require(to.lane, "a vector is needed")
+    s.put_lane(to, split(z3.BitVecVal(number.value, 8 * to.lane)) * (to.size // to.lane))
+
+
+def move(s, i):
+    """Between registers of any kind. What is above in a register is cleared."""
+    to, by = i.operands
+    if by.kind == "number":
+        return s.put(to, s.number(by, to.size))
+    if by.kind == to.kind == "general":
+        return s.put(to, s.number(by, to.size))
+    # An element comes from the lower bytes of a register, and goes into a register that may be wider.
+    s.put_lane(to, s.lane(by)[: to.size] + [byte(0)] * (to.size - by.size))
+
+
+def duplicate(s, i):
+    to, by = i.operands
+    s.put_lane(to, s.lane(by)[: to.lane] * (to.size // to.lane))
+
+
+def widen(s, i):
+    to, by = i.operands
+    is_upper = i.mnemonic.endswith("2")
+    half = s.lane(by)[8 * is_upper :]
+    s.put_lane(to, [x for a in units(half, by.lane) for x in split(a) + [byte(0)] * by.lane])
+
+
+def narrow(s, i):
+    to, by, *count = i.operands
+    shifted = [z3.LShR(a, count[0].value if count else 0) for a in units(s.lane(by), by.lane)]
+    s.put_lane(to, bytes_of(z3.Extract(8 * to.lane - 1, 0, a) for a in shifted))
+
+
+def mixed(function):
+    """An instruction that takes numbers of two vectors."""
+    def handler(s, i):
+        to, one, other = same(*i.operands)
+        s.put_lane(to, bytes_of(function(units(s.lane(one), to.lane), units(s.lane(other), to.lane))))
+    return handler
+
+
+def extract(s, i):
+    *vectors, first = i.operands
+    to, one, other = same(*vectors)
+    s.put_lane(to, (s.lane(one) + s.lane(other))[first.value :][: to.size])
+
+
+def look_up(s, i):
+    to, table, by = i.operands
+    entries = s.lane(table)
+    s.put_lane(to, [simple(z3.If(z3.ULT(index, 16), chosen(entries, index), byte(0))) for index in s.lane(by)])
 
 
 # Jumps
@@ -234,7 +297,7 @@ def ret(s, i):
 
 
 def jump_if(s, i):
-    return Branch(condition(s, i.mnemonic[2:]), i.operands[0].value)
+    return Branch(holds(s, CONDITIONS[i.mnemonic[2:]]), i.operands[0].value)
 
 
 def jump_if_bit(s, i):
@@ -247,13 +310,14 @@ def jump_if_zero(s, i):
     return Branch(is_zero if i.mnemonic == "cbz" else simple(z3.Not(is_zero)), i.operands[1].value)
 
 
-# Loads and stores: how many bytes are of each register, if not all
-LOADS = {"ldr": None, "ldur": None, "ldp": None, "ld1": None, "ldrb": 1, "ldurb": 1, "ldrh": 2}
-STORES = {"str": None, "stur": None, "stp": None, "st1": None, "strb": 1, "sturb": 1, "strh": 2}
+# Loads and stores
+LOADS = "ldr", "ldur", "ldp", "ld1", "ldrb", "ldurb", "ldrh"
+STORES = "str", "stur", "stp", "st1", "strb", "sturb", "strh"
 
 
-def accessed(s, i, table):
-    """The registers of a load or store, how many bytes are of each, the address, and what moves the base then."""
+def accessed(s, i):
+    """The registers of a load or store, how many bytes are of each: all, or what the last letter says; the address, and
+    what the base is afterwards."""
     *registers, o = i.operands
     require(o.kind == "memory", "an address of another form")
     base = s.general[o.base]
@@ -261,11 +325,11 @@ def accessed(s, i, table):
         s.must(base & 15 == 0, "the stack pointer is not aligned")
     address = simple(base + (s.general[o.index] if o.index else o.offset))
     moved = simple(base + s.number(o.after, 8)) if o.after else address if o.is_moved else base
-    return registers, table[i.mnemonic] or registers[0].size, address, {o.base: moved}
+    return registers, SIZES.get(i.mnemonic[-1], registers[0].size), address, {o.base: moved}
 
 
 def load(s, i):
-    targets, size, address, moved = accessed(s, i, LOADS)
+    targets, size, address, moved = accessed(s, i)
     lane = s.load(address, size * len(targets))
     s.general |= moved
     for number, target in enumerate(targets):
@@ -274,7 +338,7 @@ def load(s, i):
 
 def store(s, i):
     """One that moves the stack pointer first makes space for what it stores."""
-    sources, size, address, moved = accessed(s, i, STORES)
+    sources, size, address, moved = accessed(s, i)
     lane = [x for source in sources for x in s.lane(source)[:size]]
     s.general |= moved
     s.store(address, lane)
@@ -283,9 +347,9 @@ def store(s, i):
 HANDLERS = {
     "add": either(general(ADD), by_units(ADD)), "adds": general(ADD, sum_flags),
     "cmn": general(ADD, sum_flags, is_kept=False),
-    "sub": either(general(SUBTRACT), by_units(SUBTRACT)), "subs": general(SUBTRACT, difference_flags),
-    "cmp": general(SUBTRACT, difference_flags, is_kept=False), "and": either(general(AND), by_units(AND)),
-    "tst": general(AND, logic_flags, is_kept=False), "orr": either(general(OR), by_units(OR)), "eor": general(XOR),
+    "sub": either(general(SUBTRACT), by_units(SUBTRACT)), "subs": general(SUBTRACT, comparison_flags),
+    "cmp": general(SUBTRACT, comparison_flags, is_kept=False), "and": either(general(AND), by_units(AND)),
+    "tst": general(AND, logic_flags(AND), is_kept=False), "orr": either(general(OR), by_units(OR)), "eor": general(XOR),
     "mvn": general(lambda a: ~a), "msub": general(lambda a, b, c: c - a * b), "umulh": upper_product,
     "movk": move_part, "bfxil": insert_bits, "lsl": shift, "lsr": shift, "adrp": adrp, "csel": select(lambda b: b),
     "csinv": select(lambda b: ~b), "cset": set_if, "b": jump, "bl": jump, "ret": ret, "cbz": jump_if_zero,

@@ -61,7 +61,8 @@ class Reader:
 
     def add(self, text, mnemonic, words):
         numbers, targets = _numbers(mnemonic, words), []
-        takes, gives = self.effect(mnemonic, numbers)
+        called = self.code.object.functions[numbers[0]] if mnemonic == "call" else None
+        takes, gives = (len(called.parameters), len(called.results)) if called else EFFECTS.get(mnemonic, (0, 0))
         if mnemonic.startswith("br"):
             targets = [self.blocks[-1 - depth] for depth in numbers]
         for block in targets:
@@ -72,13 +73,6 @@ class Reader:
         if mnemonic == "call" and gives:
             self.read_so_far.append(("result", Operands(self.height - 1, (), []), "result"))
         self.is_reached = mnemonic not in ENDS
-
-    def effect(self, mnemonic, numbers):
-        """How many operands an instruction takes and gives."""
-        if mnemonic == "call":
-            called = self.code.object.functions[numbers[0]]
-            return len(called.parameters), len(called.results)
-        return EFFECTS.get(mnemonic, (0, 0))
 
     def instructions(self):
         for address, (mnemonic, operands, text) in enumerate(self.read_so_far, self.function.address):

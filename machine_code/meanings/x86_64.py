@@ -11,9 +11,9 @@ import z3
 
 from execution import state
 from execution.paths import Branch
-from execution.state import byte, joined, simple, split, word
-from meanings.lanes import ADD, AND, OR, SUBTRACT, XOR
-from meanings.x86_64_vectors import HANDLERS as VECTORS
+from execution.state import byte, chosen, joined, simple, split, word
+from meanings.lanes import (ADD, AND, AND_NOT, MINIMUM, MULTIPLY, OR, SUBTRACT, SUBTRACT_SATURATED, XOR, conditions,
+                            difference_flags, each, holds, logic_flags, saturated, sum_flags, units)
 from reading import assembled
 from reading.image import X86_64
 from solver.questions import require
@@ -76,7 +76,8 @@ def _is_nop(i, old, new):
 
 
 def instructions(code, part, level):
-    """Those of some code by their addresses, for the least CPU of a level."""
+    """The instructions of a part of a file, by their addresses. One that the least CPU of the level does not have is
+    among those that `assembled` says are refused, since the assembler knows only what that CPU has."""
     command = ["as", "--64", "-msyntax=intel", "-mnaked-reg", f"-march={LEVELS.get(level, V2)}"]
     return assembled.read(part, X86_64, _operands, command, _text_to_assemble, _is_nop)
 
@@ -145,36 +146,10 @@ class State(state.State):
         self.is_clean &= o.size == 16
 
 
-# Flags
-def logic_flags(function):
-    def flags(a, b):
-        result = simple(function(a, b))
-        return {"c": z3.BoolVal(False), "z": result == 0, "s": result < 0}
-    return flags
-
-
-def sum_flags(a, b):
-    return {"c": z3.ULT(a + b, a), "z": a + b == 0, "s": a + b < 0}
-
-
-def difference_flags(a, b):
-    return {"c": z3.ULT(a, b), "z": a == b, "s": a - b < 0}
-
-
-CONDITIONS = {
-    "e": lambda flag: flag("z"), "b": lambda flag: flag("c"), "be": lambda flag: z3.Or(flag("c"), flag("z")),
-    "s": lambda flag: flag("s"),
-}
-CONDITIONS |= {new: lambda flag, old=old: z3.Not(CONDITIONS[old](flag)) for new, old in
-               {"ne": "e", "ae": "b", "a": "be", "ns": "s"}.items()}
-
-
-def condition(s, name):
-    def flag(letter):
-        require(s.flags and letter in s.flags, "a flag that is not known")
-        return s.flags[letter]
-
-    return simple(CONDITIONS[name](flag))
+CONDITIONS = conditions(
+    {"e": lambda flag: flag("z"), "b": lambda flag: flag("c"), "be": lambda flag: z3.Or(flag("c"), flag("z")),
+     "s": lambda flag: flag("s")},
+    {"ne": "e", "ae": "b", "a": "be", "ns": "s"})
 
 
 # General instructions
@@ -239,19 +214,22 @@ def lea(s, i):
 
 
 def set_if(s, i):
-    s.put(i.operands[0], i, s.either(condition(s, i.mnemonic[3:]), byte(1), byte(0)))
+    s.put(i.operands[0], i, s.either(holds(s, CONDITIONS[i.mnemonic[3:]]), byte(1), byte(0)))
 
 
 def move_if(s, i):
     a, b = numbers(s, i)
-    s.put(i.operands[0], i, s.either(condition(s, i.mnemonic[4:]), b, a))
+    s.put(i.operands[0], i, s.either(holds(s, CONDITIONS[i.mnemonic[4:]]), b, a))
+
+
+def pushed(s, lane):
+    s.general["rsp"] = simple(s.general["rsp"] - 8)
+    s.store(s.general["rsp"], lane)
 
 
 def push(s, i):
     require(i.operands[0].size == 8, "another size")
-    lane = s.lane(i.operands[0], i)
-    s.general["rsp"] = simple(s.general["rsp"] - 8)
-    s.store(s.general["rsp"], lane)
+    pushed(s, s.lane(i.operands[0], i))
 
 
 def popped(s):
@@ -275,12 +253,11 @@ def jump(s, i):
 
 
 def jump_if(s, i):
-    return Branch(condition(s, i.mnemonic[1:]), target(s, i))
+    return Branch(holds(s, CONDITIONS[i.mnemonic[1:]]), target(s, i))
 
 
 def call(s, i):
-    s.general["rsp"] = simple(s.general["rsp"] - 8)
-    s.store(s.general["rsp"], split(s.return_to(s.next)))
+    pushed(s, split(s.return_to(s.next)))
     return target(s, i)
 
 
@@ -314,6 +291,137 @@ def xgetbv(s, i):
         s.general[name] = simple(z3.ZeroExt(32, reported("xgetbv", 0, name)))
 
 
+# Vectors. The old form of an instruction has its target for the first source.
+def three(s, i):
+    to, *others = i.operands
+    return to, *([to, *others] if len(others) == 1 else others)
+
+
+def by_units(size, function):
+    def handler(s, i):
+        to, one, other = three(s, i)
+        s.put_vector(to, each(function, size, s.lane(one, i), s.lane(other, i)))
+    return handler
+
+
+def by_halves(function):
+    """Does the same to each 16 bytes of two operands."""
+    def handler(s, i):
+        to, one, other = three(s, i)
+        a, b = s.lane(one, i), s.lane(other, i)
+        s.put_vector(to, [x for first in range(0, to.size, 16) for x in function(a[first:][:16], b[first:][:16])])
+    return handler
+
+
+def shift_units(size, function):
+    def handler(s, i):
+        to, one, by = three(s, i)
+        require(by.kind == "number" and by.value < 8 * size, "a shift")
+        s.put_vector(to, each(lambda a: function(a, by.value), size, s.lane(one, i)))
+    return handler
+
+
+def looked_up(table, index):
+    return simple(z3.If(z3.Extract(7, 7, index) == 1, byte(0), chosen(table, index)))
+
+
+def interleaved(size):
+    return by_halves(lambda a, b: [x for first in range(0, 8, size) for x in a[first:][:size] + b[first:][:size]])
+
+
+def move_vector(is_aligned):
+    def handler(s, i):
+        to, by = i.operands
+        if to.kind == "memory":
+            return s.store(s.address_of(to, i), s.lane(by, i), is_aligned)
+        s.put_vector(to, s.load(s.address_of(by, i), by.size, is_aligned) if by.kind == "memory" else s.lane(by, i))
+    return handler
+
+
+def move_low(size):
+    """Between the lowest bytes of a vector and another place. In a vector, the others are cleared."""
+    def handler(s, i):
+        to, by = i.operands
+        lane = s.lane(by, i, size)
+        return s.put_vector(to, lane) if to.kind == "vector" else s.put(to, i, joined(lane))
+    return handler
+
+
+def insert(size):
+    def handler(s, i):
+        to, *one, by, index = i.operands
+        require(index.value < to.size // size, "an index")
+        lane, first = s.lane([*one, to][0], i), index.value * size
+        s.put_vector(to, lane[:first] + s.lane(by, i, size) + lane[first + size :])
+    return handler
+
+
+def extract(size):
+    def handler(s, i):
+        to, one, index = i.operands
+        lane = s.lane(one, i)
+        require(index.value < len(lane) // size, "an index")
+        part = lane[index.value * size :][:size]
+        if to.kind == "vector":
+            return s.put_vector(to, part)
+        s.put(to, i, joined(part + [byte(0)] * (to.size - size)))
+    return handler
+
+
+def broadcast(size):
+    def handler(s, i):
+        to, by = i.operands
+        s.put_vector(to, s.lane(by, i, size) * (to.size // size))
+    return handler
+
+
+def test_vector(s, i):
+    one, other = i.operands
+    lanes = s.lane(one, i), s.lane(other, i)
+    z, c = [z3.And(*[simple(function(a, b)) == 0 for a, b in zip(*lanes)]) for function in (AND, AND_NOT)]
+    s.flags = {"z": z, "c": c, "s": z3.BoolVal(False), "o": z3.BoolVal(False)}
+
+
+def widen(s, i):
+    to, by = i.operands
+    s.put_vector(to, [x for low in s.lane(by, i, to.size // 2) for x in (low, byte(0))])
+
+
+def permute(s, i):
+    to, by, how = i.operands
+    lane = s.lane(by, i)
+    s.put_vector(to, [x for bit in range(0, 8, 2) for x in lane[8 * (how.value >> bit & 3) :][:8]])
+
+
+def vzeroupper(s, i):
+    s.vectors = {name: lane[:16] + [byte(0)] * 16 for name, lane in s.vectors.items()}
+    s.is_clean = True
+
+
+VECTORS = {
+    "paddb": by_units(1, ADD), "paddw": by_units(2, ADD), "psubb": by_units(1, SUBTRACT),
+    "psubusb": by_units(1, SUBTRACT_SATURATED), "pminub": by_units(1, MINIMUM), "por": by_units(1, OR),
+    "pxor": by_units(1, XOR), "pmullw": by_units(2, MULTIPLY),
+    "psllw": shift_units(2, lambda a, by: a << by), "psrlw": shift_units(2, z3.LShR),
+    "pshufb": by_halves(lambda a, b: [looked_up(a, index) for index in b]),
+    "packuswb": by_halves(lambda a, b: saturated(units(a + b, 2))),
+    "punpckldq": interleaved(4), "punpcklqdq": interleaved(8),
+    "movdqu": move_vector(False), "movdqa": move_vector(True), "movups": move_vector(False),
+    "movaps": move_vector(True), "xorps": by_units(1, XOR), "movd": move_low(4), "movq": move_low(8),
+    "pinsrb": insert(1), "pinsrw": insert(2), "pinsrd": insert(4), "pextrw": extract(2), "pextrd": extract(4),
+    "pextrq": extract(8), "ptest": test_vector, "pmovzxbw": widen,
+}
+
+
+def legacy(handler):
+    """The form of SSE: an operand of 16 bytes in memory is aligned, and what lies above in a vector is kept."""
+    def of_sse(s, i):
+        s.is_legacy = True
+        handler(s, i)
+        s.is_legacy = False
+    return of_sse
+
+
 HANDLERS = {
     "add": general(ADD, sum_flags), "sub": general(SUBTRACT, difference_flags),
     "cmp": general(SUBTRACT, difference_flags, is_kept=False), "and": logic(AND), "or": logic(OR), "xor": logic(XOR),
@@ -324,5 +432,8 @@ HANDLERS = {
     "cpuid": cpuid, "xgetbv": xgetbv,
     **{f"{name}{end}": handler for name, handler in (("j", jump_if), ("set", set_if), ("cmov", move_if))
        for end in CONDITIONS},
-    **VECTORS,
+    **{name: legacy(handler) for name, handler in VECTORS.items()},
+    **{f"v{name}": handler for name, handler in VECTORS.items()},
+    "vpbroadcastd": broadcast(4), "vpbroadcastq": broadcast(8), "vbroadcasti128": broadcast(16), "vpermq": permute,
+    "vinserti128": insert(16), "vextracti128": extract(16), "vzeroupper": vzeroupper,
 }
