@@ -5,9 +5,11 @@ compared as any other store is: at an arbitrary place. If more followed here tha
 for, a wrong caller could be accepted.
 """
 
+import functools
+
 import z3
 
-from contracts.functions import N, is_digit
+from contracts.functions import is_digit
 from execution.state import byte, fresh, simple, word
 from solver.questions import is_public, names, require
 
@@ -17,21 +19,19 @@ def effects(contracts):
     by_name = {}
     for contract in contracts:
         by_name.setdefault(contract.called_as, []).append(contract)
-    return {name: _effect(of_name) for name, of_name in by_name.items()}
+    return {name: functools.partial(_called, of_name) for name, of_name in by_name.items()}
 
 
-def _effect(contracts):
-    """What a function does that has some contracts, one of which is for the arguments: it takes the state at its first
-    instruction, and yields the states at its return with the result, if there is one."""
-    def called(state):
-        ways = [(contract, *_passed(state, contract)) for contract in contracts]
-        state.must(z3.Or(*[condition for _, condition, _ in ways]), "arguments that the contract does not allow")
-        for contract, condition, arguments in ways:
-            is_constant = not contract.may_leak and all(map(is_public, arguments.values()))
-            require(state.may_leak or is_constant, "how long a call takes may depend on bytes that are secret")
-            if way := state.when(condition, state.at):
-                yield from contract.called(way, **arguments)
-    return called
+def _called(contracts, state):
+    """The states after a call of a function that has some contracts, one of which is for the arguments, each with the
+    result, if there is one. It takes the state at the first instruction of the function."""
+    ways = [(contract, *_passed(state, contract)) for contract in contracts]
+    state.must(z3.Or(*[condition for _, condition, _ in ways]), "arguments that the contract does not allow")
+    for contract, condition, arguments in ways:
+        is_constant = not contract.may_leak and all(map(is_public, arguments.values()))
+        require(state.may_leak or is_constant, "how long a call takes may depend on bytes that are secret")
+        if way := state.when(condition):
+            yield from contract.called(way, **arguments)
 
 
 def _passed(state, contract):
@@ -46,9 +46,9 @@ def _passed(state, contract):
 
 
 def any_below(state, count):
-    """The state with a number below another one, or None if there is none."""
+    """The state with a number below another one, or None if there is none; and the number."""
     index = word(0) if state.holds(count == 1) else fresh("p", 64)
-    return state.when(z3.ULT(index, count), state.at), index
+    return state.when(z3.ULT(index, count)), index
 
 
 def offset_in(state, name, address):
@@ -68,30 +68,23 @@ def write(state, address, lane):
 def judged(state, text, count):
     """The state in which all characters are digits, and the one in which some are not, each with the result. In the
     second, time may depend on the text if it is no valid one."""
-    some, characters, true = (_of_input if is_in("input", text) else _of_pair)(state, text, count)
-    if not some:
-        return [(state, 1)]
+    if is_in("input", text):
+        # Any of them is read.
+        some, index = any_below(state, count)
+        if not some:
+            return [(state, 1)]
+        characters = some.load(simple(text + index), 1)
+        true = state.with_digits(offset_in(state, "input", text), count)
+    else:
+        state.must(count == 2, "a text that is neither in the input nor a pair")
+        some, characters = state, state.load(text, 2)
+        true = state.when(z3.And(*map(is_digit, characters)))
     are_digits = z3.And(*map(is_digit, characters))
     is_valid = some.choose(are_digits)
     require(is_valid is not False, "a text that is never valid is read: its bytes may decide how long that takes")
-    if false := some.when(z3.Not(are_digits), state.at):
+    if false := some.when(z3.Not(are_digits)):
         false.may_leak |= is_valid is True
     return [(way, result) for way, result in ((true, 1), (false, 0)) if way]
-
-
-def _of_input(state, text, count):
-    """The state that has read any character, or None if there is none; the character; and the state in which all are
-    digits."""
-    some, index = any_below(state, count)
-    characters = some.load(simple(text + index), 1) if some else []
-    return some, characters, some and state.with_digits(offset_in(state, "input", text), count)
-
-
-def _of_pair(state, text, count):
-    """The same of two characters that are not in the input."""
-    state.must(count == 2, "a text that is neither in the input nor a pair")
-    pair = state.load(text, 2)
-    return state, pair, state.when(z3.And(*map(is_digit, pair)), state.at)
 
 
 def first_invalid_from(state, text, first, count):
@@ -105,7 +98,7 @@ def first_invalid_from(state, text, first, count):
     if none := state.with_digits(start + first, count - first):
         yield none, count, byte(0)
     index = fresh("p", 64)
-    some = state.when(z3.And(z3.ULE(first, index), z3.ULT(index, count)), state.at)
-    some = some and some.without_digit(start + index)
-    if some := some and some.without_others(start + first, index - first):
+    some = state.when(z3.And(z3.ULE(first, index), z3.ULT(index, count)))
+    some = some and some.with_no_digit(start + index)
+    if some := some and some.with_digits(start + first, index - first, are_named=False):
         yield some, index, some.byte_of_input(start + index)

@@ -42,12 +42,9 @@ class Dispatched(Function):
 
     def __init__(self, function, parameters):
         self.function, self.symbol, self.parameters = function, f"const_hex_{function}", parameters.split()
-        self.arguments = [of_32_bits(z3.BitVec("g_upper", 32)) if name == "upper" else z3.BitVec(f"g_argument_{at}", 64)
-                          for at, name in enumerate(self.parameters)]
-
-    @property
-    def imported(self):
-        return {f"{self.symbol}{end}": functools.partial(self.calls, end) for end in self.ends}
+        self.arguments = [of_32_bits(z3.BitVec("g_upper", 32)) if name == "upper" else z3.BitVec(f"g_{name}", 64)
+                          for name in self.parameters]
+        self.imported = {f"const_hex_{function}{end}": functools.partial(self.calls, end) for end in self.ends}
 
     def valid(self, state):
         """Every input is valid."""
@@ -61,16 +58,16 @@ class Dispatched(Function):
         """The call: all arguments are the own ones. Then the result may be anything."""
         require(state.result_of_call is None, "it calls twice")
         self.must_choose(state, end)
-        for at, wanted in enumerate(self.arguments):
-            size = 32 if self.parameters[at] == "upper" else 64
-            self.must_pass(state, at, state.argument(at), wanted, size)
+        for index, (given, wanted) in enumerate(zip(state.arguments(len(self.arguments)), self.arguments)):
+            self.must_pass(state, index, given, wanted)
         state.forget_arguments(len(self.arguments))
         state.result_of_call, state.stored = fresh("g", 64), len(state.kept)
         yield state, state.result_of_call
 
-    def must_pass(self, state, at, found, wanted, size):
-        found, wanted = [simple(z3.Extract(size - 1, 0, term)) for term in (found, wanted)]
-        state.must(found == wanted, f"argument {at} is another")
+    def must_pass(self, state, index, given, wanted):
+        bits = 32 if self.parameters[index] == "upper" else 64
+        given, wanted = [simple(z3.Extract(bits - 1, 0, term)) for term in (given, wanted)]
+        state.must(given == wanted, f"argument {index} is another")
 
     def returns(self, state):
         require(state.result_of_call is not None, "it calls nothing")
@@ -112,14 +109,14 @@ class OrNull(Dispatched):
     def must_choose(self, state, end):
         require(not state.kept, "a byte is stored")
 
-    def must_pass(self, state, at, found, wanted, size):
-        if at != self.error or not self.is_null:
-            return super().must_pass(state, at, found, wanted, size)
-        # The local error is not below what belongs to the call, and may be anything afterwards.
-        local, lowest = simple(found - state.regions["stack"].base), state.top() + state.frame(len(self.arguments))
-        require(z3.is_bv_value(local) and local.as_long() % 8 == 0, "the local error is at an unknown place")
-        require(lowest <= local.as_long() <= state.STACK - 16, "the local error is not in the stack")
-        state.put_cells("stack", local.as_long(), split(fresh("g", 128)))
+    def must_pass(self, state, index, given, wanted):
+        if index != self.error or not self.is_null:
+            return super().must_pass(state, index, given, wanted)
+        # The local error lies in the stack, above what belongs to the call, and may be anything afterwards.
+        state.must(given & 7 == 0, "the local error is not aligned")
+        offset, lowest = given - state.regions["stack"].base, state.top() + state.frame(len(self.arguments))
+        state.must(z3.UGE(offset, lowest), "the local error is not above the arguments in the stack")
+        state.store(given, split(fresh("g", 128)))
 
 
 OR_NULL = [OrNull(name, FUNCTIONS[name].parameters, is_null) for name in sorted(WITH_ERROR)

@@ -7,7 +7,7 @@ import itertools
 
 import z3
 
-from execution.state import Region, byte, simple, word
+from execution.state import byte, simple, word
 from solver.questions import require
 
 N, INDEX = z3.BitVec("p_n", 64), z3.BitVec("p_index", 64)
@@ -32,14 +32,10 @@ def value(c):
     return z3.If(z3.ULE(c, 0x39), c - 0x30, z3.If(z3.ULE(c, 0x46), c - 0x41 + 10, c - 0x61 + 10))
 
 
-def digit(number, is_upper):
-    """The digit of a number below 16."""
-    return z3.If(z3.ULE(number, 9), number + 0x30, number - 10 + (0x41 if is_upper else 0x61))
-
-
 def digits_of(number, is_upper):
     """The two digits of a byte."""
-    return [digit(half, is_upper) for half in (z3.LShR(number, 4), number & 15)]
+    return [z3.If(z3.ULE(half, 9), half + 0x30, half - 10 + (0x41 if is_upper else 0x61))
+            for half in (z3.LShR(number, 4), number & 15)]
 
 
 def decoded(high, low):
@@ -62,44 +58,40 @@ def of_32_bits(term):
     return z3.Concat(z3.BitVec("g_above", 32), term)
 
 
-def covers(state, first, limit, parts):
-    """Whether each index from a first one up to a limit lies in one of the parts, which have an offset and a count."""
-    return _lie_in(state, z3.And(z3.ULE(first, INDEX), z3.ULT(INDEX, limit)), parts)
+def in_size_t(state, number):
+    """The bits of a number that a size_t has."""
+    return z3.Extract(8 * state.WORD - 1, 0, number)
 
 
-def _lie_in(state, condition, parts):
-    return state.holds(z3.Implies(condition, z3.Or(*[z3.ULT(INDEX - offset, count) for offset, count in parts])))
+def _lies_in(parts):
+    return z3.Or(*[z3.ULT(INDEX - offset, count) for offset, count in parts])
 
 
-def must_cover(state, first, limit, parts, message):
-    require(covers(state, first, limit, parts), message)
+def are_covered(first, limit, parts):
+    """Each index from a first one up to a limit lies in one of the parts, which have an offset and a count."""
+    return z3.Implies(z3.And(z3.ULE(first, INDEX), z3.ULT(INDEX, limit)), _lies_in(parts))
 
 
 def must_be_digits(state, limit, message="a character is passed that may be no digit"):
     """The digits of the text are digits up to a limit."""
-    must_cover(state, state.body, limit, list(state.known_digits()), message)
+    state.must(are_covered(state.body, limit, list(state.known_digits())), message)
+
+
+def must_be_written(state, limit, message, first=word(0)):
+    """The output is written up to a limit."""
+    state.must(are_covered(first, limit, state.writes), message)
 
 
 def must_be_a_front(state):
     """What is written is a front of the output: nothing is left out before it."""
     is_before = z3.Or(*[z3.ULT(INDEX, offset) for offset, _ in state.writes])
-    require(_lie_in(state, is_before, state.writes), "a byte is left out before what is written")
-
-
-class Object:
-    """A region that has numbers. Its size depends on that of a size_t, in bytes."""
-
-    def __init__(self, name, size, is_writable=True, is_aligned=True):
-        self.name, self.size, self.is_writable, self.is_aligned = name, size, is_writable, is_aligned
-
-    def region(self, state):
-        align = state.WORD if self.is_aligned else 1
-        return Region(self.name, word(self.size(state.WORD)), align, is_writable=self.is_writable)
+    state.must(z3.Implies(is_before, _lies_in(state.writes)), "a byte is left out before what is written")
 
 
 class Function:
     """A function with its arguments. `symbol` is how its name looks; what others call by its contract has less stack.
-    `empty` are its buffers, with their sizes, for which NULL may be passed if they are empty."""
+    `regions` are what it may access, some of which depend on how many bytes a size_t has. `empty` are its buffers, with
+    their sizes, for which NULL may be passed if they are empty."""
 
     is_called = is_local = may_leak = is_unrolled = False
     is_in_module = True
@@ -119,13 +111,13 @@ class Function:
     def starts(self, code):
         """The states at the call of the function, with any arguments."""
         state = code.processor.State()
-        regions = [part.region(state) if isinstance(part, Object) else part for part in self.regions]
+        regions = [part(state.WORD) if callable(part) else part for part in self.regions]
         state.start(code, self, code.start, regions, list(self.arguments))
         for condition in self.requires:
             state.assume(condition)
         nulls = [(base(name) != 0, z3.And(base(name) == 0, size == 0)) for name, size in self.empty]
-        states = [state.when(z3.And(*choice), state.at) for choice in itertools.product(*nulls)]
-        return [way for state in states if state for way in self._all_cases(state)]
+        ways = [state.when(z3.And(*choice)) for choice in itertools.product(*nulls)]
+        return [start for way in ways if way for start in self._all_cases(way)]
 
     def _all_cases(self, state):
         ways = list(self.cases(state))
@@ -149,7 +141,7 @@ class Function:
         """At the head of a loop: all characters so far are digits, and the output is written so far."""
         must_be_digits(state, read)
         must_be_a_front(state)
-        must_cover(state, word(0), written, state.writes, "a byte of the output is left out")
+        must_be_written(state, written, "a byte of the output is left out")
 
     def is_alone(self, state, offset):
         """Whether a byte of the input may decide which value a module selects."""
@@ -165,7 +157,7 @@ def by_prefix(state, start=word(0), length=N, least=2):
     each with the index of its digits."""
     has_prefix = z3.And(z3.UGE(length, least), is_prefix(*[state.byte_of_input(start + index) for index in (0, 1)]))
     for condition, first in (has_prefix, 2), (z3.Not(has_prefix), 0):
-        if way := state.when(condition, state.at):
+        if way := state.when(condition):
             yield way, word(first)
 
 
@@ -186,27 +178,17 @@ def must_be_unchanged(state, name):
     require(same, f"{name} is changed")
 
 
-def must_be(state, name, offset, count, wanted):
-    """An object has a number at an offset."""
-    wanted = z3.BitVecVal(wanted, 8 * count) if isinstance(wanted, int) else wanted
-    state.must_equal(state.cell(name, offset, count), wanted, f"{name} is wrong at {offset}")
-
-
-def must_begin(state, name, numbers):
-    """An object begins with these numbers."""
-    offset = 0
+def must_have(state, name, *numbers, offset=0):
+    """An object has these numbers from an offset on, one after the other."""
     for number in numbers:
-        must_be(state, name, offset, number.size() // 8, number)
-        offset += number.size() // 8
+        count = number.size() // 8
+        state.must_equal(state.cell(name, offset, count), number, f"{name} is wrong at {offset}")
+        offset += count
 
 
-def in_size_t(state, number):
-    return z3.Extract(8 * state.WORD - 1, 0, number)
-
-
-def must_be_size(state, name, offset, wanted):
-    """An object has a size_t at an offset."""
-    must_be(state, name, offset, state.WORD, in_size_t(state, wanted) if z3.is_expr(wanted) else wanted)
+def must_fail(state, kind, index=word(0), character=byte(0)):
+    """The error is of a kind. If that is an invalid character, it has its index and the character, else 0."""
+    must_have(state, "error", z3.BitVecVal(kind, 32), z3.ZeroExt(24, character), in_size_t(state, index))
 
 
 def first_invalid(state):
@@ -214,8 +196,8 @@ def first_invalid(state):
     length and 0."""
     parts = list(state.known_digits())
     for index, character in list(state.input.values()):
-        is_in = z3.And(z3.ULE(state.body, index), z3.ULT(index, N))
-        if state.is_known(character, False) and state.holds(is_in) and covers(state, state.body, index, parts):
+        is_in = z3.And(z3.ULE(state.body, index), z3.ULT(index, N), are_covered(state.body, index, parts))
+        if state.is_known(character, False) and state.holds(is_in):
             return index, character
     must_be_digits(state, N)
     return N, byte(0)

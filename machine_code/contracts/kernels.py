@@ -8,7 +8,7 @@ import z3
 
 from contracts.callees import any_below, is_in, judged, offset_in, write
 from contracts.functions import (N, Function, base, decoded, digits_of, is_digit, must_be_a_front, must_be_digits,
-                                 must_cover, of_32_bits)
+                                 must_be_written, of_32_bits)
 from execution.state import Region, simple, word
 from solver.questions import holds, require
 
@@ -20,25 +20,16 @@ class Kernel(Function):
     # Each of the two has less than 2^63 bytes.
     requires = z3.ULT(N, 1 << 62),
     input_size, output_size = simple(2 * N), N
-
-    @property
-    def symbol(self):
-        return rf"const_hex_(\d+_\d+_\d+|kernel)_{self.function}(_v[23])?"
-
-    @property
-    def called_as(self):
-        return f"const_hex_kernel_{self.function}"
-
-    @property
-    def regions(self):
-        return Region("input", self.input_size), Region("output", self.output_size)
+    symbol = property(lambda self: rf"const_hex_(\d+_\d+_\d+|kernel)_{self.function}(_v[23])?")
+    called_as = property(lambda self: f"const_hex_kernel_{self.function}")
+    regions = property(lambda self: (Region("input", self.input_size), Region("output", self.output_size)))
 
     def returns(self, state):
         """The result is true if and only if all characters are digits. Then all of the output is written."""
         result = state.result()
         must_be_a_front(state)
         state.must(z3.Or(result == 0, result == 1), "the result is neither true nor false")
-        if true := state.when(result == 1, None):
+        if true := state.when(result == 1):
             self.reached(true, self.input_size, self.output_size)
         if not state.may_leak:
             require(holds(state.facts + state.is_valid(), result == 1), "digits are rejected")
@@ -67,7 +58,7 @@ class Fill(Kernel):
         must_be_digits_of(state, offset, lane, self.is_upper)
 
     def reached(self, state, read, written):
-        must_cover(state, word(0), written, state.writes, "a character of the text is left out")
+        must_be_written(state, written, "a character of the text is left out")
 
     def returns(self, state):
         self.reached(state, None, self.output_size)
@@ -85,9 +76,9 @@ def must_be_digits_of(state, offset, lane, is_upper):
     odd = next((odd for odd in (0, 1) if state.holds(offset & 1 == odd)), None)
     require(odd is not None, "an offset in the text that may be odd or even")
     source = simple(z3.LShR(offset, 1))
-    for at, character in enumerate(lane, odd):
-        wanted = digits_of(state.byte_of_input(source + at // 2), is_upper)[at % 2]
-        state.must_equal(character, wanted, f"a wrong character at {offset} + {at - odd}")
+    for half, character in enumerate(lane, odd):
+        wanted = digits_of(state.byte_of_input(source + half // 2), is_upper)[half % 2]
+        state.must_equal(character, wanted, f"a wrong character at {offset} + {half - odd}")
 
 
 class Check(Kernel):
@@ -119,7 +110,7 @@ class Read(Kernel):
             pair = some.load(input + 2 * index, 2)
             if is_in("input", input):
                 some = some.with_digits(offset_in(some, "input", input), 2 * index + 2)
-            if some := some and some.when(z3.And(*map(is_digit, pair)), some.at):
+            if some := some and some.when(z3.And(*map(is_digit, pair))):
                 write(some, output + index, [decoded(*pair)])
         for way, result in judged(state, input, simple(2 * n)):
             if some:
@@ -127,15 +118,18 @@ class Read(Kernel):
             yield way, result
 
 
-def must_be_decoded(state, offset, lane, waiting=None):
+def must_be_decoded(state, offset, lane):
     """Bytes at an offset are what the digits of the text decode to, which have no invalid character before them. The
     first half of the first one may be a digit that waits."""
-    begin = state.body - state.waiting
+    is_waiting = state.waiting is not None
+    is_first = is_waiting and state.holds(offset == 0)
+    state.must(z3.Or(not is_waiting, is_first, offset != 0), "whether it is the first byte")
+    begin = state.body - is_waiting
     must_be_digits(state, simple(begin + 2 * (offset + len(lane))), "written before it is known")
-    for at, number in enumerate(lane):
-        high, low = [state.byte_of_input(begin + 2 * (offset + at) + more) for more in (0, 1)]
-        high = waiting if waiting is not None and not at else high
-        state.must_equal(number, decoded(high, low), f"a wrong byte at {offset} + {at}")
+    for index, number in enumerate(lane):
+        high, low = [state.byte_of_input(begin + 2 * (offset + index) + more) for more in (0, 1)]
+        high = state.waiting if is_first and index == 0 else high
+        state.must_equal(number, decoded(high, low), f"a wrong byte at {offset} + {index}")
 
 
 KERNELS = Fill(0), Fill(1), Check(), Read()

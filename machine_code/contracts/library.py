@@ -9,10 +9,10 @@ import re
 import z3
 
 from contracts.callees import first_invalid_from, offset_in
-from contracts.functions import (FAILED, FOUND, INVALID_CHARACTER, INVALID_LENGTH, N, ODD_LENGTH, Function, Object,
-                                 base, by_prefix, first_invalid, in_size_t, is_digit, is_prefix, moved, must_be,
-                                 must_be_a_front, must_be_digits, must_be_size, must_be_true_if, must_be_unchanged,
-                                 must_begin, must_cover, of_32_bits, size_max, with_prefix_or_without)
+from contracts.functions import (FAILED, FOUND, INVALID_CHARACTER, INVALID_LENGTH, N, ODD_LENGTH, Function, base,
+                                 by_prefix, first_invalid, in_size_t, is_digit, is_prefix, moved, must_be_a_front,
+                                 must_be_digits, must_be_true_if, must_be_unchanged, must_be_written, must_fail,
+                                 must_have, of_32_bits, size_max, with_prefix_or_without)
 from contracts.kernels import Check as CheckKernel, Fill, must_be_decoded, must_be_digits_of
 from contracts.names import HEADER, WITH_ERROR
 from execution.state import Region, byte, fresh, joined, simple, split, word
@@ -20,16 +20,16 @@ from solver.questions import names, require
 
 FLAGS, SIZE = z3.BitVec("p_flags", 32), z3.BitVec("p_size", 64)
 UPPER, PREFIX, NO_NUL = 1, 2, 4
-TEXT, ERROR = Region("input", N), Object("error", lambda size: 8 + size)
-WRITTEN, DECODER = Object("written", lambda size: size), Object("decoder", lambda size: 2 * size)
+TEXT = Region("input", N)
+# By how many bytes a size_t has.
+ERROR, WRITTEN = lambda size: Region("error", word(8 + size), size), lambda size: Region("written", word(size), size)
+DECODER = lambda size: Region("decoder", word(2 * size), size)
 
 
 class Exported(Function):
     """A function of the header, which handles an error that is not NULL."""
 
-    @property
-    def symbol(self):
-        return f"const_hex_{self.function}{'_nonnull' if self.function in WITH_ERROR else ''}"
+    symbol = property(lambda self: f"const_hex_{self.function}{'_nonnull' if self.function in WITH_ERROR else ''}")
 
 
 class Version(Exported):
@@ -44,7 +44,7 @@ class Version(Exported):
 
 def needed(flags):
     """The size that a text needs, in as many bits as it takes: two digits for each byte, the prefix, and a NUL."""
-    prefix, no_nul = [z3.ZeroExt(65, z3.Extract(at, at, flags)) for at in (1, 2)]
+    prefix, no_nul = [z3.ZeroExt(65, z3.Extract(bit, bit, flags)) for bit in (1, 2)]
     return simple(2 * z3.ZeroExt(2, N) + 2 * prefix + 1 - no_nul)
 
 
@@ -103,13 +103,13 @@ class Encode(Exported):
 
     def returns(self, state):
         must_be_true_if(state, self.fits, "whether the text fits")
-        if fits := state.when(self.fits, None):
+        if fits := state.when(self.fits):
             limit = self.end + z3.If(self.has_nul, word(1), word(0))
-            must_cover(fits, word(0), simple(limit), fits.writes, "a character of the text is left out")
-        if failed := state.when(z3.Not(self.fits), None):
+            must_be_written(fits, simple(limit), "a character of the text is left out")
+        if failed := state.when(z3.Not(self.fits)):
             require(not failed.reads, "the input is read though the text does not fit")
-            end = z3.If(z3.And(self.has_nul, SIZE != 0), word(1), word(0))
-            must_cover(failed, word(0), end, failed.writes, "the text is not the empty string")
+            limit = z3.If(z3.And(self.has_nul, SIZE != 0), word(1), word(0))
+            must_be_written(failed, limit, "the text is not the empty string")
 
 
 class CheckRaw(CheckKernel):
@@ -127,8 +127,8 @@ class Search(Function):
     is_called = is_local = may_leak = True
     requires = z3.ULT(N, 1 << 63),
 
-    def found(self, state, index, character):
-        """In the module an error has no kind of its own."""
+    def outcome(self, state, index, character):
+        """What is found, as numbers. In the module an error has no kind of its own."""
         kind = [z3.BitVecVal(FOUND, 32)] if state.WORD == 8 else []
         return [*kind, z3.ZeroExt(24, character), in_size_t(state, index)]
 
@@ -139,26 +139,27 @@ class Search(Function):
 
 
 class FirstInvalid(Search):
-    """find_invalid_character(found, text, length): a text of less than 4 characters has no prefix."""
+    """find_invalid_character(result, text, length): a text of less than 4 characters has no prefix."""
 
     symbol, function, name = "const_hex_body_find_invalid_character", "find_invalid_character", "any text"
-    regions, arguments = (Region("found", word(16)), TEXT), (base("found"), base("input"), N)
+    regions, arguments = (Region("result", word(16)), TEXT), (base("result"), base("input"), N)
 
     def cases(self, state):
         return with_prefix_or_without(state, least=4)
 
     def returns(self, state):
-        must_begin(state, "found", self.found(state, *first_invalid(state)))
+        must_have(state, "result", *self.outcome(state, *first_invalid(state)))
 
-    def called(self, state, found, input, n):
+    def called(self, state, result, input, n):
         for way, first in by_prefix(state, offset_in(state, "input", input), n, least=4):
             for other, *invalid in first_invalid_from(way, input, first, n):
-                self.leave(other, found, self.found(other, *invalid), 16)
+                self.leave(other, result, self.outcome(other, *invalid), 16)
                 yield other, None
 
 
 class Text(Exported):
-    """A function that rejects a text whose length is odd, or that has an invalid character."""
+    """A function that returns true for a text of digits, whose bytes it writes if it has an output, and false for
+    another one."""
 
     name, empty, requires = "any text", (("input", N),), (z3.ULT(N, 1 << 63),)
 
@@ -166,47 +167,57 @@ class Text(Exported):
         return with_prefix_or_without(state)
 
     def count(self, state):
-        """How many bytes the text decodes to."""
-        return simple(z3.LShR(N - state.body, 1))
+        """How many bytes the digits make, with one that waits for its second half."""
+        return simple(z3.LShR(N - state.body + (state.waiting is not None), 1))
 
-    def fits_in(self, state):
-        """Whether the text has a length that is accepted, beside that it is even."""
-        return z3.BoolVal(True)
+    def errors(self, state):
+        """What is an error beside an invalid character, in the order in which it is looked for: when it is one, what
+        it is, and the error."""
+        return [(N & 1 == 1, "an odd length", ODD_LENGTH)]
 
-    def rejects(self, state):
-        """What is written on failure beside the error: nothing."""
+    def store(self, state, offset, lane):
+        for is_error, what, *_ in self.errors(state):
+            state.must(z3.Not(is_error), f"written though it is {what}")
+        state.must(z3.ULE(offset + len(lane), self.count(state)), "written after the bytes")
+        must_be_decoded(state, offset, lane)
 
     def returns(self, state):
         result = state.result()
         if state.holds(result == 1):
-            state.must(N & 1 == 0, "an odd length is accepted")
+            for is_error, what, *_ in self.errors(state):
+                state.must(z3.Not(is_error), f"{what} is accepted")
             must_be_digits(state, N)
+            must_be_unchanged(state, "error")
             return self.accepts(state)
         state.must(result == 0, "the result is neither true nor false")
         must_be_a_front(state)
-        self.rejects(state)
-        if state.holds(N & 1 == 1):
-            return must_fail(state, ODD_LENGTH)
-        state.must(N & 1 == 0, "whether the length is odd")
-        if state.holds(z3.Not(self.fits_in(state))):
-            return must_fail(state, INVALID_LENGTH)
-        state.must(self.fits_in(state), "whether the bytes fit")
-        must_reject(state, *must_be_invalid(state))
+        if "written" in state.regions:
+            must_have(state, "written", in_size_t(state, word(0)))
+        for is_error, what, *error in self.errors(state):
+            if state.holds(is_error):
+                must_be_unchanged(state, "decoder")
+                return must_fail(state, *error)
+            state.must(z3.Not(is_error), f"whether it is {what}")
+        index, character = first_invalid(state)
+        state.must(z3.ULT(index, N), "digits are rejected")
+        self.rejects(state, index, character)
 
+    def accepts(self, state):
+        """What else holds if the result is true."""
+        if "output" in state.regions:
+            must_be_written(state, self.count(state), "a byte is left out")
+        if "written" in state.regions:
+            must_have(state, "written", in_size_t(state, self.count(state)))
 
-def must_fail(state, kind):
-    """An error without a character."""
-    numbers = (kind, 32), (0, 32), (0, 8 * state.WORD)
-    must_begin(state, "error", [z3.BitVecVal(number, bits) for number, bits in numbers])
+    def rejects(self, state, index, character):
+        """What holds if the first invalid character is this one, with its index."""
+        must_fail(state, INVALID_CHARACTER, index, character)
 
 
 class Check(Text):
     """check(text, length, error): whether a text can be decoded."""
 
     function, regions, arguments = "check", (TEXT, ERROR), (base("input"), N, base("error"))
-
-    def accepts(self, state):
-        must_be_unchanged(state, "error")
 
 
 class DecodeExact(Text):
@@ -216,42 +227,25 @@ class DecodeExact(Text):
     arguments = base("input"), N, base("output"), SIZE, base("error")
     empty = ("input", N), ("output", SIZE)
 
-    def fits_in(self, state):
-        return self.count(state) == SIZE
-
-    def store(self, state, offset, lane):
-        state.must(z3.And(N & 1 == 0, self.fits_in(state)), "written though the text has another length")
-        state.must(z3.ULE(offset + len(lane), self.count(state)), "written after the bytes")
-        must_be_decoded(state, offset, lane)
-
-    def accepts(self, state):
-        state.must(self.fits_in(state), "another length is accepted")
-        must_cover(state, word(0), self.count(state), state.writes, "a byte is left out")
-        must_be_unchanged(state, "error")
+    def errors(self, state):
+        return [*super().errors(state), (self.count(state) != SIZE, "another length", INVALID_LENGTH)]
 
 
-class Decode(DecodeExact):
+class Decode(Text):
     """decode(text, length, bytes, bytes_size, written, error): the same, in a buffer that may be larger."""
 
-    function, regions = "decode", (*DecodeExact.regions, WRITTEN)
+    function, regions, empty = "decode", (*DecodeExact.regions, WRITTEN), DecodeExact.empty
     arguments = base("input"), N, base("output"), SIZE, base("written"), base("error")
 
-    def fits_in(self, state):
-        return z3.ULE(self.count(state), SIZE)
-
-    def accepts(self, state):
-        super().accepts(state)
-        must_be(state, "written", 0, 8, self.count(state))
-
-    def rejects(self, state):
-        must_be(state, "written", 0, 8, 0)
+    def errors(self, state):
+        return [*super().errors(state), (z3.UGT(self.count(state), SIZE), "more than fits", INVALID_LENGTH)]
 
 
 class DecoderFinish(Exported):
     """decoder_finish(decoder, error): whether no digit waits for its second half, and there was no error."""
 
     function, name, arguments = "decoder_finish", "any decoder", (base("decoder"), base("error"))
-    regions = Object("decoder", DECODER.size, is_writable=False), ERROR
+    regions = lambda size: Region("decoder", word(2 * size), size, is_writable=False), ERROR
 
     def cases(self, state):
         return [with_decoder(state)]
@@ -265,7 +259,7 @@ class DecoderFinish(Exported):
             must_fail(state, ODD_LENGTH)
         else:
             state.must(z3.UGT(kind, 1), "whether there was an error")
-            must_reject(state, index, character)
+            must_fail(state, INVALID_CHARACTER, index, character)
 
 
 def with_decoder(state):
@@ -279,25 +273,11 @@ def with_decoder(state):
 
 def decoder_of(state):
     """What a decoder had at the call."""
-    *position, character, kind = [state.first_cells["decoder", at] for at in range(state.WORD + 2)]
+    *position, character, kind = [state.first_cells["decoder", offset] for offset in range(state.WORD + 2)]
     return simple(z3.ZeroExt(64 - 8 * state.WORD, joined(position))), character, kind
 
 
-def must_be_invalid(state):
-    """The index of the first character that is no digit, and the character. There is one."""
-    index, character = first_invalid(state)
-    state.must(z3.ULT(index, N), "digits are rejected")
-    return index, character
-
-
-def must_reject(state, index, character):
-    """The error is an invalid character."""
-    must_be(state, "error", 0, 4, INVALID_CHARACTER)
-    must_be(state, "error", 4, 4, z3.ZeroExt(24, character))
-    must_be_size(state, "error", 8, index)
-
-
-class DecoderUpdate(Exported):
+class DecoderUpdate(Text):
     """decoder_update(decoder, text, length, bytes, bytes_size, written, error): the bytes of a chunk's digits, with the
     one before that waits for its second half."""
 
@@ -320,71 +300,43 @@ class DecoderUpdate(Exported):
     def cases(self, state):
         start, one, complete, waits, failed = self.kinds(state)
         is_rest = z3.And(z3.UGE(N, 1), is_prefix(decoder_of(state)[1], state.byte_of_input(word(0))))
-        yield from with_prefix_or_without(state.when(start, state.at))
-        # How many digits wait that belong to the first byte, and where the digits of this chunk begin.
-        for condition, waiting, body in ((z3.And(one, is_rest), 0, 1), (z3.And(one, z3.Not(is_rest)), 1, 0),
-                                         (complete, 0, 0), (waits, 1, 0), (failed, 0, 0)):
-            if way := state.when(condition, state.at):
-                way.waiting, way.body = waiting, word(body)
+        yield from with_prefix_or_without(state.when(start))
+        # Whether a digit waits that belongs to the first byte, and where the digits of this chunk begin.
+        for condition, is_waiting, body in ((z3.And(one, is_rest), False, 1), (z3.And(one, z3.Not(is_rest)), True, 0),
+                                            (complete, False, 0), (waits, True, 0), (failed, False, 0)):
+            if way := state.when(condition):
+                way.waiting, way.body = decoder_of(way)[1] if is_waiting else None, word(body)
                 yield way
-
-    def count(self, state):
-        """How many bytes the digits make."""
-        return simple(z3.LShR(N - state.body + state.waiting, 1))
 
     def waits(self, state):
         """Whether a digit waits for the next chunk."""
-        return N - state.body + state.waiting - 2 * self.count(state) == 1
+        return N - state.body + (state.waiting is not None) - 2 * self.count(state) == 1
 
     def is_alone(self, state, offset):
         """The digit of this chunk that waits for the next one."""
         return state.holds(z3.And(self.waits(state), offset == N - 1))
 
-    def store(self, state, offset, lane):
-        state.must(z3.ULE(decoder_of(state)[2], 1), "written after an error")
-        state.must(z3.ULE(self.count(state), SIZE), "written though the bytes may not fit")
-        state.must(z3.ULE(offset + len(lane), self.count(state)), "written after the bytes")
-        if not state.waiting:
-            return must_be_decoded(state, offset, lane)
-        if state.holds(offset == 0):
-            return must_be_decoded(state, offset, lane, decoder_of(state)[1])
-        state.must(offset != 0, "whether it is the first byte")
-        must_be_decoded(state, offset, lane)
-
-    def returns(self, state):
-        result = state.result()
+    def errors(self, state):
         position, character, kind = decoder_of(state)
-        if state.holds(result == 1):
-            return self.accepts(state, position, character, kind)
-        state.must(result == 0, "the result is neither true nor false")
-        must_be_a_front(state)
-        must_be_size(state, "written", 0, 0)
-        if state.holds(z3.UGT(kind, 1)):
-            must_be_unchanged(state, "decoder")
-            return must_reject(state, position, character)
-        if state.holds(z3.UGT(self.count(state), SIZE)):
-            must_be_unchanged(state, "decoder")
-            return must_fail(state, INVALID_LENGTH)
-        state.must(z3.ULE(self.count(state), SIZE), "whether the bytes fit")
-        index, character = must_be_invalid(state)
-        must_reject(state, moved(state, position, index), character)
-        must_be_size(state, "decoder", 0, moved(state, position, index))
-        must_be(state, "decoder", state.WORD, 1, character)
-        state.must(z3.UGT(state.cell("decoder", state.WORD + 1, 1), 1), "the decoder does not keep its error")
+        return [(z3.UGT(kind, 1), "a chunk after an error", INVALID_CHARACTER, position, character),
+                (z3.UGT(self.count(state), SIZE), "more than fits", INVALID_LENGTH)]
 
-    def accepts(self, state, position, character, kind):
-        state.must(z3.ULE(kind, 1), "a chunk after an error is accepted")
-        must_be_digits(state, N)
-        must_cover(state, word(0), self.count(state), state.writes, "a byte is left out")
-        must_be_unchanged(state, "error")
-        must_be_size(state, "written", 0, self.count(state))
-        must_be_size(state, "decoder", 0, moved(state, position, N))
+    def accepts(self, state):
+        super().accepts(state)
+        position, character, _ = decoder_of(state)
+        must_have(state, "decoder", in_size_t(state, moved(state, position, N)))
         waits = self.waits(state)
-        must_be(state, "decoder", state.WORD + 1, 1, z3.If(waits, byte(1), byte(0)))
-        if other := state.when(z3.And(waits, N == 0), None):
-            must_be(other, "decoder", state.WORD, 1, character)
-        if other := state.when(z3.And(waits, N != 0), None):
-            must_be(other, "decoder", state.WORD, 1, other.byte_of_input(N - 1))
+        must_have(state, "decoder", z3.If(waits, byte(1), byte(0)), offset=state.WORD + 1)
+        if other := state.when(z3.And(waits, N == 0)):
+            must_have(other, "decoder", character, offset=state.WORD)
+        if other := state.when(z3.And(waits, N != 0)):
+            must_have(other, "decoder", other.byte_of_input(N - 1), offset=state.WORD)
+
+    def rejects(self, state, index, character):
+        position = moved(state, decoder_of(state)[0], index)
+        super().rejects(state, position, character)
+        must_have(state, "decoder", in_size_t(state, position), character)
+        state.must(z3.UGT(state.cell("decoder", state.WORD + 1, 1), 1), "the decoder does not keep its error")
 
 
 class ChangedDecoder(DecoderUpdate):
@@ -396,7 +348,7 @@ class ChangedDecoder(DecoderUpdate):
         return z3.Not(super().is_for(state))
 
     def cases(self, state):
-        return [state.when(self.is_for(state), state.at)]
+        return [state.when(self.is_for(state))]
 
     def store(self, state, offset, lane):
         """Anything may be written to the output."""
@@ -406,32 +358,32 @@ class ChangedDecoder(DecoderUpdate):
 
 
 class DecoderFail(Search):
-    """decoder_fail(found, decoder, before, text, length), of a chunk, before which come some characters: the decoder
+    """decoder_fail(result, decoder, before, text, length), of a chunk, before which come some characters: the decoder
     moves to the invalid one, and keeps the error."""
 
     symbol, function, name = "const_hex_decoder_fail", "decoder_fail", "every decoder and chunk"
     before = z3.BitVec("p_before", 64)
-    regions = *[Object(name, DECODER.size, is_aligned=False) for name in ("found", "decoder")], TEXT
-    arguments = base("found"), base("decoder"), before, base("input"), N
+    regions = *[lambda size, name=name: Region(name, word(2 * size)) for name in ("result", "decoder")], TEXT
+    arguments = base("result"), base("decoder"), before, base("input"), N
 
     def cases(self, state):
         return [with_decoder(state)]
 
-    def outcome(self, state, position, before, index, character):
+    def outcomes(self, state, position, before, index, character):
         """What is found, and what the decoder keeps."""
         index = moved(state, moved(state, position, before), index)
-        return self.found(state, index, character), [in_size_t(state, index), character, byte(FAILED)]
+        return self.outcome(state, index, character), [in_size_t(state, index), character, byte(FAILED)]
 
     def returns(self, state):
-        outcome = self.outcome(state, decoder_of(state)[0], self.before, *first_invalid(state))
-        for name, numbers in zip(("found", "decoder"), outcome):
-            must_begin(state, name, numbers)
+        outcomes = self.outcomes(state, decoder_of(state)[0], self.before, *first_invalid(state))
+        for name, numbers in zip(("result", "decoder"), outcomes):
+            must_have(state, name, *numbers)
 
-    def called(self, state, found, decoder, before, input, n):
-        require(set(names(found)).isdisjoint(names(decoder)), "a decoder in the place of what is found")
+    def called(self, state, result, decoder, before, input, n):
+        require(set(names(result)).isdisjoint(names(decoder)), "a decoder in the place of what is found")
         position = simple(z3.ZeroExt(64 - 8 * state.WORD, joined(state.load(decoder, state.WORD))))
         for way, *invalid in first_invalid_from(state, input, 0, n):
-            for address, numbers in zip((found, decoder), self.outcome(way, position, before, *invalid)):
+            for address, numbers in zip((result, decoder), self.outcomes(way, position, before, *invalid)):
                 self.leave(way, address, numbers, 2 * way.WORD)
             yield way, None
 

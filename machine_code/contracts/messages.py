@@ -33,8 +33,8 @@ def shown_in(state):
     length = simple(chosen([byte(len(text)) for text in SHOWN], character))
     count = next((count for count in range(1, 7) if state.holds(length == count)), None)
     require(count, "characters that are shown by different numbers of bytes have one path")
-    return [simple(chosen([byte(text[at : at + 1].ljust(1, b"\0")[0]) for text in SHOWN], character))
-            for at in range(count)]
+    return [simple(chosen([byte(text[index] if index < len(text) else 0) for text in SHOWN], character))
+            for index in range(count)]
 
 
 def decimal(state, number):
@@ -67,6 +67,11 @@ def ended(length):
     return z3.If(SIZE == 0, word(0), z3.If(z3.ULT(length, SIZE), length, SIZE - 1))
 
 
+def written(state):
+    """The offsets of what is written to the output."""
+    return sorted(offset for name, offset in state.cells if name == "output")
+
+
 class Ended(Function):
     """A function that writes a text, or as much of it as fits, and a NUL to its output, and returns how many bytes
     stand before the NUL. It writes nothing to an output of size 0."""
@@ -74,19 +79,19 @@ class Ended(Function):
     may_leak, is_unrolled, near = True, True, 2
 
     def store(self, state, offset, lane):
-        at, = values(state.facts, offset, 1)
-        state.put_cells("output", at, lane)
+        offset, = values(state.facts, offset, 1)
+        state.put_cells("output", offset, lane)
 
     def must_be_ended(self, state, length, text):
         """`text` gives so many bytes of the text."""
-        count = len([at for name, at in state.cells if name == "output"]) - 1
+        count = len(written(state)) - 1
         state.must(state.result(64) == ended(length), "another result")
         state.must((SIZE == 0) == z3.BoolVal(count < 0), "whether anything is written")
         if count >= 0:
             state.must(ended(length) == count, "another part of the output is written")
-            for at, wanted in enumerate([*text(count), byte(0)]):
-                require(("output", at) in state.cells, "a byte is left out")
-                state.must_equal(state.cells["output", at], wanted, f"another byte at {at}")
+            require(written(state) == [*range(count + 1)], "a byte is left out")
+            for offset, wanted in enumerate([*text(count), byte(0)]):
+                state.must_equal(state.cells["output", offset], wanted, f"another byte at {offset}")
 
 
 class WriteEnded(Ended):
@@ -98,15 +103,14 @@ class WriteEnded(Ended):
     requires = z3.ULE(N, MOST),
 
     def returns(self, state):
-        self.must_be_ended(state, N, lambda count: [state.byte_of_input(word(at)) for at in range(count)])
+        self.must_be_ended(state, N, lambda count: [state.byte_of_input(word(index)) for index in range(count)])
 
     def called(self, state, input, n, output, i_size):
         """Writes to the whole output of its caller."""
         count, = values(state.facts, n, 1)
         state.must(i_size == SIZE, "another size")
         state.must(z3.Or(SIZE == 0, output == base("output")), "another output")
-        is_first = state.ended is None and not any(name == "output" for name, _ in state.cells)
-        require(is_first, "a text is written before")
+        require(state.ended is None and not written(state), "a text is written before")
         state.ended = state.load(input, count) if count else []
         yield state, ended(word(count))
 
@@ -129,10 +133,10 @@ class ErrorMessage(Ended):
         text = text_of(state)
         if state.ended is None:
             return self.must_be_ended(state, word(len(text)), lambda count: text[:count])
-        require(not any(name == "output" for name, _ in state.cells), "something is written after the end")
+        require(not written(state), "something is written after the end")
         require(len(state.ended) == len(text), "another text is written")
-        for at, (found, wanted) in enumerate(zip(state.ended, text)):
-            state.must(found == wanted, f"another byte of the text at {at}")
+        for index, (character, wanted) in enumerate(zip(state.ended, text)):
+            state.must(character == wanted, f"another byte of the text at {index}")
         state.must(state.result(64) == ended(word(len(text))), "another result")
 
 

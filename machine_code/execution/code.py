@@ -14,17 +14,15 @@ PAGE = 4096
 
 
 class Instructions(dict):
-    """Those of a file by their addresses. They are read from an address on when it is asked for."""
+    """Those of a file by their addresses, or None. They are read from an address on when it is asked for."""
 
     def __init__(self, read):
         super().__init__()
-        self._read, self._tried = read, set()
+        self._read = read
 
-    def __contains__(self, address):
-        if not super().__contains__(address) and address not in self._tried:
-            self._tried.add(address)
-            self.update({**self._read(address), **self})
-        return super().__contains__(address)
+    def __missing__(self, address):
+        self.update({**self._read(address), **self})
+        return self.get(address)
 
 
 class Code:
@@ -39,12 +37,12 @@ class Code:
         self.constants = Region("constants", word(self.object.size), PAGE if self.object.machine else 1, self.object)
         self.instructions = Instructions(self._read)
 
-    def _read(self, at):
-        part = self.object.code_at(at)
+    def _read(self, address):
+        part = self.object.code_at(address)
         return self.processor.instructions(self, part, self.level) if part else {}
 
-    def at(self, address):
-        """An address of the file, wherever it lies."""
+    def placed(self, address):
+        """An address of the file, wherever that lies."""
         return self.constants.base + (address - self.object.first)
 
     def keeps(self, offset, count):
@@ -55,5 +53,5 @@ class Code:
         return self.kept == offset.as_long()
 
     def name_at(self, address):
-        text = self.instructions[address].text if address in self.instructions else "no instruction"
-        return f"{self.object.name_at(address)} {text}"
+        instruction = self.instructions[address]
+        return f"{self.object.name_at(address)} {instruction.text if instruction else 'no instruction'}"

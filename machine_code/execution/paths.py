@@ -6,6 +6,8 @@ from it, for any k, each way through the loop comes back to it for k + 1. If thi
 that is wrong after some rounds, or that does not end.
 """
 
+from collections import namedtuple
+
 import z3
 
 from contracts.functions import N
@@ -14,13 +16,8 @@ from solver.questions import Refused, require
 
 # So many instructions from one loop head to the next.
 STEPS = 2000
-
-
-class Branch:
-    """What a jump returns that is taken on a condition."""
-
-    def __init__(self, choice, target):
-        self.choice, self.target = choice, target
+# What a jump returns that is taken on a condition.
+Branch = namedtuple("Branch", "choice target")
 
 
 class Loop:
@@ -38,83 +35,82 @@ class Loop:
         self.kept, self.is_clean = list(hint.kept), bool(hint.is_clean)
         self.read, self.written = hint.read(self.rounds), hint.written(self.rounds)
 
-    def after(self, k, term):
-        """A term after so many rounds."""
-        return simple(z3.substitute(term, (self.rounds, k)))
-
     def arrive(self, state, k):
         """Proves that all that is assumed at the head holds in a state that has come there after k rounds."""
-        for claim in self.claims:
-            state.must(self.after(k, claim), f"at the head of a loop: {self.after(k, claim)}")
+        def after(term):
+            return simple(z3.substitute(term, (self.rounds, k)))
+
+        for claim in map(after, self.claims):
+            state.must(claim, f"at the head of a loop: {claim}")
         for name, wanted in self.general.items():
-            state.must(state.general[name] == self.after(k, wanted), f"at the head of a loop: {name}")
-        for at in self.kept:
-            same = all(state.holds(a == b) for a, b in zip(state.vectors[at], self.entry.vectors[at]))
-            require(same, f"at the head of a loop: vector {at}")
-        require(all(at in state.cells and state.cells[at].eq(value) for at, value in self.entry.cells.items()),
+            state.must(state.general[name] == after(wanted), f"at the head of a loop: {name}")
+        for number in self.kept:
+            same = all(state.holds(a == b) for a, b in zip(state.vectors[number], self.entry.vectors[number]))
+            require(same, f"at the head of a loop: vector {number}")
+        require(all(place in state.cells and state.cells[place].eq(value) for place, value in self.entry.cells.items()),
                 "at the head of a loop: the stack")
         require(state.calls == self.entry.calls, "at the head of a loop: where calls return to")
-        state.arrive(self.is_clean)
-        read = self.after(k, self.read)
+        require(state.is_clean or not self.is_clean, "at the head of a loop: vzeroupper is missing")
         # The difference is a count of characters at the head.
-        state.must(z3.ULE(state.body, read), "at the head of a loop: less is read than what comes before the digits")
-        state.contract.reached(state, read, self.after(k, self.written))
+        state.must(z3.ULE(state.body, after(self.read)),
+                   "at the head of a loop: less is read than what comes before the digits")
+        state.contract.reached(state, after(self.read), after(self.written))
 
     def head(self):
         """The state after any number of rounds."""
         state = self.entry.copy()
         state.general = {name: fresh("g", 64) for name in state.general}
         state.general |= {name: simple(term) for name, term in self.general.items()}
-        state.vectors = {at: lane if at in self.kept else [fresh("g", 8) for _ in lane]
-                         for at, lane in state.vectors.items()}
+        state.vectors = {number: lane if number in self.kept else [fresh("g", 8) for _ in lane]
+                         for number, lane in state.vectors.items()}
         for claim in self.claims:
             state.assume(claim)
         state.reads = [(state.body, simple(self.read - state.body))]
         # What was written before the loop stays written.
         state.writes = [*state.writes, (word(0), self.written)]
         state.digits = dict.fromkeys(state.reads, True)
-        state.flags, state.steps, state.loops, state.loop = None, 0, state.loops | {state.at: self}, self
-        state.leave(self.is_clean)
+        state.flags, state.steps, state.loops, state.loop = None, 0, state.loops | {state.address: self}, self
+        state.is_clean = self.is_clean
         return state
 
 
 def step(code, state):
     """Runs one instruction, and gives the states after it; none after a return."""
-    if state.at in code.callees:
-        return called(state, code.callees[state.at])
-    require(state.at in code.instructions, "it leaves the code")
+    if state.address in code.callees:
+        return called(state, code.callees[state.address])
+    instruction = code.instructions[state.address]
+    require(instruction, "it leaves the code")
     state.steps += 1
     require(state.steps < STEPS, "a loop without a hint")
-    instruction = code.instructions[state.at]
     require(not instruction.refused, instruction.refused)
     require(instruction.mnemonic in code.processor.HANDLERS, "an instruction without a meaning here")
     state.next = instruction.address + instruction.size
     to = code.processor.HANDLERS[instruction.mnemonic](state, instruction)
     state.drop_below()
     if isinstance(to, Branch):
-        return branches(state, to)
+        return [*branches(state, to)]
     if isinstance(to, list):
         return [way for way in (state.when(condition, target) for condition, target in to) if way]
     if z3.is_expr(to):
         return returned(state, to)
-    state.at = state.next if to is None else to
+    state.address = state.next if to is None else to
     return [state]
 
 
 def branches(state, to):
+    """The states after a jump on a condition. Time may depend on the input where it is surely invalid."""
     certain = state.choose(to.choice)
-    ways = {True: state.when(to.choice, to.target), False: state.when(z3.Not(to.choice), state.next)}
-    for truth, way in ways.items():
-        if way and certain is not None and truth is not certain:
-            way.may_leak = True
-    return [way for way in ways.values() if way]
+    for truth, condition, target in (True, to.choice, to.target), (False, z3.Not(to.choice), state.next):
+        if way := state.when(condition, target):
+            way.may_leak |= certain is not None and truth is not certain
+            yield way
 
 
 def returned(state, to):
     """A return goes back to a call, or out of the function."""
     name = to.decl().name()
     if name in state.calls:
-        state.at = state.calls.pop(name)
+        state.address = state.calls.pop(name)
         return [state]
     require(name == "p_return", "a return to another place")
     state.returned()
@@ -145,9 +141,8 @@ def run(code, starts, heads, guess):
     try:
         while work:
             state = work.pop()
-            if state.at in heads:
-                if state.at in state.loops:
-                    loop = state.loops[state.at]
+            if state.address in heads:
+                if loop := state.loops.get(state.address):
                     # So the number of instructions grows no faster than the lengths.
                     require(state.loop is loop, "a loop or a call in a loop")
                     loop.arrive(state, simple(loop.rounds + 1))
@@ -162,5 +157,5 @@ def run(code, starts, heads, guess):
             count += not after
             work += after
     except Refused as refused:
-        raise Refused(f"{code.name_at(state.at)}: {refused}") from None
+        raise Refused(f"{code.name_at(state.address)}: {refused}") from None
     return count

@@ -16,7 +16,6 @@ from execution.code import Code
 from execution.paths import run
 from hints.loops import guess, heads
 from meanings import aarch64, webassembly, x86_64
-from reading import library
 from reading.image import AARCH64, X86_64
 from solver import questions, second
 from solver.questions import Refused
@@ -34,19 +33,17 @@ LEVEL = re.compile("_v[23]$")
 def contracts_of(obj):
     """What has to be proved: pairs of a symbol and the number of a contract. What is called by its contract has the
     symbol for it, and so it is among them."""
-    found = []
-    for symbol in sorted(obj.symbols):
-        for at, contract in enumerate(CONTRACTS):
-            form = contract.symbol if obj.machine else contract.symbol.removesuffix("_nonnull")
-            if obj.machine is None and not contract.is_in_module:
-                continue
-            if contract in dispatch.CHOICES and obj.machine != X86_64:
-                continue
-            if contract in KERNELS and (obj.machine == X86_64) != bool(LEVEL.search(symbol)):
-                continue
-            if re.fullmatch(form, symbol):
-                found.append((symbol, at))
-    return found
+    is_x86_64 = obj.machine == X86_64
+
+    def is_of(symbol, contract):
+        if obj.machine is None:
+            return contract.is_in_module and re.fullmatch(contract.symbol.removesuffix("_nonnull"), symbol)
+        if contract in KERNELS and is_x86_64 != bool(LEVEL.search(symbol)):
+            return False
+        return (is_x86_64 or contract not in dispatch.CHOICES) and re.fullmatch(contract.symbol, symbol)
+
+    return [(symbol, number) for symbol in sorted(obj.symbols) for number, contract in enumerate(CONTRACTS)
+            if is_of(symbol, contract)]
 
 
 def effects_of(contract):
@@ -62,14 +59,14 @@ def prove(content, symbol, contract, which=slice(None)):
     """Proves a function of a file, from all starts or from some. Gives how many paths have ended."""
     code = Code(content, PROCESSORS, symbol, effects_of(contract), contract.level)
     starts = contract.starts(code)
-    return run(code, starts[which], () if contract.is_unrolled else heads(code, starts[0].at), guess)
+    return run(code, starts[which], () if contract.is_unrolled else heads(code, starts[0].address), guess)
 
 
 def task(job):
     """Proves a function of a file from one part of its starts. Gives which function it is, whether it is refused, and
     what is to be said of it in a line."""
-    (file, symbol, at), content, part, is_whole = job
-    contract, fault = CONTRACTS[at], None
+    (file, symbol, number), content, part, is_whole = job
+    contract, fault = CONTRACTS[number], None
     try:
         count = prove(content, symbol, contract, slice(part, None, contract.parts))
         outcome = f"proved at every length: {count} paths, {questions.counts['asked']} questions"
@@ -82,4 +79,4 @@ def task(job):
     outcome = f"REFUSED: {fault}" if fault else outcome
     name = f"{contract.name}, {part + 1} of {contract.parts}" if contract.parts > 1 else contract.name
     line = textwrap.shorten(f"{symbol}, {name}: {outcome}", LONGEST)
-    return (file, symbol, at), bool(fault), f"{line}, {sum(os.times()[:4]):.0f} s of processor time"
+    return (file, symbol, number), bool(fault), f"{line}, {sum(os.times()[:4]):.0f} s of processor time"

@@ -44,29 +44,21 @@ def joined(lane):
 def split(term):
     """The bytes of a number. One of 32 or 64 bits, and the lower half of one of 64, are kept for `joined`, which would
     not find the same sums again."""
-    lane = [simple(z3.Extract(at + 7, at, term)) for at in range(0, term.size(), 8)]
+    lane = [simple(z3.Extract(bit + 7, bit, term)) for bit in range(0, term.size(), 8)]
     for size in (4, 8):
         if len(lane) in (size, 8):
             _wholes[tuple(part.get_id() for part in lane[:size])] = simple(z3.Extract(8 * size - 1, 0, term)), lane
     return lane
 
 
-_INDEX, _trees = z3.BitVec("g_index_of_a_table", 8), {}
-
-
 def chosen(table, index):
     """The entry that the lowest bits of an index choose, of a table whose length is a power of two up to 256."""
-    def among(low, bit):
-        if bit < 0:
-            return table[low]
-        one, other = among(low, bit - 1), among(low + (1 << bit), bit - 1)
-        return one if one.eq(other) else z3.If(z3.Extract(bit, bit, _INDEX) == 1, other, one)
-
-    # Made once for each table, which is kept, so that the numbers of its entries are not used again.
-    key = tuple(entry.get_id() for entry in table)
-    if key not in _trees:
-        _trees[key] = among(0, len(table).bit_length() - 2), table
-    return z3.substitute(_trees[key][0], (_INDEX, index))
+    if len(table) == 1:
+        return table[0]
+    half = len(table) // 2
+    one, other = chosen(table[:half], index), chosen(table[half:], index)
+    bit = half.bit_length() - 1
+    return one if one.eq(other) else z3.If(z3.Extract(bit, bit, index) == 1, other, one)
 
 
 class Region:
@@ -92,11 +84,13 @@ class State:
     KEPT_VECTORS, WORD = {}, 8
     # In how many steps facts may be from what is asked, if that has a limit.
     near = None
+    # Whether the upper halves of vectors are clear, where `vzeroupper` has to clear them.
+    is_clean = True
 
-    def start(self, code, contract, at, regions, arguments):
+    def start(self, code, contract, address, regions, arguments):
         """Before the first instruction of a function, nothing is known of registers but the arguments. A function that
         others call by its contract has less of the stack."""
-        self.code, self.contract, self.at, self.near = code, contract, at, contract.near
+        self.code, self.contract, self.address, self.near = code, contract, address, contract.near
         self.STACK, self.STACK_OF_CALLED = contract.stacks(self)
         on_stack = arguments[len(self.ARGUMENTS) :]
         regions = [*regions, Region("stack", word(self.STACK + self.RETURN + 8 * len(on_stack)), 16)]
@@ -104,15 +98,15 @@ class State:
         self.regions = {region.name: region for region in regions}
         self.facts = [fact for region in regions for fact in facts_of(region.base & region.align - 1 == 0)]
         self.general = {name: z3.BitVec(f"g_{name}", 64) for name in self.GENERAL}
-        self.vectors = {at: [z3.BitVec(f"g_v{at}_{lane}", 8) for lane in range(self.WIDTH)]
-                        for at in range(self.VECTORS)}
+        self.vectors = {number: [z3.BitVec(f"g_v{number}_{index}", 8) for index in range(self.WIDTH)]
+                        for number in range(self.VECTORS)}
         self.general |= dict(zip(self.ARGUMENTS, arguments))
         # Bytes of objects by their names and offsets, the input's by the terms of their offsets, and where a call
         # returns to.
-        self.cells = {(region.name, at): z3.BitVec(f"g_{region.name}_{at}", 8) for region in regions
-                      if region.is_object and region.name != "stack" for at in range(region.size.as_long())}
-        for at, argument in enumerate(on_stack):
-            self.put_cells("stack", self.STACK + self.RETURN + 8 * at, split(argument))
+        self.cells = {(region.name, offset): z3.BitVec(f"g_{region.name}_{offset}", 8) for region in regions
+                      if region.is_object and region.name != "stack" for offset in range(region.size.as_long())}
+        for index, argument in enumerate(on_stack):
+            self.put_cells("stack", self.STACK + self.RETURN + 8 * index, split(argument))
         self.input, self.calls = {}, {}
         # The parts of products that have a tenth, by their factors.
         self.tenths = {}
@@ -124,8 +118,8 @@ class State:
         # The loops that were entered, the last one, if nothing was called since by its contract, and the instructions
         # since its head. Whether time may depend on the input, which is surely invalid.
         self.loops, self.loop, self.steps, self.may_leak, self.flags = {}, None, 0, contract.may_leak, None
-        # Where the digits of the input begin, and how many digits wait that belong before them.
-        self.body, self.waiting = word(0), 0
+        # Where the digits of the input begin, and the digit that waits before them, if there is one.
+        self.body, self.waiting = word(0), None
         self.enter()
         self.first, self.first_vectors = self.general.copy(), self.vectors.copy()
         self.first_cells = self.cells.copy()
@@ -146,13 +140,13 @@ class State:
     def must(self, goal, message):
         require(self.holds(goal), message)
 
-    def when(self, condition, at):
-        """This state where a condition holds, at another place, or None if it can't hold."""
+    def when(self, condition, address=None):
+        """This state where a condition holds, perhaps at another address, or None if it can't hold."""
         if self.holds(z3.Not(condition)):
             return None
         other = self.copy()
         other.assume(condition)
-        other.at = at
+        other.address = self.address if address is None else address
         return other
 
     def is_valid(self):
@@ -203,9 +197,9 @@ class State:
         address = simple(address)
         is_allowed = self.may_leak or is_public(address)
         require(is_allowed, "an address depends on bytes that are secret, or on what is unknown")
-        found = [region for region in self.regions.values() if region.base.decl().name() in names(address)]
-        require(len(found) == 1, f"an address in {[region.name for region in found]}: {address}")
-        region, offset = found[0], simple(address - found[0].base)
+        regions = [region for region in self.regions.values() if region.base.decl().name() in names(address)]
+        require(len(regions) == 1, f"an address in {[region.name for region in regions]}: {address}")
+        region, offset = regions[0], simple(address - regions[0].base)
         self.must(z3.And(z3.UGE(region.size, count), z3.ULE(offset, region.size - count)),
                   f"an access may lie outside of {region.name}: {offset}")
         require(not aligned or self.holds(address & count - 1 == 0), "an access may not be aligned")
@@ -218,14 +212,14 @@ class State:
             return self._constants(region, offset, count)
         if region.name == "input":
             self.reads.append((offset, count))
-            return [self.byte_of_input(offset + at) for at in range(count)]
+            return [self.byte_of_input(offset + index) for index in range(count)]
         if region.name == "kept":
             # Another thread may have written it since it was read before.
             self.seen += [fresh("p", 8) for _ in range(count)]
             return self.seen[-count:]
         require(region.is_object, f"{region.name} is read")
         first = self._offset_in(region, offset)
-        known = [self.cells.get((region.name, first + at)) for at in range(count)]
+        known = [self.cells.get((region.name, first + index)) for index in range(count)]
         require(None not in known, "a byte of the stack that was not written")
         return known
 
@@ -266,11 +260,11 @@ class State:
             self.writes.append((offset, len(lane)))
 
     def put_cells(self, name, offset, lane):
-        self.cells |= {(name, offset + at): value for at, value in enumerate(lane)}
+        self.cells |= {(name, offset + index): value for index, value in enumerate(lane)}
 
     def cell(self, name, offset, count):
         """The number that some bytes of an object make."""
-        return joined([self.cells[name, offset + at] for at in range(count)])
+        return joined([self.cells[name, offset + index] for index in range(count)])
 
     def top(self):
         """The offset of the stack pointer in the stack."""
@@ -287,7 +281,8 @@ class State:
     def drop_below(self):
         """A signal handler may change what lies below the stack pointer."""
         top = self.top()
-        self.cells = {(name, at): value for (name, at), value in self.cells.items() if name != "stack" or at >= top}
+        self.cells = {(name, offset): value for (name, offset), value in self.cells.items()
+                      if name != "stack" or offset >= top}
 
     # Bytes of the input. Two names may stand for one byte.
     def byte_of_input(self, offset):
@@ -300,59 +295,65 @@ class State:
         """That two values are the same, where bytes of the input are the same that have the same offset."""
         about = names(value == wanted)
         used = [(offset, name) for offset, name in self.input.values() if name.decl().name() in about]
-        same = [fact for at, (first, one) in enumerate(used) for second, other in used[:at]
+        same = [fact for (first, one), (second, other) in itertools.combinations(used, 2)
                 if self.holds(first == second) for fact in facts_of(one == other)]
         require(holds(self.facts + same, value == wanted, self.near), message)
 
+    # Digits. What is known of a part of the input does not say which names lie in it, so that is asked.
     def known_digits(self):
         """The parts of the input, by offset and count, that are digits."""
         for offset, count in self.reads:
             if (offset, count) not in self.digits:
                 self.digits[offset, count] = all(
-                    self.holds(self.contract.is_digit(self.byte_of_input(offset + at))) for at in range(count))
+                    self.holds(self.contract.is_digit(self.byte_of_input(offset + index))) for index in range(count))
             if self.digits[offset, count]:
                 yield offset, count
 
-    def with_digits(self, offset, count):
-        """This state where a part of the input has digits alone, or None if it can't: what is known to be no digit lies
-        elsewhere, and what is known to lie in the part is a digit."""
-        other = self.without_others(offset, count)
-        digits = [self.contract.is_digit(name) for index, name in self.input.values()
-                  if other and not self.is_known(name, True) and other.holds(z3.ULT(index - offset, count))]
-        return other and other.when(z3.And(*digits), other.at)
+    def is_known(self, character, is_digit):
+        """Whether what is known of a character alone says that it is a digit, or that it is none."""
+        wanted = self.contract.is_digit(character) == is_digit
+        return is_impossible([*relevant(self.facts, wanted, 0), z3.Not(wanted)])
 
-    def without_others(self, offset, count):
-        """The same, but of characters that are known to lie in the part nothing is said."""
+    def with_digits(self, offset, count, are_named=True):
+        """This state where a part of the input has digits alone, or None if it can't: what is known to be no digit lies
+        elsewhere, and what is known to lie in the part is a digit, which is left out where no names are asked for."""
         other, offset, count = self.copy(), simple(offset), simple(count)
         other.reads.append((offset, count))
         other.digits[offset, count] = True
-        for index, name in self.input.values():
-            if other and self.is_known(name, False):
-                other = other.when(z3.Not(z3.ULT(index - offset, count)), other.at)
-        return other
+        for index, character in self.input.values():
+            if other and self.is_known(character, False):
+                other = other.when(z3.Not(z3.ULT(index - offset, count)))
+        digits = [self.contract.is_digit(character) for index, character in self.input.values() if are_named and other
+                  and not self.is_known(character, True) and other.holds(z3.ULT(index - offset, count))]
+        return other and other.when(z3.And(*digits))
 
-    def is_known(self, name, is_digit):
-        """Whether a character is known, by itself, to be a digit, or to be none."""
-        wanted = self.contract.is_digit(name) == is_digit
-        return is_impossible([*relevant(self.facts, wanted, 0), z3.Not(wanted)])
-
-    def without_digit(self, offset):
-        """This state where a character of the input is no digit, or None if it can't be: so it lies in no part that
-        has digits alone."""
-        other = self.when(z3.Not(self.contract.is_digit(self.byte_of_input(offset))), self.at)
+    def with_no_digit(self, offset):
+        """This state where a character of the input is no digit, or None if it can't be: it lies in no part that has
+        digits alone."""
+        other = self.when(z3.Not(self.contract.is_digit(self.byte_of_input(offset))))
         for start, count in list(self.known_digits()):
-            other = other and other.when(z3.Not(z3.ULT(offset - start, count)), other.at)
+            other = other and other.when(z3.Not(z3.ULT(offset - start, count)))
         return other
 
     # Calls
-    def return_to(self, at):
+    def return_to(self, address):
         """A number that stands for the address of an instruction, to which a return will go."""
-        token = z3.BitVec(f"p_return_{at:x}", 64)
-        self.calls |= {token.decl().name(): at}
+        token = z3.BitVec(f"p_return_{address:x}", 64)
+        self.calls |= {token.decl().name(): address}
         return token
 
+    def returned(self):
+        """What a return out of the function needs."""
+        for name in self.KEPT:
+            self.must(self.general[name] == self.first[name], f"{name} is not as before")
+        for number, count in self.KEPT_VECTORS.items():
+            for byte_now, first in zip(self.vectors[number][:count], self.first_vectors[number]):
+                self.must(byte_now == first, f"v{number} is not as before")
+
     def arguments(self, count):
-        return [self.general[name] for name in self.ARGUMENTS[:count]]
+        """So many arguments, at the first instruction of a function: in registers, and then in the stack."""
+        return [self.general[name] for name in self.ARGUMENTS[:count]] + [
+            self.cell("stack", self.top() + self.frame(index), 8) for index in range(len(self.ARGUMENTS), count)]
 
     def result(self, bits=None):
         """So many bits of the result, or those that callers may look at if it is a bool."""
@@ -368,24 +369,18 @@ class State:
         """How many bytes of the stack belong to a call with so many arguments."""
         return self.RETURN + 8 * max(0, count - len(self.ARGUMENTS))
 
-    def argument(self, at):
-        """An argument, at the first instruction of a function."""
-        if at < len(self.ARGUMENTS):
-            return self.general[self.ARGUMENTS[at]]
-        return self.cell("stack", self.top() + self.frame(at), 8)
-
     def forget_arguments(self, count):
         """Those in the stack belong to what was called."""
-        for at in range(self.RETURN, self.frame(count)):
-            self.put_cells("stack", self.top() + at, [fresh("g", 8)])
+        for offset in range(self.RETURN, self.frame(count)):
+            self.put_cells("stack", self.top() + offset, [fresh("g", 8)])
 
     def forget(self):
         """A function that was called has changed all registers that it need not keep."""
         kept = (*self.KEPT, self.TOP)
         self.general = {name: value if name in kept else fresh("g", 64) for name, value in self.general.items()}
-        self.vectors = {at: lane[: self.KEPT_VECTORS.get(at, 0)] + [fresh("g", 8) for _ in
-                                                                    lane[self.KEPT_VECTORS.get(at, 0) :]]
-                        for at, lane in self.vectors.items()}
+        for number, lane in self.vectors.items():
+            count = self.KEPT_VECTORS.get(number, 0)
+            self.vectors[number] = lane[:count] + [fresh("g", 8) for _ in lane[count:]]
         self.flags = None
 
     def put_result(self, result):

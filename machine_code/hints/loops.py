@@ -14,28 +14,28 @@ from solver.questions import Refused, is_public, names
 
 def heads(code, start):
     """The targets of edges back to an instruction that is being visited, in calls, too."""
-    found, done, work = set(), set(), [(start, frozenset())]
+    targets, done, work = set(), set(), [(start, frozenset())]
     while work:
-        at, above = work.pop()
-        found |= {at} & above
-        if at not in done and at not in code.callees and at in code.instructions:
-            done.add(at)
-            work += [(to, above | {at}) for to in code.processor.follows(code.instructions[at])]
-    return found
+        address, above = work.pop()
+        targets |= {address} & above
+        if address not in done and address not in code.callees and (i := code.instructions[address]):
+            done.add(address)
+            work += [(to, above | {address}) for to in code.processor.follows(i)]
+    return targets
 
 
-def leading_to(code, at):
-    """The instructions from which one leads to a place, if no call has to return before."""
+def leading_to(code, target):
+    """The instructions from which one leads to an address, if no call has to return before."""
     before = {}
     for i in code.instructions.values():
         for to in code.processor.follows(i) if i.mnemonic in code.processor.HANDLERS else ():
             before.setdefault(to, []).append(i.address)
-    found, work = set(), [at]
+    leading, work = set(), [target]
     while work:
-        for address in before.get(work.pop(), ()):
-            work += [] if address in found else [address]
-            found.add(address)
-    return found
+        new = {*before.get(work.pop(), ())} - leading
+        leading |= new
+        work += new
+    return leading
 
 
 class Hint:
@@ -51,8 +51,9 @@ class Hint:
 
         steps = {name: difference(name) for name in entry.general}
         self.added, self.steps = added, {name: step for name, step in steps.items() if step is not None}
-        self.kept = [at for at, lane in entry.vectors.items() if all(a.eq(b) for a, b in zip(lane, end.vectors[at]))]
-        self.is_clean = getattr(entry, "is_clean", False) and end.is_clean
+        self.kept = [number for number, lane in entry.vectors.items()
+                     if all(a.eq(b) for a, b in zip(lane, end.vectors[number]))]
+        self.is_clean = entry.is_clean and end.is_clean
         self.first_read, self.first_written = _least(end.reads), _least(end.writes)
         unknown = {added[name].decl().name() for name in added if name not in self.steps}
         moving = {added[name].decl().name() for name, step in self.steps.items() if step}
@@ -137,10 +138,10 @@ class Unproved:
 class Directed(Unproved):
     """One of which is known which way it goes: a branch goes both ways."""
 
-    def when(self, condition, at):
+    def when(self, condition, address=None):
         other = self.copy()
         other.assume(condition)
-        other.at = at
+        other.address = self.address if address is None else address
         return other
 
 
@@ -155,15 +156,15 @@ def _at_head(entry, kind, added):
 def _first_round(code, entry):
     """The addresses on a way from a loop's head back to it, and the state there; or None, if none was found."""
     unchanged = {name: word(0) for name in entry.general}
-    work, near = [(_at_head(entry, Unproved, unchanged), ())], leading_to(code, entry.at)
+    work, leading = [(_at_head(entry, Unproved, unchanged), ())], leading_to(code, entry.address)
     while work:
         # Those that lead back come first.
-        work.sort(key=lambda part: part[0].at in near)
+        work.sort(key=lambda part: part[0].address in leading)
         state, way = work.pop()
-        if way and state.at == entry.at:
+        if way and state.address == entry.address:
             return way, state
         try:
-            work += [(after, (*way, after.at)) for after in paths.step(code, state)]
+            work += [(after, (*way, after.address)) for after in paths.step(code, state)]
         # Nothing is checked here, so an access outside of a table is tried. The proof itself rejects it.
         except (Refused, IndexError):
             pass
@@ -179,5 +180,5 @@ def guess(code, entry):
              for name, value in entry.general.items()}
     state = _at_head(entry, Directed, added)
     for address in way:
-        state = next(after for after in paths.step(code, state) if after.at == address)
+        state = next(after for after in paths.step(code, state) if after.address == address)
     return Hint(entry, state, added)

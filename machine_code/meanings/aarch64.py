@@ -11,10 +11,9 @@ import z3
 
 from execution import state
 from execution.paths import Branch
-from execution.state import byte, joined, simple, split, word
-from meanings.aarch64_vectors import (by_units, constant, duplicate, either, extract, look_up, mixed, move, narrow,
-                                      shift_right, widen)
-from meanings.lanes import ADD, AND, MINIMUM, MULTIPLY, OR, SUBTRACT, SUBTRACT_SATURATED, XOR
+from execution.state import byte, chosen, joined, simple, split, word
+from meanings.lanes import (ADD, AND, MINIMUM, MULTIPLY, OR, SUBTRACT, SUBTRACT_SATURATED, XOR, bytes_of, conditions,
+                            difference_flags, each, holds, logic_flags, sum_flags, units)
 from reading import assembled
 from reading.image import AARCH64
 from solver.questions import require
@@ -32,22 +31,21 @@ class Operand:
 
     def __init__(self, text):
         self.text, self.lane, self.size = text, None, None
-        if found := re.fullmatch(rf"([xw])({NUMBER}|zr)|(w?sp)", text):
-            self.kind, self.name, self.size = "general", found[3] and "sp" or f"x{found[2]}", 4 if text[0] == "w" else 8
-        elif found := re.fullmatch(r"([bhsdq])(\d+)", text):
-            self.kind, self.name, self.size = "vector", int(found[2]), SIZES[found[1]]
-        elif found := re.fullmatch(r"(\{?)v(\d+)\.(\d+)([bhsd])\}?", text):
-            self.kind, self.name, self.lane = "vector", int(found[2]), SIZES[found[4]]
-            self.size = int(found[3]) * self.lane
-        elif found := re.fullmatch(r"\{?v(\d+)\.([bhsd])\}?\[(\d+)\]", text):
-            self.kind, self.name, self.size = "element", int(found[1]), SIZES[found[2]]
-            self.first = int(found[3]) * self.size
-        elif found := re.fullmatch(
-                rf"\[(x{NUMBER}|sp)(?:, (?:#(-?\d+)|(x{NUMBER})(?:, lsl #(\d+))?))?\](!?)", text):
-            self.kind, self.base, self.offset, self.index = "memory", found[1], int(found[2] or 0), found[3]
-            self.count, self.is_moved, self.after = int(found[4] or 0), bool(found[5]), None
-        elif found := re.fullmatch(r"(lsl|lsr) #(\d+)|(uxtw)", text):
-            self.kind, self.how, self.count = "shift", found[1] or found[3], found[2] and int(found[2])
+        if match := re.fullmatch(rf"([xw])({NUMBER}|zr)|(w?sp)", text):
+            self.kind, self.name, self.size = "general", match[3] and "sp" or f"x{match[2]}", 4 if text[0] == "w" else 8
+        elif match := re.fullmatch(r"([bhsdq])(\d+)", text):
+            self.kind, self.name, self.size = "vector", int(match[2]), SIZES[match[1]]
+        elif match := re.fullmatch(r"\{?v(\d+)\.(\d+)([bhsd])\}?", text):
+            self.kind, self.name, self.lane = "vector", int(match[1]), SIZES[match[3]]
+            self.size = int(match[2]) * self.lane
+        elif match := re.fullmatch(r"\{?v(\d+)\.([bhsd])\}?\[(\d+)\]", text):
+            self.kind, self.name, self.size = "element", int(match[1]), SIZES[match[2]]
+            self.first = int(match[3]) * self.size
+        elif match := re.fullmatch(rf"\[(x{NUMBER}|sp)(?:, (?:#(-?\d+)|(x{NUMBER})))?\](!?)", text):
+            self.kind, self.base, self.offset, self.index = "memory", match[1], int(match[2] or 0), match[3]
+            self.is_moved, self.after = bool(match[4]), None
+        elif match := re.fullmatch(r"(lsl|lsr) #(\d+)|(uxtw)", text):
+            self.kind, self.how, self.count = "shift", match[1] or match[3], match[2] and int(match[2])
         elif text in CONDITIONS:
             self.kind = "condition"
         else:
@@ -76,7 +74,7 @@ def _is_target(i):
 
 
 def instructions(code, part, level):
-    """Those of some code by their addresses."""
+    """The instructions of a part of a file, by their addresses."""
     command = ["aarch64-linux-gnu-as", "-march=armv8-a"]
     return assembled.read(part, AARCH64, _operands, command, assembled.with_distance, _is_page)
 
@@ -91,27 +89,15 @@ class State(state.State):
     """The arguments are in these registers, and a call has left the address to return to in x30."""
 
     TOP, STACK, STACK_OF_CALLED, STACK_OF_DISPATCH, RETURN, VECTORS, WIDTH = "sp", 2000, 64, 2032, 0, 32, 16
-    GENERAL = tuple(f"x{at}" for at in range(31)) + ("sp",)
-    ARGUMENTS, RESULT = tuple(f"x{at}" for at in range(8)), ("x0", 32)
-    KEPT, KEPT_VECTORS = ("sp", *(f"x{at}" for at in range(19, 30))), dict.fromkeys(range(8, 16), 8)
+    GENERAL = tuple(f"x{number}" for number in range(31)) + ("sp",)
+    ARGUMENTS, RESULT = tuple(f"x{number}" for number in range(8)), ("x0", 32)
+    KEPT, KEPT_VECTORS = ("sp", *(f"x{number}" for number in range(19, 30))), dict.fromkeys(range(8, 16), 8)
 
     def enter(self):
         self.general |= {"sp": simple(self.regions["stack"].base + self.STACK), "x30": z3.BitVec("p_return", 64)}
 
     def return_address(self):
         return self.general["x30"]
-
-    def returned(self):
-        for name in self.KEPT:
-            self.must(self.general[name] == self.first[name], f"{name} is not as before")
-        for at, count in self.KEPT_VECTORS.items():
-            for new, old in zip(self.vectors[at][:count], self.first_vectors[at]):
-                self.must(new == old, f"v{at} is not as before")
-
-    def arrive(self, is_clean):
-        """All that a loop head says is said of any processor."""
-
-    leave = arrive
 
     # Operands
     def number(self, o, size=None):
@@ -122,15 +108,17 @@ class State(state.State):
         whole = word(0) if o.name == "xzr" else self.general[o.name]
         return whole if o.size == 8 else simple(z3.Extract(31, 0, whole))
 
-    def last(self, operands, size):
-        """The last operand, which may be shifted, or extended from 32 bits."""
-        if size == 8 and operands[0].size == 4 and operands[1:] and operands[1].how == "uxtw":
-            return simple(z3.ZeroExt(32, self.number(operands[0])))
-        value = self.number(operands[0], size)
-        if len(operands) == 1:
-            return value
-        require(operands[1].how in SHIFTS, "a shift")
-        return simple(SHIFTS[operands[1].how](value, operands[1].count))
+    def numbers(self, operands, size):
+        """Those of general registers. The last one may be shifted, or extended from 32 bits."""
+        if operands[-1].kind != "shift":
+            return [self.number(o, size) for o in operands]
+        *operands, last, shifted = operands
+        if size == 8 and last.size == 4 and shifted.how == "uxtw":
+            number = z3.ZeroExt(32, self.number(last))
+        else:
+            require(shifted.how in SHIFTS, "a shift")
+            number = SHIFTS[shifted.how](self.number(last, size), shifted.count)
+        return [*self.numbers(operands, size), simple(number)]
 
     def lane(self, o):
         """The bytes of any register."""
@@ -152,71 +140,42 @@ class State(state.State):
 
 
 SHIFTS = {"lsl": lambda a, by: a * (1 << by), "lsr": z3.LShR}
-CONDITIONS = {
-    "eq": lambda n, z, c, v: z, "cs": lambda n, z, c, v: c, "hi": lambda n, z, c, v: z3.And(c, z3.Not(z)),
-    "gt": lambda n, z, c, v: z3.And(z3.Not(z), n == v),
-}
-CONDITIONS |= {new: lambda *flags, old=old: z3.Not(CONDITIONS[old](*flags)) for new, old in
-               {"ne": "eq", "cc": "cs", "ls": "hi", "le": "gt"}.items()}
+CONDITIONS = conditions(
+    {"eq": lambda flag: flag("z"), "cs": lambda flag: flag("c"),
+     "hi": lambda flag: z3.And(flag("c"), z3.Not(flag("z"))),
+     "gt": lambda flag: z3.And(z3.Not(flag("z")), flag("s") == flag("o"))},
+    {"ne": "eq", "cc": "cs", "ls": "hi", "le": "gt"})
 
 
-def condition(s, name):
-    require(s.flags is not None, "a flag that is not known")
-    return simple(CONDITIONS[name](*s.flags))
-
-
-def sum_flags(a, b):
-    result = a + b
-    return result < 0, result == 0, z3.ULT(result, a), (a ^ result) & (b ^ result) < 0
-
-
-def difference_flags(a, b):
-    result = a - b
-    return result < 0, a == b, z3.UGE(a, b), (a ^ b) & (a ^ result) < 0
-
-
-def logic_flags(a, b):
-    return simple(a & b) < 0, simple(a & b) == 0, z3.BoolVal(False), z3.BoolVal(False)
+def comparison_flags(a, b):
+    """Of a difference. The carry says that nothing is borrowed."""
+    return difference_flags(a, b) | {"c": z3.UGE(a, b)}
 
 
 # General instructions
 def general(function, flags=None, is_kept=True):
     def handler(s, i):
-        to, one, *others = i.operands if is_kept else [None, *i.operands]
-        a, b = s.number(one), s.last(others, one.size)
-        if flags:
-            s.flags = flags(a, b)
+        given = s.numbers(i.operands[is_kept:], i.operands[0].size)
+        s.flags = flags(*given) if flags else s.flags
         if is_kept:
-            s.put(to, simple(function(a, b)))
+            s.put(i.operands[0], simple(function(*given)))
     return handler
 
 
 def adrp(s, i):
-    s.put(i.operands[0], s.code.at(i.operands[1].value))
-
-
-def invert(s, i):
-    to, *others = i.operands
-    s.put(to, simple(~s.last(others, to.size)))
+    s.put(i.operands[0], s.code.placed(i.operands[1].value))
 
 
 def upper_product(s, i):
-    to, one, other = i.operands
-    s.put(to, simple(z3.Extract(127, 64, s.product(s.number(one), s.number(other)))))
-
-
-def less_product(s, i):
-    to, one, other, by = i.operands
-    a, b, c = [s.number(o, to.size) for o in (one, other, by)]
-    s.put(to, simple(c - a * b))
+    to, *others = i.operands
+    s.put(to, simple(z3.Extract(127, 64, s.product(*s.numbers(others, 8)))))
 
 
 def move_part(s, i):
     """Writes 16 bits, and keeps the others."""
     to, number, *by = i.operands
-    at = by[0].count if by else 0
-    kept = s.number(to) & ~(0xFFFF << at)
-    s.put(to, simple(kept | number.value << at))
+    bit = by[0].count if by else 0
+    s.put(to, simple(s.number(to) & ~(0xFFFF << bit) | number.value << bit))
 
 
 def insert_bits(s, i):
@@ -237,13 +196,92 @@ def select(function):
     def handler(s, i):
         to, one, other, name = i.operands
         a, b = s.number(one, to.size), s.number(other, to.size)
-        s.put(to, s.either(condition(s, name.text), a, simple(function(b))))
+        s.put(to, s.either(holds(s, CONDITIONS[name.text]), a, simple(function(b))))
     return handler
 
 
 def set_if(s, i):
     to, name = i.operands
-    s.put(to, s.either(condition(s, name.text), z3.BitVecVal(1, 8 * to.size), z3.BitVecVal(0, 8 * to.size)))
+    s.put(to, s.either(holds(s, CONDITIONS[name.text]), z3.BitVecVal(1, 8 * to.size), z3.BitVecVal(0, 8 * to.size)))
+
+
+# Vectors
+def same(*vectors):
+    """The vectors have the same lanes."""
+    require(all(o.kind == "vector" and o.lane for o in vectors), "vectors are needed")
+    return vectors
+
+
+def by_units(function):
+    def handler(s, i):
+        to, one, other = same(*i.operands)
+        s.put_lane(to, each(function, to.lane, s.lane(one), s.lane(other)))
+    return handler
+
+
+def either(of_general, of_vectors):
+    return lambda s, i: (of_general if i.operands[0].kind == "general" else of_vectors)(s, i)
+
+
+def shift_right(s, i):
+    *vectors, by = i.operands
+    to, one = same(*vectors)
+    s.put_lane(to, each(lambda a: z3.LShR(a, by.value), to.lane, s.lane(one)))
+
+
+def constant(s, i):
+    to, number = i.operands
+    require(to.lane, "a vector is needed")
+    s.put_lane(to, split(z3.BitVecVal(number.value, 8 * to.lane)) * (to.size // to.lane))
+
+
+def move(s, i):
+    """Between registers of any kind. What is above in a register is cleared."""
+    to, by = i.operands
+    if by.kind == "number":
+        return s.put(to, s.number(by, to.size))
+    if by.kind == to.kind == "general":
+        return s.put(to, s.number(by, to.size))
+    # An element comes from the lower bytes of a register, and goes into a register that may be wider.
+    s.put_lane(to, s.lane(by)[: to.size] + [byte(0)] * (to.size - by.size))
+
+
+def duplicate(s, i):
+    to, by = i.operands
+    s.put_lane(to, s.lane(by)[: to.lane] * (to.size // to.lane))
+
+
+def widen(s, i):
+    to, by = i.operands
+    is_upper = i.mnemonic.endswith("2")
+    half = s.lane(by)[8 * is_upper :]
+    s.put_lane(to, [x for a in units(half, by.lane) for x in split(a) + [byte(0)] * by.lane])
+
+
+def narrow(s, i):
+    to, by, *count = i.operands
+    shifted = [z3.LShR(a, count[0].value if count else 0) for a in units(s.lane(by), by.lane)]
+    s.put_lane(to, bytes_of(z3.Extract(8 * to.lane - 1, 0, a) for a in shifted))
+
+
+def mixed(function):
+    """An instruction that takes numbers of two vectors."""
+    def handler(s, i):
+        to, one, other = same(*i.operands)
+        s.put_lane(to, bytes_of(function(units(s.lane(one), to.lane), units(s.lane(other), to.lane))))
+    return handler
+
+
+def extract(s, i):
+    *vectors, first = i.operands
+    to, one, other = same(*vectors)
+    s.put_lane(to, (s.lane(one) + s.lane(other))[first.value :][: to.size])
+
+
+def look_up(s, i):
+    to, table, by = i.operands
+    entries = s.lane(table)
+    s.put_lane(to, [simple(z3.If(z3.ULT(index, 16), chosen(entries, index), byte(0))) for index in s.lane(by)])
 
 
 # Jumps
@@ -259,12 +297,12 @@ def ret(s, i):
 
 
 def jump_if(s, i):
-    return Branch(condition(s, i.mnemonic[2:]), i.operands[0].value)
+    return Branch(holds(s, CONDITIONS[i.mnemonic[2:]]), i.operands[0].value)
 
 
 def jump_if_bit(s, i):
-    by, at, to = i.operands
-    return Branch(simple(z3.Extract(at.value, at.value, s.number(by)) == int(i.mnemonic == "tbnz")), to.value)
+    by, bit, to = i.operands
+    return Branch(simple(z3.Extract(bit.value, bit.value, s.number(by)) == int(i.mnemonic == "tbnz")), to.value)
 
 
 def jump_if_zero(s, i):
@@ -272,63 +310,53 @@ def jump_if_zero(s, i):
     return Branch(is_zero if i.mnemonic == "cbz" else simple(z3.Not(is_zero)), i.operands[1].value)
 
 
-# Loads and stores: how many bytes are of each register, if not all
-LOADS = {"ldr": None, "ldur": None, "ldp": None, "ld1": None, "ldrb": 1, "ldurb": 1, "ldrh": 2}
-STORES = {"str": None, "stur": None, "stp": None, "st1": None, "strb": 1, "sturb": 1, "strh": 2}
+# Loads and stores
+LOADS = "ldr", "ldur", "ldp", "ld1", "ldrb", "ldurb", "ldrh"
+STORES = "str", "stur", "stp", "st1", "strb", "sturb", "strh"
 
 
-def address(s, i, registers):
-    """The address of an access, and what the base is afterwards, if it is moved."""
-    o = i.operands[-1]
+def accessed(s, i):
+    """The registers of a load or store, how many bytes are of each: all, or what the last letter says; the address, and
+    what the base is afterwards."""
+    *registers, o = i.operands
     require(o.kind == "memory", "an address of another form")
     base = s.general[o.base]
     if o.base == "sp":
         s.must(base & 15 == 0, "the stack pointer is not aligned")
-    at = simple(base + (s.general[o.index] * (1 << o.count) if o.index else o.offset))
-    return at, simple(base + s.number(o.after, 8)) if o.after else at if o.is_moved else None
-
-
-def accessed(s, i, table):
-    """The registers of a load or store, how many bytes are of each, and its address and the base afterwards."""
-    *registers, _ = i.operands
-    size = table[i.mnemonic] or registers[0].size
-    return registers, size, *address(s, i, registers)
-
-
-def move_base(s, i, base):
-    if base is not None:
-        s.general[i.operands[-1].base] = base
+    address = simple(base + (s.general[o.index] if o.index else o.offset))
+    moved = simple(base + s.number(o.after, 8)) if o.after else address if o.is_moved else base
+    return registers, SIZES.get(i.mnemonic[-1], registers[0].size), address, {o.base: moved}
 
 
 def load(s, i):
-    targets, size, at, base = accessed(s, i, LOADS)
-    lane = s.load(at, size * len(targets))
-    move_base(s, i, base)
+    targets, size, address, moved = accessed(s, i)
+    lane = s.load(address, size * len(targets))
+    s.general |= moved
     for number, target in enumerate(targets):
         s.put_lane(target, lane[size * number :][:size] + [byte(0)] * (target.size - size))
 
 
 def store(s, i):
     """One that moves the stack pointer first makes space for what it stores."""
-    sources, size, at, base = accessed(s, i, STORES)
+    sources, size, address, moved = accessed(s, i)
     lane = [x for source in sources for x in s.lane(source)[:size]]
-    move_base(s, i, base)
-    s.store(at, lane)
+    s.general |= moved
+    s.store(address, lane)
 
 
 HANDLERS = {
     "add": either(general(ADD), by_units(ADD)), "adds": general(ADD, sum_flags),
     "cmn": general(ADD, sum_flags, is_kept=False),
-    "sub": either(general(SUBTRACT), by_units(SUBTRACT)), "subs": general(SUBTRACT, difference_flags),
-    "cmp": general(SUBTRACT, difference_flags, is_kept=False), "and": either(general(AND), by_units(AND)),
-    "tst": general(AND, logic_flags, is_kept=False), "orr": either(general(OR), by_units(OR)),
-    "eor": either(general(XOR), by_units(XOR)), "umulh": upper_product, "msub": less_product, "movk": move_part,
-    "mvn": invert, "lsl": shift, "lsr": shift, "adrp": adrp, "csel": select(lambda b: b),
+    "sub": either(general(SUBTRACT), by_units(SUBTRACT)), "subs": general(SUBTRACT, comparison_flags),
+    "cmp": general(SUBTRACT, comparison_flags, is_kept=False), "and": either(general(AND), by_units(AND)),
+    "tst": general(AND, logic_flags(AND), is_kept=False), "orr": either(general(OR), by_units(OR)), "eor": general(XOR),
+    "mvn": general(lambda a: ~a), "msub": general(lambda a, b, c: c - a * b), "umulh": upper_product,
+    "movk": move_part, "bfxil": insert_bits, "lsl": shift, "lsr": shift, "adrp": adrp, "csel": select(lambda b: b),
     "csinv": select(lambda b: ~b), "cset": set_if, "b": jump, "bl": jump, "ret": ret, "cbz": jump_if_zero,
-    "cbnz": jump_if_zero, "tbz": jump_if_bit, "tbnz": jump_if_bit, "bfxil": insert_bits, "mul": by_units(MULTIPLY),
+    "cbnz": jump_if_zero, "tbz": jump_if_bit, "tbnz": jump_if_bit, "mul": by_units(MULTIPLY),
     "umin": by_units(MINIMUM), "uqsub": by_units(SUBTRACT_SATURATED), "ushr": shift_right, "movi": constant,
     "mov": move, "fmov": move, "umov": move, "dup": duplicate, "uxtl": widen, "uxtl2": widen, "xtn": narrow,
     "shrn": narrow, "ext": extract, "tbl": look_up, "uzp2": mixed(lambda a, b: (a + b)[1::2]),
     "zip1": mixed(lambda a, b: [x for pair in zip(a[: len(a) // 2], b) for x in pair]),
+    **dict.fromkeys(LOADS, load), **dict.fromkeys(STORES, store), **{f"b.{name}": jump_if for name in CONDITIONS},
 }
-HANDLERS |= dict.fromkeys(LOADS, load) | dict.fromkeys(STORES, store) | {f"b.{name}": jump_if for name in CONDITIONS}

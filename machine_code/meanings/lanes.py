@@ -1,14 +1,15 @@
-"""What instructions on vectors have in common: a vector is a list of its bytes, the lowest first. Each meaning is
-compared with the processor by test_meanings.py."""
+"""What instructions of several processors have in common. A vector is a list of its bytes, the lowest first. Each
+meaning is compared with the processor by test_meanings.py."""
 
 import z3
 
 from execution.state import joined, simple, split
+from solver.questions import require
 
 
 def units(lane, size):
     """The numbers of so many bytes that a lane has."""
-    return [joined(lane[at : at + size]) for at in range(0, len(lane), size)]
+    return [joined(lane[first : first + size]) for first in range(0, len(lane), size)]
 
 
 def bytes_of(numbers):
@@ -30,3 +31,33 @@ ADD, SUBTRACT, MULTIPLY = lambda a, b: a + b, lambda a, b: a - b, lambda a, b: a
 AND, OR, XOR, AND_NOT = lambda a, b: a & b, lambda a, b: a | b, lambda a, b: a ^ b, lambda a, b: ~a & b
 MINIMUM, MAXIMUM = lambda a, b: z3.If(z3.ULT(a, b), a, b), lambda a, b: z3.If(z3.ULT(a, b), b, a)
 SUBTRACT_SATURATED = lambda a, b: z3.If(z3.ULT(a, b), z3.BitVecVal(0, a.size()), a - b)
+
+
+# Flags: the sign of a result, whether it is 0, the carry, and whether the signed result is another.
+def sum_flags(a, b):
+    return {"s": a + b < 0, "z": a + b == 0, "c": z3.ULT(a + b, a), "o": (a ^ a + b) & (b ^ a + b) < 0}
+
+
+def difference_flags(a, b):
+    return {"s": a - b < 0, "z": a == b, "c": z3.ULT(a, b), "o": (a ^ b) & (a ^ a - b) < 0}
+
+
+def logic_flags(function):
+    def flags(a, b):
+        result = simple(function(a, b))
+        return {"s": result < 0, "z": result == 0, "c": z3.BoolVal(False), "o": z3.BoolVal(False)}
+    return flags
+
+
+def conditions(known, opposites):
+    """Conditions by their names, each a function of what gives a flag; and those that are their opposites."""
+    return known | {name: lambda flag, other=known[other]: z3.Not(other(flag)) for name, other in opposites.items()}
+
+
+def holds(s, condition):
+    """Whether a condition holds in a state."""
+    def flag(letter):
+        require(s.flags and letter in s.flags, "a flag that is not known")
+        return s.flags[letter]
+
+    return simple(condition(flag))

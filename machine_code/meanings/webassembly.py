@@ -35,7 +35,7 @@ class Reader:
     """The instructions of a function. Blocks become branches, and what is not reached is left out."""
 
     def __init__(self, code, function):
-        self.code, self.function, self.found = code, function, []
+        self.code, self.function, self.read_so_far = code, function, []
         whole = Block(None, len(function.results))
         self.blocks, self.height, self.is_reached = [whole], 0, True
         *content, end = function.content
@@ -46,7 +46,7 @@ class Reader:
         self.read(end, end)
 
     def place(self):
-        return self.function.address + len(self.found)
+        return self.function.address + len(self.read_so_far)
 
     def read(self, text, mnemonic, *words):
         if mnemonic == "end":
@@ -61,29 +61,23 @@ class Reader:
 
     def add(self, text, mnemonic, words):
         numbers, targets = _numbers(mnemonic, words), []
-        takes, gives = self.effect(mnemonic, numbers)
+        called = self.code.object.functions[numbers[0]] if mnemonic == "call" else None
+        takes, gives = (len(called.parameters), len(called.results)) if called else EFFECTS.get(mnemonic, (0, 0))
         if mnemonic.startswith("br"):
             targets = [self.blocks[-1 - depth] for depth in numbers]
         for block in targets:
             require(self.height - takes == block.height, "operands that a branch drops")
             block.is_used = True
-        self.found.append((mnemonic, Operands(self.height, numbers, targets), text))
+        self.read_so_far.append((mnemonic, Operands(self.height, numbers, targets), text))
         self.height += gives - takes
         if mnemonic == "call" and gives:
-            self.found.append(("result", Operands(self.height - 1, (), []), "result"))
+            self.read_so_far.append(("result", Operands(self.height - 1, (), []), "result"))
         self.is_reached = mnemonic not in ENDS
 
-    def effect(self, mnemonic, numbers):
-        """How many operands an instruction takes and gives."""
-        if mnemonic == "call":
-            called = self.code.object.functions[numbers[0]]
-            return len(called.parameters), len(called.results)
-        return EFFECTS.get(mnemonic, (0, 0))
-
     def instructions(self):
-        for at, (mnemonic, operands, text) in enumerate(self.found, self.function.address):
+        for address, (mnemonic, operands, text) in enumerate(self.read_so_far, self.function.address):
             operands = operands._replace(targets=[block.target for block in operands.targets])
-            yield at, Instruction(at, 1, mnemonic, operands, text)
+            yield address, Instruction(address, 1, mnemonic, operands, text)
 
 
 def _numbers(mnemonic, words):
@@ -106,13 +100,19 @@ def follows(i):
     return ([] if i.mnemonic in ENDS else [i.address + 1]) + i.operands.targets + called
 
 
-def _operand(i, at):
+def _operand(i, height):
     """The name of the register for the operand above so many others."""
-    return f"operand {i.address // SPACE}.{at}"
+    return f"operand {i.address // SPACE}.{height}"
 
 
-def _local(i, at):
-    return f"local {i.address // SPACE}.{at}"
+def _top(i):
+    return _operand(i, i.operands.height - 1)
+
+
+def _named(i):
+    """The register that an instruction names."""
+    number = i.operands.numbers[0]
+    return f"global {number}" if i.mnemonic.startswith("global") else f"local {i.address // SPACE}.{number}"
 
 
 class State(state.State):
@@ -120,16 +120,17 @@ class State(state.State):
 
     # What is called by its contract has no stack.
     TOP, STACK, STACK_OF_CALLED, RETURN, VECTORS, WIDTH, WORD = "global 0", 4096, 0, 0, 0, 16, 4
-    GENERAL, ARGUMENTS, RESULT = (), tuple(f"argument {at}" for at in range(7)), ("result", 32)
+    GENERAL, ARGUMENTS, RESULT = (), tuple(f"argument {index}" for index in range(7)), ("result", 32)
+    KEPT = "global 0",
 
     def enter(self):
         module, given = self.code.object, len(self.contract.arguments)
         arguments = [self.general[name] for name in self.ARGUMENTS[:given]]
         self._lay_out(module)
-        function = module.function_at(self.at)
+        function = module.function_at(self.address)
         results = [] if self.contract.is_local else [4]
         require((function.parameters, function.results) == ([4] * given, results), "a function of another type")
-        self.general = {f"global {at}": word(number) for at, number in enumerate(module.globals)}
+        self.general = {f"global {index}": word(number) for index, number in enumerate(module.globals)}
         self.general["global 0"] = simple(self.regions["stack"].base + self.STACK)
         self.begin(function, arguments, z3.BitVec("p_return", 64))
 
@@ -155,8 +156,8 @@ class State(state.State):
         number = function.address // SPACE
         require(f"return {number}" not in self.general, "a function that calls itself")
         values = [*arguments, *[[byte(0)] * 16 if size == 16 else word(0) for size in function.locals]]
-        for at, value in enumerate(values):
-            self.put(f"local {number}.{at}", value)
+        for index, value in enumerate(values):
+            self.put(f"local {number}.{index}", value)
         self.general[f"return {number}"] = back
 
     def leave_function(self, number):
@@ -167,23 +168,15 @@ class State(state.State):
                 del registers[name]
         return back
 
-    def returned(self):
-        self.must(self.general["global 0"] == self.first["global 0"], "global 0 is not as before")
-
     # Calls by a contract
     def arguments(self, count):
-        return [self.exact(self.general[f"local {self.at // SPACE}.{at}"]) for at in range(count)]
+        return [self.exact(self.general[f"local {self.address // SPACE}.{index}"]) for index in range(count)]
 
     def return_address(self):
-        return self.leave_function(self.at // SPACE)
+        return self.leave_function(self.address // SPACE)
 
     def forget(self):
         """What is called changes no register of its caller."""
-
-    def arrive(self, is_clean):
-        """All that a loop head says is said of any processor."""
-
-    leave = arrive
 
     # Registers
     def put(self, name, value):
@@ -209,7 +202,7 @@ class State(state.State):
     def _place(self, address, count, aligned):
         """An address without a base is one of data, which lie where the module says."""
         if not any(region.base.decl().name() in names(address) for region in self.regions.values()):
-            address = self.code.at(address)
+            address = self.code.placed(address)
         return super()._place(address, count, aligned)
 
 
@@ -224,7 +217,7 @@ def computes(name, takes, function, gives=1):
     an i64, and v a vector. The function also takes the state and the numbers in the instruction."""
     def handler(s, i):
         first = i.operands.height - len(takes)
-        values = [s.take(_operand(i, first + at)) for at in range(len(takes))]
+        values = [s.take(_operand(i, height)) for height in range(first, i.operands.height)]
         values = [s.exact(value) if kind == "n" else value for kind, value in zip(takes, values)]
         result = function(s, i.operands.numbers, *values)
         if gives:
@@ -272,14 +265,11 @@ computes("v128.const", "", lambda s, numbers: numbers)
 
 # Registers
 def get(s, i):
-    name = f"global {i.operands.numbers[0]}" if "global" in i.mnemonic else _local(i, i.operands.numbers[0])
-    s.put(_operand(i, i.operands.height), s.get(name))
+    s.put(_operand(i, i.operands.height), s.get(_named(i)))
 
 
 def put(s, i):
-    name = f"global {i.operands.numbers[0]}" if "global" in i.mnemonic else _local(i, i.operands.numbers[0])
-    top = _operand(i, i.operands.height - 1)
-    s.put(name, s.get(top) if i.mnemonic.endswith("tee") else s.take(top))
+    s.put(_named(i), (s.get if i.mnemonic.endswith("tee") else s.take)(_top(i)))
 
 
 # Control
@@ -288,21 +278,20 @@ def branch(s, i):
 
 
 def branch_if(s, i):
-    return Branch(_is_true(s.exact(s.take(_operand(i, i.operands.height - 1)))), i.operands.targets[0])
+    return Branch(_is_true(s.exact(s.take(_top(i)))), i.operands.targets[0])
 
 
 def branch_by(s, i):
     """The last target is that of each index from its own on."""
-    index, targets = s.exact(s.take(_operand(i, i.operands.height - 1))), i.operands.targets
+    index, [*targets, last] = s.exact(s.take(_top(i))), i.operands.targets
     require(s.may_leak or is_public(index), "a branch depends on bytes that are secret")
-    ways = [(index == at, target) for at, target in enumerate(targets[:-1])]
-    return [*ways, (z3.UGE(index, len(targets) - 1), targets[-1])]
+    return [*[(index == number, target) for number, target in enumerate(targets)], (z3.UGE(index, len(targets)), last)]
 
 
 def select(s, i):
     """Counts as a branch: it is run again in the states where it is known which operand is taken. A byte of the input
     may decide that stands alone."""
-    operands = [_operand(i, i.operands.height - 3 + at) for at in range(3)]
+    operands = [_operand(i, i.operands.height - below) for below in (3, 2, 1)]
     condition = _is_true(s.exact(s.get(operands[-1])))
     truth = next((truth for truth in (True, False) if s.holds(condition == truth)), None)
     if truth is None and not _is_alone(s, condition):
@@ -322,7 +311,7 @@ def _is_alone(s, condition):
 def call(s, i):
     function = s.code.object.functions[i.operands.numbers[0]]
     first = i.operands.height - len(function.parameters)
-    arguments = [s.take(_operand(i, first + at)) for at in range(len(function.parameters))]
+    arguments = [s.take(_operand(i, height)) for height in range(first, i.operands.height)]
     s.begin(function, arguments, s.return_to(s.next))
     return function.address
 
@@ -331,7 +320,7 @@ def leave(s, i):
     """A function leaves its result, if there is one, for the caller."""
     function = s.code.object.function_at(i.address // SPACE * SPACE)
     if function.results:
-        s.put("result", s.take(_operand(i, i.operands.height - 1)))
+        s.put("result", s.take(_top(i)))
     return s.leave_function(i.address // SPACE)
 
 
@@ -350,11 +339,11 @@ HANDLERS |= {"local.get": get, "global.get": get, "local.set": put, "local.tee":
 
 # Loads and stores
 def _loads(name, count, function):
-    computes(name, "n", lambda s, numbers, at: function(s.load(simple(at + numbers[0]), count)))
+    computes(name, "n", lambda s, numbers, a: function(s.load(simple(a + numbers[0]), count)))
 
 
 def _stores(name, types, function):
-    computes(name, types, lambda s, numbers, at, value: s.store(simple(at + numbers[0]), function(numbers, value)), 0)
+    computes(name, types, lambda s, numbers, a, value: s.store(simple(a + numbers[0]), function(numbers, value)), 0)
 
 
 def _number(lane):
@@ -377,20 +366,16 @@ for _size in (1, 2, 4, 8):
 
 
 # Vectors
-def _by_units(name, function, size):
-    computes(name, "vv", lambda s, numbers, a, b: each(function, size, a, b))
-
-
 for _name, _size, _function in (
         ("v128.and", 1, AND), ("v128.or", 1, OR), ("i8x16.add", 1, ADD), ("i8x16.sub", 1, SUBTRACT),
         ("i8x16.min_u", 1, MINIMUM), ("i8x16.max_u", 1, MAXIMUM), ("i16x8.mul", 2, MULTIPLY)):
-    _by_units(_name, _function, _size)
+    computes(_name, "vv", lambda s, numbers, a, b, size=_size, function=_function: each(function, size, a, b))
 computes("i16x8.shr_u", "vn", lambda s, numbers, a, b: each(lambda part: z3.LShR(part, _count(b, 16)), 2, a))
 computes("i16x8.splat", "i", lambda s, numbers, a: split(z3.Extract(15, 0, a)) * 8)
 computes("i32x4.splat", "i", lambda s, numbers, a: split(z3.Extract(31, 0, a)) * 4)
-computes("i8x16.shuffle", "vv", lambda s, numbers, a, b: [(a + b)[at] for at in numbers])
+computes("i8x16.shuffle", "vv", lambda s, numbers, a, b: [(a + b)[index] for index in numbers])
 computes("i8x16.swizzle", "vv", lambda s, numbers, a, b: [
-    simple(z3.If(z3.ULT(at, 16), chosen(a, at), byte(0))) for at in b])
+    simple(z3.If(z3.ULT(index, 16), chosen(a, index), byte(0))) for index in b])
 computes("i8x16.replace_lane", "vi", lambda s, numbers, a, b: [
     *a[: numbers[0]], simple(z3.Extract(7, 0, b)), *a[numbers[0] + 1 :]])
 computes("i8x16.narrow_i16x8_u", "vv", lambda s, numbers, a, b: saturated(units(a + b, 2)))

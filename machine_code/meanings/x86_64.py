@@ -11,9 +11,9 @@ import z3
 
 from execution import state
 from execution.paths import Branch
-from execution.state import byte, joined, simple, split, word
-from meanings.lanes import ADD, AND, OR, SUBTRACT, XOR
-from meanings.x86_64_vectors import HANDLERS as VECTORS
+from execution.state import byte, chosen, joined, simple, split, word
+from meanings.lanes import (ADD, AND, AND_NOT, MINIMUM, MULTIPLY, OR, SUBTRACT, SUBTRACT_SATURATED, XOR, conditions,
+                            difference_flags, each, holds, logic_flags, saturated, sum_flags, units)
 from reading import assembled
 from reading.image import X86_64
 from solver.questions import require
@@ -27,13 +27,12 @@ NOPS = "0f1f4000 0f1f440000 660f1f440000 0f1f8000000000 0f1f840000000000 660f1f8
 NOPS += ["66" * count + "2e0f1f840000000000" for count in range(1, 7)]
 SIZES = {"BYTE": 1, "WORD": 2, "DWORD": 4, "QWORD": 8, "XMMWORD": 16, "YMMWORD": 32}
 # The register that a name means, the first of its bytes, and how many.
-GENERAL = {}
-for _short in ("ax", "bx", "cx", "dx", "si", "di", "bp", "sp"):
-    GENERAL |= {"r" + _short: ("r" + _short, 0, 8), "e" + _short: ("r" + _short, 0, 4), _short: ("r" + _short, 0, 2)}
-    GENERAL |= {_short[0] + "l": ("r" + _short, 0, 1), _short[0] + "h": ("r" + _short, 1, 1)} if _short[1] == "x" else \
-        {_short + "l": ("r" + _short, 0, 1)}
-for _at in range(8, 16):
-    GENERAL |= {f"r{_at}{end}": (f"r{_at}", 0, size) for end, size in (("", 8), ("d", 4), ("w", 2), ("b", 1))}
+GENERAL = {f"r{_number}{_end}": (f"r{_number}", 0, _size)
+           for _number in range(8, 16) for _end, _size in (("", 8), ("d", 4), ("w", 2), ("b", 1))}
+for _name in ("ax", "bx", "cx", "dx", "si", "di", "bp", "sp"):
+    GENERAL |= {f"r{_name}": (f"r{_name}", 0, 8), f"e{_name}": (f"r{_name}", 0, 4), _name: (f"r{_name}", 0, 2),
+                f"{_name.removesuffix('x')}l": (f"r{_name}", 0, 1)}
+GENERAL |= {f"{_letter}h": (f"r{_letter}x", 1, 1) for _letter in "abcd"}
 
 
 class Operand:
@@ -43,11 +42,11 @@ class Operand:
         self.size = None
         if text in GENERAL:
             self.kind, (self.name, self.first, self.size) = "general", GENERAL[text]
-        elif found := re.fullmatch(r"([xy])mm(\d+)", text):
-            self.kind, self.name, self.size = "vector", int(found[2]), SIZES[f"{found[1].upper()}MMWORD"]
-        elif found := re.fullmatch(r"(?:(\w+) PTR )?\[(.*)\]", text):
-            self.kind, self.size, self.terms, self.offset = "memory", SIZES.get(found[1]), [], 0
-            for sign, part in re.findall(r"([+-]?)([^+-]+)", found[2]):
+        elif match := re.fullmatch(r"([xy])mm(\d+)", text):
+            self.kind, self.name, self.size = "vector", int(match[2]), SIZES[f"{match[1].upper()}MMWORD"]
+        elif match := re.fullmatch(r"(?:(\w+) PTR )?\[(.*)\]", text):
+            self.kind, self.size, self.terms, self.offset = "memory", SIZES.get(match[1]), [], 0
+            for sign, part in re.findall(r"([+-]?)([^+-]+)", match[2]):
                 name, _, scale = part.partition("*")
                 if name == "rip" or name in GENERAL and GENERAL[name][2] == 8:
                     self.terms.append((name, int(scale or 1)))
@@ -57,8 +56,8 @@ class Operand:
             self.kind, self.value = "number", int(text, 16)
 
 
-def _is_jump(instruction):
-    return instruction.mnemonic.startswith("j") or instruction.mnemonic == "call"
+def _is_jump(i):
+    return i.mnemonic.startswith("j") or i.mnemonic == "call"
 
 
 def _operands(text):
@@ -77,7 +76,8 @@ def _is_nop(i, old, new):
 
 
 def instructions(code, part, level):
-    """Those of some code by their addresses, for the least CPU of a level."""
+    """The instructions of a part of a file, by their addresses. One that the least CPU of the level does not have is
+    among those that `assembled` says are refused, since the assembler knows only what that CPU has."""
     command = ["as", "--64", "-msyntax=intel", "-mnaked-reg", f"-march={LEVELS.get(level, V2)}"]
     return assembled.read(part, X86_64, _operands, command, _text_to_assemble, _is_nop)
 
@@ -99,28 +99,20 @@ class State(state.State):
     def enter(self):
         self.general["rsp"] = simple(self.regions["stack"].base + self.STACK)
         self.put_cells("stack", self.STACK, split(z3.BitVec("p_return", 64)))
-        self.is_clean, self.is_legacy = True, False
+        self.is_legacy = False
 
     def return_address(self):
         return popped(self)
 
     def returned(self):
         require(self.top() == self.STACK + self.RETURN, "the stack pointer is not as before")
-        for name in self.KEPT:
-            self.must(self.general[name] == self.first[name], f"{name} is not as before")
+        super().returned()
         require(self.is_clean, "vzeroupper is missing")
 
-    # Where a loop says that the upper halves of vectors are not used, they are not.
-    def arrive(self, is_clean):
-        require(self.is_clean or not is_clean, "at the head of a loop: vzeroupper is missing")
-
-    def leave(self, is_clean):
-        self.is_clean = is_clean
-
     # Operands
-    def address(self, o, i):
+    def address_of(self, o, i):
         if o.terms == [("rip", 1)]:
-            return simple(self.code.at(i.address + i.size + o.offset))
+            return simple(self.code.placed(i.address + i.size + o.offset))
         return simple(sum([self.general[name] * scale for name, scale in o.terms], word(o.offset)))
 
     def lane(self, o, i, size=None):
@@ -129,7 +121,7 @@ class State(state.State):
             return split(z3.Extract(8 * (o.first + o.size) - 1, 8 * o.first, self.general[o.name]))[:size]
         if o.kind == "vector":
             return self.vectors[o.name][: size or o.size]
-        return self.load(self.address(o, i), size or o.size, self.is_legacy and (size or o.size) == 16)
+        return self.load(self.address_of(o, i), size or o.size, self.is_legacy and (size or o.size) == 16)
 
     def number(self, o, i, size=None):
         if o.kind == "number":
@@ -139,7 +131,7 @@ class State(state.State):
     def put(self, o, i, term):
         """Writes a general register, of which 4 bytes clear the others, or memory."""
         if o.kind == "memory":
-            return self.store(self.address(o, i), split(term))
+            return self.store(self.address_of(o, i), split(term))
         require(o.first == 0, "a write of the second byte of a register")
         if o.size == 4:
             term = z3.ZeroExt(32, term)
@@ -154,58 +146,40 @@ class State(state.State):
         self.is_clean &= o.size == 16
 
 
-# Flags
-def logic_flags(s, result):
-    s.flags = {"c": z3.BoolVal(False), "z": result == 0, "s": result < 0}
-
-
-def sum_flags(s, a, b):
-    result = a + b
-    s.flags = {"c": z3.ULT(result, a), "z": result == 0, "s": result < 0}
-
-
-def difference_flags(s, a, b):
-    s.flags = {"c": z3.ULT(a, b), "z": a == b, "s": a - b < 0}
-
-
-CONDITIONS = {
-    "e": lambda flag: flag("z"), "b": lambda flag: flag("c"), "be": lambda flag: z3.Or(flag("c"), flag("z")),
-    "s": lambda flag: flag("s"),
-}
-CONDITIONS |= {new: lambda flag, old=old: z3.Not(CONDITIONS[old](flag)) for new, old in
-               {"ne": "e", "ae": "b", "a": "be", "ns": "s"}.items()}
-
-
-def condition(s, name):
-    def flag(letter):
-        require(s.flags and letter in s.flags, "a flag that is not known")
-        return s.flags[letter]
-
-    return simple(CONDITIONS[name](flag))
+CONDITIONS = conditions(
+    {"e": lambda flag: flag("z"), "b": lambda flag: flag("c"), "be": lambda flag: z3.Or(flag("c"), flag("z")),
+     "s": lambda flag: flag("s")},
+    {"ne": "e", "ae": "b", "a": "be", "ns": "s"})
 
 
 # General instructions
-def two(s, i):
-    """The first operand and the second, of which a number is as long as the first."""
-    to, by = i.operands
-    return to, s.number(to, i), s.number(by, i, to.size)
+def numbers(s, i):
+    """Those of the operands. One in the instruction is as long as the first operand."""
+    return [s.number(o, i, i.operands[0].size) for o in i.operands]
 
 
-def arithmetic(function, flags, is_kept=True):
+def general(function, flags=None, is_kept=True):
+    """What becomes of the first operand, and the flags, if it sets some."""
     def handler(s, i):
-        to, a, b = two(s, i)
-        flags(s, a, b)
+        given = numbers(s, i)
+        s.flags = flags(*given) if flags else s.flags
         if is_kept:
-            s.put(to, i, function(a, b))
+            s.put(i.operands[0], i, simple(function(*given)))
     return handler
 
 
 def logic(function, is_kept=True):
+    return general(function, logic_flags(function), is_kept)
+
+
+def by_one(function, flags):
+    """The carry is as before."""
     def handler(s, i):
-        to, a, b = two(s, i)
-        logic_flags(s, simple(function(a, b)))
-        if is_kept:
-            s.put(to, i, simple(function(a, b)))
+        [number], flag = numbers(s, i), s.flags or {}
+        one = z3.BitVecVal(1, number.size())
+        s.flags = {name: new for name, new in flags(number, one).items() if name != "c"}
+        s.flags |= {name: old for name, old in flag.items() if name == "c"}
+        s.put(i.operands[0], i, function(number, one))
     return handler
 
 
@@ -226,54 +200,36 @@ def multiply(s, i):
     s.flags = None
 
 
-def by_one(function, flags):
-    """The carry is as before."""
-    def handler(s, i):
-        to, = i.operands
-        a, one = s.number(to, i), z3.BitVecVal(1, 8 * to.size)
-        carry = {name: flag for name, flag in (s.flags or {}).items() if name == "c"}
-        flags(s, a, one)
-        s.flags.pop("c")
-        s.flags |= carry
-        s.put(to, i, function(a, one))
-    return handler
-
-
-def mov(s, i):
-    to, by = i.operands
-    s.put(to, i, s.number(by, i, to.size))
-
-
-def extended(extension):
+def move(extension):
     def handler(s, i):
         to, by = i.operands
-        s.put(to, i, simple(extension(8 * (to.size - by.size), s.number(by, i))))
+        number = s.number(by, i, to.size)
+        s.put(to, i, simple(extension(8 * to.size - number.size(), number)))
     return handler
-
-
-def invert(s, i):
-    s.put(i.operands[0], i, simple(~s.number(i.operands[0], i)))
 
 
 def lea(s, i):
     to, by = i.operands
-    s.put(to, i, simple(z3.Extract(8 * to.size - 1, 0, s.address(by, i))))
+    s.put(to, i, simple(z3.Extract(8 * to.size - 1, 0, s.address_of(by, i))))
 
 
 def set_if(s, i):
-    s.put(i.operands[0], i, s.either(condition(s, i.mnemonic[3:]), byte(1), byte(0)))
+    s.put(i.operands[0], i, s.either(holds(s, CONDITIONS[i.mnemonic[3:]]), byte(1), byte(0)))
 
 
 def move_if(s, i):
-    to, a, b = two(s, i)
-    s.put(to, i, s.either(condition(s, i.mnemonic[4:]), b, a))
+    a, b = numbers(s, i)
+    s.put(i.operands[0], i, s.either(holds(s, CONDITIONS[i.mnemonic[4:]]), b, a))
+
+
+def pushed(s, lane):
+    s.general["rsp"] = simple(s.general["rsp"] - 8)
+    s.store(s.general["rsp"], lane)
 
 
 def push(s, i):
     require(i.operands[0].size == 8, "another size")
-    lane = s.lane(i.operands[0], i)
-    s.general["rsp"] = simple(s.general["rsp"] - 8)
-    s.store(s.general["rsp"], lane)
+    pushed(s, s.lane(i.operands[0], i))
 
 
 def popped(s):
@@ -297,12 +253,11 @@ def jump(s, i):
 
 
 def jump_if(s, i):
-    return Branch(condition(s, i.mnemonic[1:]), target(s, i))
+    return Branch(holds(s, CONDITIONS[i.mnemonic[1:]]), target(s, i))
 
 
 def call(s, i):
-    s.general["rsp"] = simple(s.general["rsp"] - 8)
-    s.store(s.general["rsp"], split(s.return_to(s.next)))
+    pushed(s, split(s.return_to(s.next)))
     return target(s, i)
 
 
@@ -324,8 +279,8 @@ def cpuid(s, i):
     require(is_known and (leaf.as_long() != 7 or part.eq(z3.BitVecVal(0, 32))), "another leaf of cpuid, or part of one")
     for name in ("rax", "rbx", "rcx", "rdx"):
         is_number = (leaf.as_long(), name) == (1, "rbx")
-        found = state.fresh("p", 32) if is_number else reported("cpuid", leaf.as_long(), name)
-        s.general[name] = simple(z3.ZeroExt(32, found))
+        answer = state.fresh("p", 32) if is_number else reported("cpuid", leaf.as_long(), name)
+        s.general[name] = simple(z3.ZeroExt(32, answer))
 
 
 def xgetbv(s, i):
@@ -336,16 +291,149 @@ def xgetbv(s, i):
         s.general[name] = simple(z3.ZeroExt(32, reported("xgetbv", 0, name)))
 
 
-HANDLERS = {
-    "add": arithmetic(ADD, sum_flags), "sub": arithmetic(SUBTRACT, difference_flags),
-    "cmp": arithmetic(SUBTRACT, difference_flags, is_kept=False), "and": logic(AND), "or": logic(OR), "xor": logic(XOR),
-    "test": logic(AND, is_kept=False), "inc": by_one(ADD, sum_flags), "dec": by_one(SUBTRACT, difference_flags),
-    "mov": mov, "movabs": mov, "lea": lea, "not": invert, "movzx": extended(z3.ZeroExt), "movsxd": extended(z3.SignExt),
-    "shl": shift(lambda a, by: a * (1 << by)), "shr": shift(z3.LShR), "push": push, "pop": pop,
-    "nop": lambda s, i: None, "jmp": jump, "call": call, "ret": ret, "mul": multiply,
-    "cpuid": cpuid, "xgetbv": xgetbv,
+# Vectors. The old form of an instruction has its target for the first source.
+def three(s, i):
+    to, *others = i.operands
+    return to, *([to, *others] if len(others) == 1 else others)
+
+
+def by_units(size, function):
+    def handler(s, i):
+        to, one, other = three(s, i)
+        s.put_vector(to, each(function, size, s.lane(one, i), s.lane(other, i)))
+    return handler
+
+
+def by_halves(function):
+    """Does the same to each 16 bytes of two operands."""
+    def handler(s, i):
+        to, one, other = three(s, i)
+        a, b = s.lane(one, i), s.lane(other, i)
+        s.put_vector(to, [x for first in range(0, to.size, 16) for x in function(a[first:][:16], b[first:][:16])])
+    return handler
+
+
+def shift_units(size, function):
+    def handler(s, i):
+        to, one, by = three(s, i)
+        require(by.kind == "number" and by.value < 8 * size, "a shift")
+        s.put_vector(to, each(lambda a: function(a, by.value), size, s.lane(one, i)))
+    return handler
+
+
+def looked_up(table, index):
+    return simple(z3.If(z3.Extract(7, 7, index) == 1, byte(0), chosen(table, index)))
+
+
+def interleaved(size):
+    return by_halves(lambda a, b: [x for first in range(0, 8, size) for x in a[first:][:size] + b[first:][:size]])
+
+
+def move_vector(is_aligned):
+    def handler(s, i):
+        to, by = i.operands
+        if to.kind == "memory":
+            return s.store(s.address_of(to, i), s.lane(by, i), is_aligned)
+        s.put_vector(to, s.load(s.address_of(by, i), by.size, is_aligned) if by.kind == "memory" else s.lane(by, i))
+    return handler
+
+
+def move_low(size):
+    """Between the lowest bytes of a vector and another place. In a vector, the others are cleared."""
+    def handler(s, i):
+        to, by = i.operands
+        lane = s.lane(by, i, size)
+        return s.put_vector(to, lane) if to.kind == "vector" else s.put(to, i, joined(lane))
+    return handler
+
+
+def insert(size):
+    def handler(s, i):
+        to, *one, by, index = i.operands
+        require(index.value < to.size // size, "an index")
+        lane, first = s.lane([*one, to][0], i), index.value * size
+        s.put_vector(to, lane[:first] + s.lane(by, i, size) + lane[first + size :])
+    return handler
+
+
+def extract(size):
+    def handler(s, i):
+        to, one, index = i.operands
+        lane = s.lane(one, i)
+        require(index.value < len(lane) // size, "an index")
+        part = lane[index.value * size :][:size]
+        if to.kind == "vector":
+            return s.put_vector(to, part)
+        s.put(to, i, joined(part + [byte(0)] * (to.size - size)))
+    return handler
+
+
+def broadcast(size):
+    def handler(s, i):
+        to, by = i.operands
+        s.put_vector(to, s.lane(by, i, size) * (to.size // size))
+    return handler
+
+
+def test_vector(s, i):
+    one, other = i.operands
+    lanes = s.lane(one, i), s.lane(other, i)
+    z, c = [z3.And(*[simple(function(a, b)) == 0 for a, b in zip(*lanes)]) for function in (AND, AND_NOT)]
+    s.flags = {"z": z, "c": c, "s": z3.BoolVal(False), "o": z3.BoolVal(False)}
+
+
+def widen(s, i):
+    to, by = i.operands
+    s.put_vector(to, [x for low in s.lane(by, i, to.size // 2) for x in (low, byte(0))])
+
+
+def permute(s, i):
+    to, by, how = i.operands
+    lane = s.lane(by, i)
+    s.put_vector(to, [x for bit in range(0, 8, 2) for x in lane[8 * (how.value >> bit & 3) :][:8]])
+
+
+def vzeroupper(s, i):
+    s.vectors = {name: lane[:16] + [byte(0)] * 16 for name, lane in s.vectors.items()}
+    s.is_clean = True
+
+
+VECTORS = {
+    "paddb": by_units(1, ADD), "paddw": by_units(2, ADD), "psubb": by_units(1, SUBTRACT),
+    "psubusb": by_units(1, SUBTRACT_SATURATED), "pminub": by_units(1, MINIMUM), "por": by_units(1, OR),
+    "pxor": by_units(1, XOR), "pmullw": by_units(2, MULTIPLY),
+    "psllw": shift_units(2, lambda a, by: a << by), "psrlw": shift_units(2, z3.LShR),
+    "pshufb": by_halves(lambda a, b: [looked_up(a, index) for index in b]),
+    "packuswb": by_halves(lambda a, b: saturated(units(a + b, 2))),
+    "punpckldq": interleaved(4), "punpcklqdq": interleaved(8),
+    "movdqu": move_vector(False), "movdqa": move_vector(True), "movups": move_vector(False),
+    "movaps": move_vector(True), "xorps": by_units(1, XOR), "movd": move_low(4), "movq": move_low(8),
+    "pinsrb": insert(1), "pinsrw": insert(2), "pinsrd": insert(4), "pextrw": extract(2), "pextrd": extract(4),
+    "pextrq": extract(8), "ptest": test_vector, "pmovzxbw": widen,
 }
-HANDLERS |= {f"j{name}": jump_if for name in CONDITIONS} | {f"set{name}": set_if for name in CONDITIONS}
-HANDLERS |= {f"cmov{name}": move_if for name in CONDITIONS}
-# Those that are in SSE4.2, and with a v before in AVX2.
-HANDLERS |= VECTORS
+
+
+def legacy(handler):
+    """The form of SSE: an operand of 16 bytes in memory is aligned, and what lies above in a vector is kept."""
+    def of_sse(s, i):
+        s.is_legacy = True
+        handler(s, i)
+        s.is_legacy = False
+    return of_sse
+
+
+HANDLERS = {
+    "add": general(ADD, sum_flags), "sub": general(SUBTRACT, difference_flags),
+    "cmp": general(SUBTRACT, difference_flags, is_kept=False), "and": logic(AND), "or": logic(OR), "xor": logic(XOR),
+    "test": logic(AND, is_kept=False), "inc": by_one(ADD, sum_flags), "dec": by_one(SUBTRACT, difference_flags),
+    "mov": move(z3.ZeroExt), "movabs": move(z3.ZeroExt), "movzx": move(z3.ZeroExt), "movsxd": move(z3.SignExt),
+    "lea": lea, "not": general(lambda a: ~a), "shl": shift(lambda a, by: a * (1 << by)), "shr": shift(z3.LShR),
+    "push": push, "pop": pop, "nop": lambda s, i: None, "jmp": jump, "call": call, "ret": ret, "mul": multiply,
+    "cpuid": cpuid, "xgetbv": xgetbv,
+    **{f"{name}{end}": handler for name, handler in (("j", jump_if), ("set", set_if), ("cmov", move_if))
+       for end in CONDITIONS},
+    **{name: legacy(handler) for name, handler in VECTORS.items()},
+    **{f"v{name}": handler for name, handler in VECTORS.items()},
+    "vpbroadcastd": broadcast(4), "vpbroadcastq": broadcast(8), "vbroadcasti128": broadcast(16), "vpermq": permute,
+    "vinserti128": insert(16), "vextracti128": extract(16), "vzeroupper": vzeroupper,
+}

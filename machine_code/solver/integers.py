@@ -9,8 +9,6 @@ import z3
 JOINS = {z3.Z3_OP_AND: z3.And, z3.Z3_OP_OR: z3.Or, z3.Z3_OP_NOT: z3.Not, z3.Z3_OP_IMPLIES: z3.Implies}
 COMPARES = {z3.Z3_OP_ULEQ: lambda a, b: a <= b, z3.Z3_OP_ULT: lambda a, b: a < b, z3.Z3_OP_UGT: lambda a, b: a > b,
             z3.Z3_OP_UGEQ: lambda a, b: a >= b, z3.Z3_OP_EQ: lambda a, b: a == b}
-# In so many bits it is not asked whether a number is that small.
-FEW = 16
 
 
 class Facts:
@@ -19,8 +17,6 @@ class Facts:
 
     def __init__(self, is_impossible):
         self.conditions, self.ranges, self.sums, self._is_impossible = [], {}, {}, is_impossible
-        # Values for which all of them hold, as far as some are known.
-        self.models = []
 
     def and_also(self, fact):
         """These facts and another one, or None if that is not linear."""
@@ -30,11 +26,7 @@ class Facts:
             other.conditions.append(other.condition(fact))
         except ValueError:
             return None
-        other.models = [model for model in self.models if z3.is_true(model.eval(other.conditions[-1], True))]
         return other
-
-    def imply(self, *conditions):
-        return self._is_impossible([*self.ranges.values(), *self.conditions, z3.Not(z3.And(*conditions))])
 
     def condition(self, term):
         """The condition in integers, where the facts before hold."""
@@ -62,20 +54,21 @@ class Facts:
             return z3.If(self.condition(children[0]), *map(self._number, children[1:]))
         if kind == z3.Z3_OP_EXTRACT:
             high, low = term.params()
-            part = _divided(self._number(children[0]), 1 << low) if low else self._number(children[0])
+            part = self._number(children[0]) / (1 << low) if low else self._number(children[0])
             return part if high == children[0].size() - 1 else self._cut(term, part)
         if kind == z3.Z3_OP_CONCAT:
-            found = z3.IntVal(0)
+            whole = z3.IntVal(0)
             for child in children:
-                found = found * (1 << child.size()) + self._number(child)
-            return z3.simplify(found)
+                whole = whole * (1 << child.size()) + self._number(child)
+            return z3.simplify(whole)
         raise ValueError(term)
 
     def _cut(self, term, number):
         """A number in the bits of a term, to which it is not reduced if it is that small."""
         most = 1 << term.size()
         if term.get_id() not in self.sums:
-            is_small = term.size() > FEW and self.imply(0 <= number, number < most)
+            is_large = z3.Or(number < 0, number >= most)
+            is_small = self._is_impossible([*self.ranges.values(), *self.conditions, is_large])
             self.sums[term.get_id()] = number if is_small else number % most
         return self.sums[term.get_id()]
 
@@ -91,21 +84,3 @@ class Facts:
         if kind == z3.Z3_OP_BMUL:
             raise ValueError(term)
         return self._number(term)
-
-
-def _divided(number, by):
-    """A number divided by another one and rounded down. What is a multiple in a sum is divided by itself."""
-    whole, rest = [], []
-    for part in number.children() if z3.is_add(number) else [number]:
-        factor, *others = part.children() if z3.is_mul(part) else [part]
-        if z3.is_int_value(factor) and factor.as_long() % by == 0 and len(others) < 2:
-            quotient = factor.as_long() // by
-            whole.append(quotient * others[0] if others else z3.IntVal(quotient))
-        else:
-            rest.append(part)
-    return _total([*whole, _total(rest) / by] if rest else whole)
-
-
-def _total(parts):
-    """The sum of numbers, of which there is one at least."""
-    return z3.Sum(parts) if len(parts) > 1 else parts[0]

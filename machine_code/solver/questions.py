@@ -14,8 +14,9 @@ QUICK, LIMIT = 600_000, 40_000_000
 # Each question that was answered by "unsat", as the logic and conditions, for a second solver.
 proved = []
 counts = {"asked": 0}
-# By their names and numbers, and the terms that are kept so that their numbers are not used again.
-_constants, _names, _kept = {}, {}, []
+# The constants by their names, and the names in terms by the numbers of these, which are kept so that no other term
+# gets such a number.
+_constants, _names = {}, {}
 
 
 class Refused(Exception):
@@ -29,24 +30,15 @@ def require(condition, message):
 
 def names(term):
     """The names of the constants in a term, each once, in the order in which they occur."""
-    _kept.append(term)  # so that its number, and those of its parts, are not used again
-    return _names_of(term.as_ast(), term.ctx_ref())
-
-
-def _names_of(part, context):
-    """By z3's functions for C, which are faster on many parts."""
-    key = z3.Z3_get_ast_id(context, part)
-    if key not in _names:
-        count = z3.Z3_get_app_num_args(context, z3.Z3_to_app(context, part))
-        parts = [z3.Z3_get_app_arg(context, z3.Z3_to_app(context, part), at) for at in range(count)]
-        _names[key] = tuple(dict.fromkeys(name for each in parts for name in _names_of(each, context)))
-        decl = z3.Z3_get_app_decl(context, z3.Z3_to_app(context, part))
-        if not count and z3.Z3_get_decl_kind(context, decl) == z3.Z3_OP_UNINTERPRETED:
-            constant = z3.BitVecRef(part)
-            name = constant.decl().name()
-            require(_constants.setdefault(name, constant).sort() == constant.sort(), f"two constants {name}")
-            _names[key] = (name,)
-    return _names[key]
+    number = term.get_id()
+    if number not in _names:
+        if z3.is_const(term) and term.decl().kind() == z3.Z3_OP_UNINTERPRETED:
+            name = term.decl().name()
+            require(_constants.setdefault(name, term).sort() == term.sort(), f"two constants {name}")
+            _names[number] = (name,), term
+        else:
+            _names[number] = tuple(dict.fromkeys(name for part in term.children() for name in names(part))), term
+    return _names[number][0]
 
 
 def is_public(term):
@@ -98,28 +90,23 @@ def relevant(facts, goal, steps=None):
     """The facts that share constants with a goal, directly or by others, perhaps in so many steps; in none, those that
     are about its constants alone. Of a public goal, those that are public."""
     facts = [fact for fact in facts if fact.is_public] if is_public(goal) else facts
-    seen, rest, count = set(names(goal)), facts, -1
+    seen, before = set(names(goal)), None
     if steps == 0:
         return [fact.term for fact in facts if fact.names <= seen]
-    while count != len(rest) and steps != 0:
-        count, others, steps = len(rest), [], steps and steps - 1
-        for fact in rest:
-            if seen.isdisjoint(fact.names):
-                others.append(fact)
-            else:
-                seen |= fact.names
-        rest = others
+    while seen != before and steps != 0:
+        before, steps = {*seen}, steps and steps - 1
+        seen |= {name for fact in facts if not before.isdisjoint(fact.names) for name in fact.names}
     return [fact.term for fact in facts if not seen.isdisjoint(fact.names)]
 
 
 def _renamed(facts):
     """The facts with constants that are named in the order in which they occur."""
-    found = dict.fromkeys(name for fact in facts for name in names(fact))
-    new = [(_constants[name], z3.Const(f"x{at}", _constants[name].sort())) for at, name in enumerate(found)]
+    olds = [_constants[name] for name in dict.fromkeys(name for fact in facts for name in names(fact))]
+    new = [(old, z3.Const(f"x{number}", old.sort())) for number, old in enumerate(olds)]
     return [z3.simplify(z3.substitute(fact, *new)) for fact in facts]
 
 
-def _answer(logic, conditions, limit, models=None):
+def _answer(logic, conditions, limit):
     solver = z3.SolverFor(logic)
     solver.set("rlimit", limit)
     solver.add(*conditions)
@@ -127,8 +114,6 @@ def _answer(logic, conditions, limit, models=None):
     counts["asked"] += 1
     if answer == z3.unsat:
         proved.append((logic, conditions))
-    if answer == z3.sat and models is not None:
-        models.append(solver.model())
     return answer
 
 
@@ -156,28 +141,21 @@ def _in_integers(facts):
     return known and known.and_also(facts[-1]) if facts else integers.Facts(is_impossible_in_integers)
 
 
-def _by_integers(facts):
-    """The answer by integers, if all is linear. Sums of many bits are hard in bits and easy in integers, masks are
-    the other way round."""
-    before = _in_integers(facts[:-1])
-    known = before and before.and_also(facts[-1])
-    if not known:
-        return z3.unknown
-    # What holds for some values is possible.
-    return z3.sat if known.models else _answer(
-        "QF_LIA", [*known.ranges.values(), *known.conditions], QUICK, before.models)
-
-
 @_once
 def is_impossible(facts):
-    """Whether facts contradict each other. A question that differs from another by its names alone is asked once."""
+    """Whether facts contradict each other."""
     return _is_impossible(_renamed(facts), all(map(is_public, facts)))
 
 
 @_once
-def _is_impossible(terms, are_public):
-    answer = _by_integers(terms) if are_public else z3.unknown
-    return z3.unsat in (answer, answer == z3.unknown and _answer("QF_BV", terms, LIMIT))
+def _is_impossible(facts, are_public):
+    """The same of facts with new names, so that what differs by names alone is asked once. Sums of many bits are hard
+    in bits and easy in integers, masks are the other way round."""
+    known = _in_integers(facts) if are_public else None
+    answer = _answer("QF_LIA", [*known.ranges.values(), *known.conditions], QUICK) if known else z3.unknown
+    if answer == z3.unknown:
+        answer = _answer("QF_BV", facts, LIMIT)
+    return answer == z3.unsat
 
 
 def holds(facts, goal, steps=None):
@@ -189,12 +167,12 @@ def holds(facts, goal, steps=None):
 
 def values(facts, term, most):
     """All values that a term has where the facts hold, of which there are at most so many."""
-    found = []
-    while not holds(facts, z3.Or(*[term == value for value in found])):
-        require(len(found) < most, "an offset that may have too many values")
+    known = []
+    while not holds(facts, z3.Or(*[term == value for value in known])):
+        require(len(known) < most, "an offset that may have too many values")
         solver = z3.SolverFor("QF_BV")
         solver.set("rlimit", LIMIT)
-        solver.add(*relevant(facts, term == 0), *[term != value for value in found])
+        solver.add(*relevant(facts, term == 0), *[term != value for value in known])
         require(solver.check() == z3.sat, "an offset whose values are not known")
-        found.append(solver.model().eval(term, True).as_long())
-    return found
+        known.append(solver.model().eval(term, True).as_long())
+    return known

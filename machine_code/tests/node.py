@@ -18,7 +18,7 @@ from execution.paths import step
 from execution.state import byte, simple, word
 from meanings import webassembly
 from meanings.webassembly import HANDLERS
-from solver.questions import require
+from solver.questions import Refused, require
 from tests.library import MODULE, TOP, assembled_module
 
 SIZE = 1024
@@ -87,6 +87,14 @@ def _memory(some, is_access):
         lambda: bytes(some.choices(EDGES, k=SIZE)), lambda: bytes(some.choices(EDGES, [2000, *range(1, 11)], k=SIZE)),
         lambda: b"".join(struct.pack("<Q", (1 << 31) + some.randrange(-1, 2)) for _ in range(SIZE // 8))))()
     return struct.pack("<I", SCRATCH + some.randrange(256)) + content[4:] if is_access else content
+
+
+def refused_or(meaning, *arguments):
+    """What a meaning returns. One that raises anything refuses the code, as it does in execution/proofs.py."""
+    try:
+        return meaning(*arguments)
+    except Exception as error:
+        raise Refused(f"{type(error).__name__}: {error}") from error
 
 
 class Concrete:
@@ -160,9 +168,9 @@ class Node:
         state.before, state.input = before, {at: (at, name) for at, name in UNKNOWN.items()}
         state.memory, state.vectors, state.facts, state.may_leak = [*before], {}, [], False
         state.general = {"global 0": word(self.code.object.globals[0])}
-        state.at = self.code.object.symbols[name]
-        state.begin(self.code.object.function_at(state.at), [], z3.BitVec("p_return", 64))
-        while after := [way for way in step(self.code, state) if way.is_right()]:
+        state.address = self.code.object.symbols[name]
+        state.begin(self.code.object.function_at(state.address), [], z3.BitVec("p_return", 64))
+        while after := [way for way in refused_or(step, self.code, state) if way.is_right()]:
             state, = after
-        require(state.general["global 0"].as_long() == SIZE, "another global")
+        require(state.general["global 0"].eq(word(SIZE)), "another global")
         return bytes(state.memory)

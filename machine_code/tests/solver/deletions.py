@@ -10,9 +10,9 @@ import types
 
 FOLDERS = [pathlib.Path(__file__).resolve().parents[2] / name for name in ("contracts", "execution", "meanings")]
 # What refuses a program.
-CHECKS = ("require", "must", "must_cover", "must_equal", "must_be", "must_be_unchanged", "must_fail", "must_reject",
-          "must_be_digits", "must_be_digits_of", "must_be_decoded", "must_be_nul", "must_be_true_if", "must_be_a_front",
-          "must_begin", "must_call", "Refused")
+CHECKS = ("require", "must", "must_equal", "must_have", "must_be_unchanged", "must_fail", "must_be_digits",
+          "must_be_digits_of", "must_be_decoded", "must_be_nul", "must_be_true_if", "must_be_a_front",
+          "must_be_written", "must_call", "Refused")
 
 
 def checks():

@@ -20,6 +20,7 @@ from execution.proofs import PROCESSORS
 from execution.state import byte, simple, word
 from reading import library
 from solver.questions import require
+from tests.node import refused_or
 
 FOLDER = pathlib.Path(__file__).resolve().parents[1]
 # As in run.c.
@@ -39,7 +40,7 @@ KINDS = {
                {"c": 0, "z": 6, "s": 7, "o": 11}, 5,
                r"\b([abcd]|[sd]i|[sb]p)l\b|(?<=\b[re])([abcd]x|[sd]i|[sb]p)\b|(?<=[a-z])(?<!0x)\d+|0x\w{2,}|\[.*\]"),
     "aarch64": ([f"x{at}" for at in range(31)] + ["sp"], ["aarch64-linux-gnu-gcc", "-static"], ["qemu-aarch64"],
-                {0: 31, 1: 30, 2: 29, 3: 28}, 4, r"(?<=\b[xwvqdsbh])\d+|(?<=#)-?\d\d+|0x\w{2,}"),
+                {"s": 31, "z": 30, "c": 29, "o": 28}, 4, r"(?<=\b[xwvqdsbh])\d+|(?<=#)-?\d\d+|0x\w{2,}"),
 }
 
 
@@ -49,13 +50,19 @@ def _random_bytes(some, count):
     return bytes(count) if kind == 0 else found if kind < 4 else found.translate(EDGES)
 
 
+def _number(term, bits):
+    """The number of so many bits that a term is, or None."""
+    term = simple(term)
+    return term.as_long() if z3.is_bv_value(term) and term.size() == bits else None
+
+
 class Processor:
     def __init__(self, content, function):
         found = library.read(content)
         symbol = next(symbol for symbol in found.symbols if re.fullmatch(function, symbol))
         self.code = Code(content, PROCESSORS, symbol, {})
         for start in found.starts:
-            start in self.code.instructions  # which reads them
+            self.code.instructions[start]  # which reads them
         self.meanings = self.code.processor
         name = self.meanings.__name__.rpartition(".")[2]
         self.names, compiler, emulator, self.bits, self.jump, self.not_form = KINDS[name]
@@ -108,7 +115,7 @@ class Processor:
                 memory[0][at : at + len(lane)] = bytes(simple(value).as_long() for value in lane)
 
         state = Concrete()
-        state.code, state.calls, state.facts, state.is_clean, state.is_legacy = self.code, {}, [], True, False
+        state.code, state.calls, state.facts, state.is_legacy = self.code, {}, [], False
         near = some.choice(NEAR)
         state.general = {name: int.from_bytes(_random_bytes(some, 8), "little") if near is None else
                          (near + some.randrange(-1, 2)) % (1 << 64) for name in self.names}
@@ -125,7 +132,7 @@ class Processor:
         """Lets an address lie in the scratch area, aligned for any access."""
         for o in i.operands if i.mnemonic != "lea" else ():
             if o.kind == "memory" and ("rip", 1) not in getattr(o, "terms", ()):
-                terms = getattr(o, "terms", None) or [(o.base, 1)] + ([(o.index, 1 << o.count)] if o.index else [])
+                terms = getattr(o, "terms", None) or [(o.base, 1)] + ([(o.index, 1)] if o.index else [])
                 rest = o.offset
                 for name, scale in terms[1:]:
                     state.general[name] = some.randrange(256) & -32
@@ -146,7 +153,6 @@ class Processor:
         state.general = {name: word(value) for name, value in state.general.items()}
         flags = {name: some.random() < 0.5 for name in self.bits}
         state.flags = {name: z3.BoolVal(bit) for name, bit in flags.items()}
-        state.flags = tuple(state.flags.values()) if self.jump == 4 else state.flags
         target = self._target(i)
         request = struct.pack("<QQQ", i.address, i.address + i.size, target)
         request += b"".join(struct.pack("<Q", given[name]) for name in self.names)
@@ -159,20 +165,19 @@ class Processor:
         load = state.load
         state.load = lambda address, count, aligned=False: load(self._known(simple(address)), count, aligned)
         state.next = i.address + i.size
-        to = self.meanings.HANDLERS[i.mnemonic](state, meant or i)
-        lanes = {at: raw[at] if lane is old[at] else bytes(simple(part).as_long() for part in lane if part.size() == 8)
-                 for at, lane in state.vectors.items()}
+        to = refused_or(self.meanings.HANDLERS[i.mnemonic], state, meant or i)
+        lanes = {number: [*raw[number]] if lane is old[number] else [_number(part, 8) for part in lane]
+                 for number, lane in state.vectors.items()}
         return ", ".join(self._compared(state, raw, lanes, found, scratch, target, to))
 
     def _compared(self, state, raw, lanes, found, scratch, target, to):
         at = 0
         for name in self.names:
-            term = self._known(state.general[name])
-            if term.size() != 64 or struct.unpack_from("<Q", found, at)[0] != term.as_long():
+            if struct.unpack_from("<Q", found, at)[0] != _number(self._known(state.general[name]), 64):
                 yield name
             at += 8
         for name, lane in lanes.items():
-            if found[at : at + state.WIDTH] != lane:
+            if [*found[at : at + state.WIDTH]] != lane:
                 yield f"vector {name}"
             if state.is_clean and found[at + 16 : at + state.WIDTH] not in (raw[name][16:], bytes(state.WIDTH - 16)):
                 yield f"what lies above in vector {name}"
@@ -182,8 +187,7 @@ class Processor:
         flags, is_taken = struct.unpack_from("<QQ", found, at)
         if found[at + 16 :] != scratch:
             yield "memory"
-        known = state.flags if isinstance(state.flags, dict) else dict(enumerate(state.flags or ()))
-        for name, flag in known.items():
+        for name, flag in (state.flags or {}).items():
             if z3.is_true(simple(flag)) != bool(flags >> self.bits[name] & 1):
                 yield f"flag {name}"
         if target and (not isinstance(to, Branch) or z3.is_true(simple(to.choice)) != bool(is_taken)):

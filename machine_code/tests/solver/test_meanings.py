@@ -24,13 +24,13 @@ MORE = {
         vinserti128 ymm0, ymm1, xmm2, 0; vextracti128 xmm0, ymm1, 0; vextracti128 [rax], ymm1, 0
         vpinsrd xmm0, xmm1, eax, 2; vxorps ymm0, ymm1, ymm2; vmovaps ymm0, ymm1; vmovups ymm0, [rax]""",
     "aarch64": """
-        adds x0, x1, x2; cmn w1, w2; subs x0, x1, x2; eor w0, w1, w2; eor v0.16b, v1.16b, v2.16b; mvn x0, x1
+        adds x0, x1, x2; cmn w1, w2; subs x0, x1, x2; eor w0, w1, w2; mvn x0, x1
         csinv w0, w1, w2, hi; lsl x0, x1, #3; cbnz w0, 1f; nop; nop; 1: nop; st1 {v0.b}[2], [x1]
         ldrh w0, [x1]; strh w0, [x1]; ldurb w0, [x1, #-1]; sturb w0, [x1, #-1]; umulh x0, x1, x2; msub x0, x1, x2, x3
         msub w0, w1, w2, wzr; movk x0, #0xcccd; movk x0, #0x1234, lsl #48; movk w0, #0x7374, lsl #16
         bfxil w0, w1, #2, #1; bfxil x0, x1, #0, #9; adds x0, x1, w2, uxtw; cmp x0, x1, lsr #1
         tbz x0, #63, 1f; nop; nop; 1: nop; tbnz w0, #3, 1f; nop; nop; 1: nop
-        b.ls 1f; nop; nop; 1: nop; b.gt 1f; nop; nop; 1: nop; ldr x0, [x1, x2, lsl #3]
+        b.ls 1f; nop; nop; 1: nop; b.gt 1f; nop; nop; 1: nop
         cset w0, eq; cset w0, ne; cset w0, cs; cset w0, cc; cset w0, hi; cset w0, ls; cset w0, gt; cset w0, le
         movi v0.8h, #49; movi v0.4s, #49; movi v0.8b, #49; xtn v0.4h, v1.4s; uzp2 v0.8h, v1.8h, v2.8h
         zip1 v0.8h, v1.8h, v2.8h; uxtl v0.4s, v1.4h; uxtl2 v0.4s, v1.8h

@@ -98,6 +98,7 @@ WRONG = [
      "too many values"),
     ("one character too much", "v3", "check", {"character": "mov cl, [rdi+1]"}, OUTSIDE),
     ("a character before the text", "v3", "check", {"start": "mov cl, [rdi-1]"}, OUTSIDE),
+    ("a character of an empty text", "v3", "check", {"start": "mov cl, [rdi]"}, OUTSIDE),
     ("a read beyond the file", "v3", "check", {"start": "mov al, [rip+table+0x100000]"}, OUTSIDE),
     ("a read of code", "v3", "check", {"start": "mov al, [rip+0x40]"}, "a place that has no constant"),
     ("an alignment that no loader keeps", "v3", "check",
@@ -236,7 +237,7 @@ class TestWrong(unittest.TestCase):
     def test_a_start_that_is_missing(self):
         class Empty(CheckRaw):
             def cases(self, state):
-                return [state.when(N == 0, state.at)]
+                return [state.when(N == 0)]
 
         content = edited("functions_x86_64", "check_raw", "", "")
         self.prove(content, "check_raw", "a start is missing", contracts=[Empty()])

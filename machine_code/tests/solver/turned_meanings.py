@@ -22,8 +22,6 @@ import sys
 import types
 from unittest import mock
 
-import z3
-
 FOLDER = pathlib.Path(__file__).resolve().parent
 sys.path[:0] = [str(FOLDER), str(FOLDER.parents[1])]
 
@@ -35,14 +33,14 @@ import test_webassembly  # noqa: E402
 MEANINGS = FOLDER.parents[1] / "meanings"
 # The files in the order in which they import each other, and what compares each.
 OF_X86_64, OF_AARCH64 = ("x86_64_v2", "x86_64_v3", "functions_x86_64"), ("aarch64", "functions_aarch64")
-FILES = {"lanes": (*OF_X86_64, *OF_AARCH64, "webassembly"), "x86_64_vectors": OF_X86_64, "aarch64_vectors": OF_AARCH64,
-         "x86_64": OF_X86_64, "aarch64": OF_AARCH64, "webassembly": ("webassembly",)}
+FILES = {"lanes": (*OF_X86_64, *OF_AARCH64, "webassembly"), "x86_64": OF_X86_64, "aarch64": OF_AARCH64,
+         "webassembly": ("webassembly",)}
 # What is no meaning of an instruction that runs alone: programs of test_wrong.py show it, and test_starts.py the calls.
 # What follows the first ALL does not belong to the module, where Node compares it.
 ELSEWHERE = ("instructions", "_text_to_assemble", "_is_nop", "follows", "_is_jump", "_is_target", "_is_page", "enter",
-             "return_address", "returned", "arrive", "_lay_out", "_is_alone", "_place", "leave", "call", "ret", "jump",
-             "cpuid", "xgetbv", "reported")
-ALL = 14
+             "return_address", "returned", "_lay_out", "_is_alone", "_place", "call", "ret", "jump", "cpuid", "xgetbv",
+             "reported")
+ALL = 13
 # How functions are called, what is read of an object, and which instructions a CPU has.
 CONSTANTS = "State", "MEMORY", "ENDS", "V2", "LEVELS", "NOPS"
 TURNED = {ast.Add: ast.Sub, ast.Sub: ast.Add, ast.Mult: ast.Add, ast.BitAnd: ast.BitOr, ast.BitOr: ast.BitAnd,
@@ -54,10 +52,7 @@ PAIRS = [("ULT", "ULE"), ("UGT", "UGE"), ("SignExt", "ZeroExt"), ("And", "Or"), 
          ("MINIMUM", "MAXIMUM"), ("sum_flags", "difference_flags")]
 OTHERS = {one: other for pair in PAIRS for one, other in (pair, pair[::-1])} | {
     "XOR": "OR", "AND_NOT": "AND", "MULTIPLY": "ADD", "SUBTRACT_SATURATED": "SUBTRACT",
-    "logic_flags": "difference_flags", "bytes_of": "list"}
-# What a meaning that was changed may raise. It then refuses the code. Anything else is an error of this script.
-REFUSALS = (Refused, ArithmeticError, AssertionError, AttributeError, LookupError, NameError, TypeError, ValueError,
-            z3.Z3Exception)
+    "bytes_of": "list"}
 # Of these the last two operands are turned.
 LAST_TWO = ("If", "either", "Concat", "ULT", "ULE", "UGT", "UGE")
 # By the reason, the changes that no comparison can notice.
@@ -67,7 +62,7 @@ REASONS = {
         "x86_64 State.number: 8 -> 9 (2)", "webassembly : z3.LShR -> lambda a, by: a >> by",
         # which node.py alone reads
         "webassembly computes: handler.takes = takes -> pass",
-        "aarch64_vectors narrow: z3.LShR -> lambda a, by: a >> by",
+        "aarch64 narrow: z3.LShR -> lambda a, by: a >> by",
         "aarch64 _operands: 1 -> 2", "webassembly State.exact: cut.eq(term) or self.fits(term) -> "
                                      "cut.eq(term) and self.fits(term)",
         # whose result is not kept
@@ -79,7 +74,7 @@ REASONS = {
         "lanes (MINIMUM, MAXIMUM): z3.ULT -> z3.ULE", "lanes (MINIMUM, MAXIMUM): z3.ULT -> z3.ULE (2)",
         "lanes SUBTRACT_SATURATED: z3.ULT -> z3.ULE",
         # bits, by one byte or by two
-        *[f"x86_64_vectors VECTORS.{name}: 1 -> 2" for name in ("por", "pxor", "xorps")],
+        *[f"x86_64 VECTORS.{name}: 1 -> 2" for name in ("por", "pxor", "xorps")],
         *[f"webassembly : 1 -> 2 ({at})" for at in (4, 5)],
         # what follows a branch is not reached
         "webassembly EFFECTS.br_table: 0 -> 1", "webassembly Reader.effect: 0 -> 1 (3)",
@@ -95,7 +90,7 @@ REASONS = {
         # no register has the number 16
         "x86_64 : 16 -> 17",
         # the kind of all operands
-        "aarch64_vectors either: 0 -> 1",
+        "aarch64 either: 0 -> 1",
         "webassembly State.leave_function: (f'local {number}.', f'operand {number}.') -> "
         "(f'operand {number}.', f'local {number}.')",
         "webassembly State.leave_function: (self.general, self.vectors) -> (self.vectors, self.general)",
@@ -105,8 +100,8 @@ REASONS = {
         "webassembly State.put: other.pop(name, None) -> pass"),
     "less is known, which refuses more": (
         "x86_64 by_one.handler: s.flags or {} -> s.flags and {}", "x86_64 by_one.handler: s.flags |= carry -> pass",
-        "x86_64_vectors vzeroupper: True -> False", "x86_64 State.put_vector: 16 -> 17",
-        "x86_64_vectors VECTORS.movdqu: False -> True",
+        "x86_64 vzeroupper: True -> False", "x86_64 State.put_vector: 16 -> 17",
+        "x86_64 VECTORS.movdqu: False -> True",
         "x86_64 State.lane: self.is_legacy and (size or o.size) == 16 -> self.is_legacy or (size or o.size) == 16",
         "webassembly State.put: (self.vectors, self.general) -> (self.general, self.vectors)",
         "webassembly Reader.add: self.height - takes -> takes - self.height"),
@@ -116,10 +111,10 @@ REASONS = {
         "x86_64 HANDLERS: 'nop' <-> 'jmp'", "x86_64 HANDLERS: 'jmp' <-> 'call'", "x86_64 HANDLERS: 'call' <-> 'ret'",
         "x86_64 HANDLERS: 'cpuid' <-> 'xgetbv'", "aarch64 HANDLERS: 'bl' <-> 'ret'"),
     "test_wrong.py has programs with accesses that are not aligned": (
-        "x86_64_vectors VECTORS: 'movdqu' <-> 'movdqa'", "x86_64_vectors VECTORS: 'movdqa' <-> 'movups'",
+        "x86_64 VECTORS: 'movdqu' <-> 'movdqa'", "x86_64 VECTORS: 'movdqa' <-> 'movups'",
         "x86_64 State.lane: (size or o.size) == 16 -> (size or o.size) != 16", "x86_64 State.lane: 16 -> 17",
         "x86_64 State.lane: size or o.size -> size and o.size (3)",
-        *[f"x86_64_vectors VECTORS.{name}: True -> False" for name in ("movdqa", "movaps")]),
+        *[f"x86_64 VECTORS.{name}: True -> False" for name in ("movdqa", "movaps")]),
 }
 EQUAL = {said for changes in REASONS.values() for said in changes}
 
@@ -298,7 +293,7 @@ class Compared:
         code = copy.copy(self.runner.code)
         code.processor, code.instructions = meanings, Instructions(code._read)
         for start in code.object.starts:
-            start in code.instructions  # which reads them
+            code.instructions[start]  # which reads them
         return code
 
     def notices(self, modules, file, place, said):
@@ -318,8 +313,8 @@ class Compared:
                                    not any(f'{mnemonic}"' in text for mnemonic in self.parts[at][2])))
         try:
             code = self._read(meanings) if is_read else copy.copy(self.runner.code)
-        except REFUSALS:
-            # The right meanings can still be read.
+        except Exception:
+            # So it is in the tool, which refuses what raises (execution/proofs.py). The right meanings can still be read.
             self._read(self.runner.meanings)
             return True
         code.processor = meanings
@@ -336,7 +331,7 @@ class Compared:
             try:
                 if self.runner.difference(i, f"{form} {seed}", *read):
                     return True
-            except REFUSALS:
+            except Refused:
                 return True
         return False
 
@@ -367,8 +362,8 @@ def is_noticed(change):
     file, at, number, said = change
     try:
         modules, place = loaded(file, at, number)
-    except REFUSALS:
-        return True
+    except Exception:
+        return True  # The tool does not run.
     return any(compared(name).notices(modules, file, place, said) for name in FILES[file])
 
 

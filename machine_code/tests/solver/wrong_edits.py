@@ -74,7 +74,7 @@ WRONG = [
      "a text that is never valid"),
     ("the search counts in 32 bits", C, FIND, "add rax,0x4", "add eax,4", "at the head of a loop|nothing counts"),
     ("the search begins behind two of which one is tested", C, FIND, "or r8b,BYTE PTR [rax+rcx*1]", "test r8b,r8b",
-     "found is wrong at"),
+     "result is wrong at"),
     ("the search tests three of four", C, FIND, "or r10b,BYTE PTR [r9+rcx*1]; js 12f", "test r10b,r10b; js 12f",
      PASSES),
     ("what a kernel returns is not tested", C, "decode_exact", "test al,al; je 4f", "", PASSES),
@@ -113,7 +113,7 @@ WRONG = [
      "jne SYMBOL(const_hex_check_nonnull)", "it calls nothing", "the error is not NULL", "or_null"),
     ("a byte more on the stack of a kernel", "dispatch", "kernel_check", "je \\name\\()_v3",
      "push rax; je \\name\\()_v3; pop rax", STACK, "every call", "kernel"),
-    ("the local error is too high", ARM, "decode", "sp, #16", "sp, #24", "the local error is not in the stack",
+    ("the local error is too high", ARM, "decode", "sp, #16", "sp, #24", "may lie outside of stack",
      "the error is NULL", "or_null"),
     # The module
     ("an access far beyond the constants", "wasm", "encode", "local.get 10; v128.load align=1; local.tee 12",

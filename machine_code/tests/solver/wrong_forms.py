@@ -113,6 +113,8 @@ WRONG = [
      "mov w0, #1; ret; 1:", WRONG_VERSION),
     ("a part of a pointer", "aarch64", "mov x0, sp; ret", WRONG_VERSION),
     ("a vector for a register", "aarch64", "movi v0.16b, #1; mvn v0.16b, v0.16b", "a general register is needed"),
+    ("an exclusive or of vectors", "aarch64", "movi v0.16b, #1; eor v0.16b, v0.16b, v0.16b",
+     "a general register is needed"),
     ("a sum of two numbers", "aarch64", "movi v0.16b, #1; add d0, d0, d0", "vectors are needed"),
     ("a product by one element", "aarch64", "movi v0.8h, #1; mul v0.8h, v0.8h, v0.h[0]", "vectors are needed"),
     *((f"a base that is moved by 0 and a register of {text}", "aarch64",
@@ -146,7 +148,6 @@ RIGHT = [
     ("the lower bits of a page", "aarch64", f"adrp x8, table; {LOWER_BITS}; add x8, x8, #0; mov x9, #1; mvn x8, x9"),
     ("a page that is only moved", "aarch64", "adrp x8, table; add x8, x8, #8"),
     ("a pointer that is no multiple of 16", "v2", "lea rax, [rsp-0x10000]; test rax, rax; je helper"),
-    ("an exclusive or of vectors", "aarch64", "movi v0.16b, #1; eor v0.16b, v0.16b, v0.16b"),
 ]
 
 
