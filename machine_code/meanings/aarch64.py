@@ -12,7 +12,7 @@ import z3
 from execution import state
 from execution.paths import Branch
 from execution.state import byte, chosen, joined, simple, split, word
-from meanings.lanes import (ADD, AND, MINIMUM, MULTIPLY, OR, SUBTRACT, SUBTRACT_SATURATED, XOR, bytes_of, conditions,
+from meanings.lanes import (ADD, AND, MINIMUM, OR, SUBTRACT, SUBTRACT_SATURATED, XOR, bytes_of, conditions,
                             difference_flags, each, holds, logic_flags, sum_flags, units)
 from reading import assembled
 from reading.image import AARCH64
@@ -54,7 +54,9 @@ class Operand:
 
 def _operands(text):
     """Those of an instruction. What stands after an address is added to its base afterwards."""
-    operands = [Operand(part.strip()) for part in OPERAND.findall(text)]
+    # Two registers in braces are two operands.
+    operands = [Operand(part.strip()) for whole in OPERAND.findall(text)
+                for part in (whole.split(", ") if whole[0] == "{" else [whole])]
     if len(operands) > 1 and operands[-2].kind == "memory":
         *operands, after = operands
         operands[-1].after = after
@@ -223,10 +225,12 @@ def either(of_general, of_vectors):
     return lambda s, i: (of_general if i.operands[0].kind == "general" else of_vectors)(s, i)
 
 
-def shift_right(s, i):
-    *vectors, by = i.operands
-    to, one = same(*vectors)
-    s.put_lane(to, each(lambda a: z3.LShR(a, by.value), to.lane, s.lane(one)))
+def shifted(function):
+    def handler(s, i):
+        *vectors, by = i.operands
+        to, one = same(*vectors)
+        s.put_lane(to, each(lambda a: function(a, by.value), to.lane, s.lane(one)))
+    return handler
 
 
 def constant(s, i):
@@ -251,17 +255,9 @@ def duplicate(s, i):
     s.put_lane(to, s.lane(by)[: to.lane] * (to.size // to.lane))
 
 
-def widen(s, i):
-    to, by = i.operands
-    is_upper = i.mnemonic.endswith("2")
-    half = s.lane(by)[8 * is_upper :]
-    s.put_lane(to, [x for a in units(half, by.lane) for x in split(a) + [byte(0)] * by.lane])
-
-
 def narrow(s, i):
-    to, by, *count = i.operands
-    shifted = [z3.LShR(a, count[0].value if count else 0) for a in units(s.lane(by), by.lane)]
-    s.put_lane(to, bytes_of(z3.Extract(8 * to.lane - 1, 0, a) for a in shifted))
+    to, by = i.operands
+    s.put_lane(to, bytes_of(z3.Extract(8 * to.lane - 1, 0, a) for a in units(s.lane(by), by.lane)))
 
 
 def mixed(function):
@@ -270,6 +266,11 @@ def mixed(function):
         to, one, other = same(*i.operands)
         s.put_lane(to, bytes_of(function(units(s.lane(one), to.lane), units(s.lane(other), to.lane))))
     return handler
+
+
+def pairs(a, b):
+    """The numbers of two vectors by turns."""
+    return [number for pair in zip(a, b) for number in pair]
 
 
 def extract(s, i):
@@ -340,6 +341,8 @@ def store(s, i):
     """One that moves the stack pointer first makes space for what it stores."""
     sources, size, address, moved = accessed(s, i)
     lane = [x for source in sources for x in s.lane(source)[:size]]
+    if i.mnemonic == "st2":
+        lane = bytes_of(pairs(*(units(s.lane(source), source.lane) for source in same(*sources))))
     s.general |= moved
     s.store(address, lane)
 
@@ -349,14 +352,14 @@ HANDLERS = {
     "cmn": general(ADD, sum_flags, is_kept=False),
     "sub": either(general(SUBTRACT), by_units(SUBTRACT)), "subs": general(SUBTRACT, comparison_flags),
     "cmp": general(SUBTRACT, comparison_flags, is_kept=False), "and": either(general(AND), by_units(AND)),
-    "tst": general(AND, logic_flags(AND), is_kept=False), "orr": either(general(OR), by_units(OR)), "eor": general(XOR),
+    "orr": either(general(OR), by_units(OR)), "eor": general(XOR),
     "mvn": general(lambda a: ~a), "msub": general(lambda a, b, c: c - a * b), "umulh": upper_product,
     "movk": move_part, "bfxil": insert_bits, "lsl": shift, "lsr": shift, "adrp": adrp, "csel": select(lambda b: b),
     "csinv": select(lambda b: ~b), "cset": set_if, "b": jump, "bl": jump, "ret": ret, "cbz": jump_if_zero,
-    "cbnz": jump_if_zero, "tbz": jump_if_bit, "tbnz": jump_if_bit, "mul": by_units(MULTIPLY),
-    "umin": by_units(MINIMUM), "uqsub": by_units(SUBTRACT_SATURATED), "ushr": shift_right, "movi": constant,
-    "mov": move, "fmov": move, "umov": move, "dup": duplicate, "uxtl": widen, "uxtl2": widen, "xtn": narrow,
-    "shrn": narrow, "ext": extract, "tbl": look_up, "uzp2": mixed(lambda a, b: (a + b)[1::2]),
-    "zip1": mixed(lambda a, b: [x for pair in zip(a[: len(a) // 2], b) for x in pair]),
+    "cbnz": jump_if_zero, "tbz": jump_if_bit, "tbnz": jump_if_bit, "neg": general(lambda a: -a),
+    "umin": by_units(MINIMUM), "uqsub": by_units(SUBTRACT_SATURATED), "ushr": shifted(z3.LShR), "shl": shifted(lambda a, count: a << count), "movi": constant,
+    "mov": move, "fmov": move, "umov": move, "dup": duplicate, "xtn": narrow, "ext": extract, "tbl": look_up, "uzp2": mixed(lambda a, b: (a + b)[1::2]),
+    "uzp1": mixed(lambda a, b: (a + b)[::2]), "zip1": mixed(lambda a, b: pairs(a, b)[: len(a)]),
+    "zip2": mixed(lambda a, b: pairs(a, b)[len(a) :]), "st2": store,
     **dict.fromkeys(LOADS, load), **dict.fromkeys(STORES, store), **{f"b.{name}": jump_if for name in CONDITIONS},
 }

@@ -279,7 +279,7 @@
 	cmp x1, #0x1
 	b.ne 3f
 	movi v0.16b, #0xf
-	ld1r {v1.16b}, [x0]
+	ldr b1, [x0]
 	cmp w2, #0x0
 	mov w8, #0x10
 	adrp_label x9, const_hex_1_0_0_constant_2
@@ -290,9 +290,8 @@
 	ushr v1.16b, v1.16b, #4
 	tbl v0.16b, {v2.16b}, v0.16b
 	tbl v1.16b, {v2.16b}, v1.16b
-	mov b0, v0.b[1]
-	st1 {v1.b}[1], [x3]
 	stur b0, [x3, #1]
+	str b1, [x3]
 	ret
 2:
 	cmp x1, #0x40

@@ -263,19 +263,12 @@
 	lea    rsi,[rip + const_hex_1_0_0_constant_5_v2]
 	movdqu xmm0,XMMWORD PTR [rdx+rsi*1]
 	movd   xmm1,eax
-	pinsrb xmm1,eax,0x2
-	pinsrb xmm1,eax,0x4
-	pinsrb xmm1,eax,0x6
-	pinsrb xmm1,eax,0x8
-	pinsrb xmm1,eax,0xa
-	pinsrb xmm1,eax,0xc
-	pinsrb xmm1,eax,0xe
 	pmullw xmm1,xmm0
 	psrlw  xmm1,0x4
 	lea    rax,[rip + const_hex_1_0_0_constant_6_v2]
 	movdqu xmm0,XMMWORD PTR [rdx+rax*1]
 	pshufb xmm0,xmm1
-	pextrw WORD PTR [rcx],xmm0,0x1
+	pextrw WORD PTR [rcx],xmm0,0x0
 	ret
 2:
 	cmp    rsi,0x3f
@@ -346,7 +339,7 @@
 	movdqu xmm0,XMMWORD PTR [rax+rdx*1]
 	xor    edx,edx
 	mov    rax,rsi
-	.byte 0xf, 0x1f, 0x44, 0x0, 0x0  /* nop    DWORD PTR [rax+rax*1+0x0] */
+	.byte 0x66, 0x66, 0x66, 0x66, 0x66, 0x66, 0x2e, 0xf, 0x1f, 0x84, 0x0, 0x0, 0x0, 0x0, 0x0  /* data16 data16 data16 data16 data16 cs nop WORD PTR [rax+rax*1+0x0] */
 5:
 	pmovzxbw xmm2,QWORD PTR [rdi+rdx*1+0x8]
 	pmovzxbw xmm3,QWORD PTR [rdi+rdx*1]

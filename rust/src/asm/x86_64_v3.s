@@ -197,19 +197,16 @@
 	jne    3f
 	movzx  eax,BYTE PTR [rdi]
 	vmovd  xmm0,eax
-	vpbroadcastb xmm0,xmm0
-	vpinsrb xmm0,xmm0,eax,0x0
-	vpinsrb xmm0,xmm0,eax,0x1
 	movzx  eax,dl
 	shl    eax,0x4
 	lea    rdx,[rip + const_hex_1_0_0_constant_8_v3]
-	vpmovzxbw xmm0,xmm0
+	vpshufb xmm0,xmm0,XMMWORD PTR [rip + const_hex_1_0_0_constant_9_v3]
 	vpmullw xmm0,xmm0,XMMWORD PTR [rax+rdx*1]
 	vpsrlw xmm0,xmm0,0x4
-	lea    rdx,[rip + const_hex_1_0_0_constant_9_v3]
+	lea    rdx,[rip + const_hex_1_0_0_constant_10_v3]
 	vmovdqu xmm1,XMMWORD PTR [rax+rdx*1]
 	vpshufb xmm0,xmm1,xmm0
-	vpextrw WORD PTR [rcx],xmm0,0x1
+	vpextrw WORD PTR [rcx],xmm0,0x0
 	ret
 2:
 	cmp    rsi,0x3f
@@ -223,7 +220,7 @@
 	vbroadcasti128 ymm0,XMMWORD PTR [rax+rdx*1]
 	vpmullw ymm1,ymm0,ymm1
 	vpsrlw ymm2,ymm1,0x4
-	lea    rdx,[rip + const_hex_1_0_0_constant_9_v3]
+	lea    rdx,[rip + const_hex_1_0_0_constant_10_v3]
 	vbroadcasti128 ymm1,XMMWORD PTR [rax+rdx*1]
 	vpshufb ymm2,ymm1,ymm2
 	vmovdqu YMMWORD PTR [rcx],ymm2
@@ -245,7 +242,7 @@
 	vbroadcasti128 ymm1,XMMWORD PTR [rax+rdx*1]
 	vpmullw ymm0,ymm1,ymm0
 	vpsrlw ymm0,ymm0,0x4
-	lea    rdx,[rip + const_hex_1_0_0_constant_9_v3]
+	lea    rdx,[rip + const_hex_1_0_0_constant_10_v3]
 	vbroadcasti128 ymm1,XMMWORD PTR [rax+rdx*1]
 	vpshufb ymm0,ymm1,ymm0
 	vmovdqu XMMWORD PTR [rcx],xmm0
@@ -259,11 +256,11 @@
 	vbroadcasti128 ymm0,XMMWORD PTR [rax+r8*1]
 	movzx  eax,dl
 	shl    eax,0x4
-	lea    rdx,[rip + const_hex_1_0_0_constant_9_v3]
+	lea    rdx,[rip + const_hex_1_0_0_constant_10_v3]
 	vbroadcasti128 ymm1,XMMWORD PTR [rax+rdx*1]
 	xor    edx,edx
 	mov    rax,rsi
-	.byte 0x66, 0x2e, 0xf, 0x1f, 0x84, 0x0, 0x0, 0x0, 0x0, 0x0  /* cs nop WORD PTR [rax+rax*1+0x0] */
+	.byte 0xf, 0x1f, 0x80, 0x0, 0x0, 0x0, 0x0  /* nop    DWORD PTR [rax+0x0] */
 5:
 	vpmovzxbw ymm2,XMMWORD PTR [rdi+rdx*1]
 	vpmullw ymm2,ymm0,ymm2
@@ -312,7 +309,7 @@
 	vbroadcasti128 ymm0,XMMWORD PTR [rax+rdx*1]
 	vpmullw ymm1,ymm0,ymm1
 	vpsrlw ymm2,ymm1,0x4
-	lea    rdx,[rip + const_hex_1_0_0_constant_9_v3]
+	lea    rdx,[rip + const_hex_1_0_0_constant_10_v3]
 	vbroadcasti128 ymm1,XMMWORD PTR [rax+rdx*1]
 	vpshufb ymm2,ymm1,ymm2
 	vpmovzxbw ymm3,XMMWORD PTR [rdi+0x10]
@@ -350,7 +347,7 @@
 	vpmovzxbw xmm0,xmm0
 	vpmullw xmm0,xmm0,XMMWORD PTR [rax+rdx*1]
 	vpsrlw xmm0,xmm0,0x4
-	lea    rdx,[rip + const_hex_1_0_0_constant_9_v3]
+	lea    rdx,[rip + const_hex_1_0_0_constant_10_v3]
 	vmovdqu xmm1,XMMWORD PTR [rax+rdx*1]
 	vpshufb xmm0,xmm1,xmm0
 	vmovq  QWORD PTR [rcx],xmm0
@@ -368,7 +365,7 @@
 	vpmovzxbw xmm0,xmm0
 	vpmullw xmm0,xmm0,XMMWORD PTR [rax+rdx*1]
 	vpsrlw xmm0,xmm0,0x4
-	lea    rdx,[rip + const_hex_1_0_0_constant_9_v3]
+	lea    rdx,[rip + const_hex_1_0_0_constant_10_v3]
 	vmovdqu xmm1,XMMWORD PTR [rax+rdx*1]
 	vpshufb xmm0,xmm1,xmm0
 	vmovd  DWORD PTR [rcx],xmm0
@@ -639,7 +636,7 @@
 18:
 	vpsllw xmm1,xmm0,0xc
 	vpaddw xmm0,xmm0,xmm1
-	vpshufb xmm0,xmm0,XMMWORD PTR [rip + const_hex_1_0_0_constant_10_v3]
+	vpshufb xmm0,xmm0,XMMWORD PTR [rip + const_hex_1_0_0_constant_11_v3]
 	vmovd  DWORD PTR [rsi],xmm0
 	vpextrd DWORD PTR [rsi+rdx*1-0x4],xmm0,0x1
 	mov    al,0x1
@@ -682,9 +679,12 @@
 	.byte 0x01, 0x10, 0x01, 0x10, 0x01, 0x10, 0x01, 0x10, 0x01, 0x10, 0x01, 0x10, 0x01, 0x10, 0x01, 0x10
 	.byte 0x01, 0x10, 0x01, 0x10, 0x01, 0x10, 0x01, 0x10, 0x01, 0x10, 0x01, 0x10, 0x01, 0x10, 0x01, 0x10
 
-	constant const_hex_1_0_0_constant_9_v3, 5
+	constant const_hex_1_0_0_constant_9_v3, 4
+	.byte 0x00, 0x80, 0x01, 0x80, 0x02, 0x80, 0x03, 0x80, 0x80, 0x80, 0x80, 0x80, 0x80, 0x80, 0x80, 0x80
+
+	constant const_hex_1_0_0_constant_10_v3, 5
 	.byte 0x30, 0x31, 0x32, 0x33, 0x34, 0x35, 0x36, 0x37, 0x38, 0x39, 0x61, 0x62, 0x63, 0x64, 0x65, 0x66
 	.byte 0x30, 0x31, 0x32, 0x33, 0x34, 0x35, 0x36, 0x37, 0x38, 0x39, 0x41, 0x42, 0x43, 0x44, 0x45, 0x46
 
-	constant const_hex_1_0_0_constant_10_v3, 4
+	constant const_hex_1_0_0_constant_11_v3, 4
 	.byte 0x01, 0x03, 0x05, 0x07, 0x09, 0x0b, 0x0d, 0x0f, 0x00, 0x00, 0x00, 0x00, 0x00, 0x00, 0x00, 0x00

@@ -1,6 +1,6 @@
 //! Encodes, checks and decodes a short input, by its first and its last bytes at once.
 
-ghost use Rattle.std.specs.Prelude.{◌≡◌, ◌+◌, ◌*◌, ◌<◌, ◌≤◌, ◌++◌, ◌↔◌, length, take, IsTrue, false};
+ghost use Rattle.std.specs.Prelude.{◌≡◌, [], ◌∷◌, ◌+◌, ◌*◌, ◌<◌, ◌≤◌, ◌++◌, ◌↔◌, length, take, IsTrue, false};
 ghost use Rattle.const_hex_arch.specs.Texts.{AllDigits, Spells, Partial, hex_text};
 
 use crate::arch::lanes::LaneOps;
@@ -17,7 +17,7 @@ pub(crate) fn fill<S: LaneOps<16>>(bytes: &[u8], upper: bool, output: &mut [u8])
     ensures { output.new ≡ hex_text upper bytes.now }
 {
     if bytes.len() == 1 {
-        fill_ends::<1, 2, S>(bytes, upper, output);
+        fill_byte::<S>(bytes[0], upper, output);
     } else if bytes.len() >= 8 {
         fill_ends::<8, 16, S>(bytes, upper, output);
     } else if bytes.len() >= 4 {
@@ -46,6 +46,19 @@ pub(crate) fn fill_overlapping<const N: usize, V: LaneOps<N>>(
     }
 }
 
+/// As `fill`, for a single byte, which stands in the first lane.
+#[inline(always)]
+#[tactic(auto, using(std::proofs::lemmas::Simd::put_chunk_whole), unfolding(crate::specs::Texts::hex_text))]
+fn fill_byte<S: LaneOps<16>>(byte: u8, upper: bool, output: &mut [u8])
+    requires { length output.old ≡ 2 }
+    ensures { output.new ≡ hex_text upper (byte ∷ []) }
+{
+    let mut text = [0; 32];
+    let lanes = [byte, 0, 0, 0, 0, 0, 0, 0, 0, 0, 0, 0, 0, 0, 0, 0];
+    S::write_digits(u8x16::from_array(lanes), upper, upper, &mut text);
+    u8x2::from_slice(&text).copy_to_slice(output);
+}
+
 /// As `fill`, for `H` to `2 * H` bytes. `D` is `2 * H`, the number of digits of `H` bytes.
 #[inline(always)]
 fn fill_ends<const H: usize, const D: usize, S: LaneOps<16>>(bytes: &[u8], upper: bool, output: &mut [u8])
@@ -57,8 +70,7 @@ fn fill_ends<const H: usize, const D: usize, S: LaneOps<16>>(bytes: &[u8], upper
     ensures { output.new ≡ hex_text upper bytes.now }
 {
     let mut text = [0; 32];
-    // A single byte stands in each lane: one instruction loads it so.
-    let ends = steps::load_ends::<H, 16>(bytes, if H == 1 { bytes[0] } else { 0 });
+    let ends = steps::load_ends::<H, 16>(bytes, 0);
     steps::fill_step::<16, S>(&ends, upper, upper, &mut text);
     // Two parts of the array, which LLVM keeps in registers.
     let (first, last) = (Simd::from_slice(&text), Simd::from_slice(&text[D..]));
