@@ -85,7 +85,6 @@ pub use crate::traits::{FromHex, ToHex};
 
 use crate::proved::codec::encoders::encode_full_to_slice;
 use crate::proved::codec::{checks, decoders};
-#[cfg(feature = "alloc")]
 use crate::proved::codec::body::{find_invalid_character, strip_even};
 #[cfg(feature = "alloc")]
 use alloc::{string::String, vec::Vec};
@@ -289,7 +288,12 @@ pub fn decode_to_front<T: AsRef<[u8]>>(data: T, out: &mut [u8]) -> Result<usize,
 /// ```
 #[inline]
 pub fn decode_to_array<T: AsRef<[u8]>, const N: usize>(input: T) -> Result<[u8; N], FromHexError> {
-    decoders::decode_to_array(input.as_ref())
+    let text = input.as_ref();
+    let digits = strip_even(text)?;
+    if digits.len() != N << 1 {
+        return Err(FromHexError::InvalidStringLength);
+    }
+    kernel::Space::new().bytes(digits).ok_or_else(|| find_invalid_character(text))
 }
 
 /// Returns `Ok` if a text can be decoded, or else [`FromHexError::OddLength`] or

@@ -1,10 +1,10 @@
-//! Space for a text, which need not be initialized.
+//! Space for a text or for bytes, which need not be initialized.
 
 use super::unchecked;
 use crate::proved::text_length;
 use core::{mem::MaybeUninit, slice};
 
-/// Space for a text of at most `N` bytes.
+/// Space for `N` bytes.
 pub struct Space<const N: usize>(MaybeUninit<[u8; N]>);
 
 impl<const N: usize> Space<N> {
@@ -25,6 +25,20 @@ impl<const N: usize> Space<N> {
         unsafe {
             write_text(bytes, prefix, upper, text);
             slice::from_raw_parts(text, length)
+        }
+    }
+
+    /// Returns the bytes of digits, or `None` if some byte is not a digit. Panics unless there are two for each of `N`
+    /// bytes.
+    #[inline]
+    pub fn bytes(mut self, digits: &[u8]) -> Option<[u8; N]> {
+        assert!(digits.len() == N << 1);
+        // SAFETY: there are so many digits, and if the result is true, all bytes are written.
+        unsafe {
+            match unchecked::read(digits.as_ptr(), self.0.as_mut_ptr().cast(), N) {
+                true => Some(self.0.assume_init()),
+                false => None,
+            }
         }
     }
 }

@@ -41,7 +41,7 @@ pub use self::formatting::text::*;
 //    1  Rust's errors are not copied
 //   26  a formatter has a lifetime in place of its writer's type
 //   10  a function for C takes slices, which capi makes of pointers and lengths, and is compiled there alone
-//   89  all crates are one module
+//   88  all crates are one module
 //    5  an allocation never fails: without memory the program ends
 //  109  an assertion names no runtime
 //    3  an example names a kernel that each target has
@@ -54,12 +54,12 @@ pub use self::formatting::text::*;
 //    1  and the crate's decoder is cloned
 //    1  and writes a text to memory that is not cleared
 //    1  before it reads a chunk
-//   50  deleted: attribute
-//  226  deleted: contract
+//   51  deleted: attribute
+//  229  deleted: contract
 //  209  deleted: ghost item
 //    4  deleted: model
 //    2  each value may be dropped
-//    5  kernels that no target uses are left out, and callers that nothing exports
+//    6  kernels that no target uses are left out, and callers that nothing exports
 //   15  the allocator is a value
 //    1  the kernel is chosen for the processor
 //   13  what a constant calls is constant

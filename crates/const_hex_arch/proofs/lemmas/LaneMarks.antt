@@ -153,10 +153,21 @@ unmarked_numbers a (suc n) (x0 ∷ x1 ∷ x2 ∷ x3 ∷ x4 ∷ x5 ∷ x6 ∷ x7 
     let above : number / 18446744073709551616 ≡ rest = omega arith in
     let here : (number % 18446744073709551616 ≡ 0) ↔ ((marked x0 + marked x1 + marked x2 + marked x3 + marked x4 + marked x5 + marked x6 + marked x7) ≡ 0) = omega arith in
     rw above
-    (grind (arith, here, unmarked_at x0 f.0.fits, unmarked_at x1 f.1.0.fits, unmarked_at x2 f.1.1.0.fits,
-    unmarked_at x3 f.1.1.1.0.fits, unmarked_at x4 f.1.1.1.1.0.fits, unmarked_at x5 f.1.1.1.1.1.0.fits,
-    unmarked_at x6 f.1.1.1.1.1.1.0.fits, unmarked_at x7 f.1.1.1.1.1.1.1.0.fits,
-    unmarked_numbers (bit_or a (number % 18446744073709551616)) n xs (omega arith) f.1.1.1.1.1.1.1.1, le_or_l, le_or_r))
+    (grind (
+      arith,
+      here,
+      unmarked_at x0 f.0.fits,
+      unmarked_at x1 f.1.0.fits,
+      unmarked_at x2 f.1.1.0.fits,
+      unmarked_at x3 f.1.1.1.0.fits,
+      unmarked_at x4 f.1.1.1.1.0.fits,
+      unmarked_at x5 f.1.1.1.1.1.0.fits,
+      unmarked_at x6 f.1.1.1.1.1.1.0.fits,
+      unmarked_at x7 f.1.1.1.1.1.1.1.0.fits,
+      unmarked_numbers (bit_or a (number % 18446744073709551616)) n xs (omega arith) f.1.1.1.1.1.1.1.1,
+      le_or_l,
+      le_or_r,
+    ))
 unmarked_numbers a _ _ e f = absurd (omega arith)
 
 -- no lane has a mark if and only if all lanes AND 216, joined by OR in numbers of 64 bits, are 0

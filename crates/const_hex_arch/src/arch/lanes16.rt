@@ -41,7 +41,7 @@ const FACTORS: &[[u8; 16]; 2] = &[
 pub(crate) fn digits_row(upper: bool) -> [u8; 16]
     ensures { result ≡ map (hex_digit upper) (range_with_len 0 16) }
 {
-    DIGITS[upper as usize]
+    DIGITS[usize::from(upper)]
 }
 
 /// The factors, from the first row of them or the second. Both are equal, so no result depends on
@@ -50,7 +50,7 @@ pub(crate) fn digits_row(upper: bool) -> [u8; 16]
 pub(crate) fn factors_row(row_copy: bool) -> [u8; 16]
     ensures { result ≡ bytes_of_4097 }
 {
-    FACTORS[row_copy as usize]
+    FACTORS[usize::from(row_copy)]
 }
 
 /// The row of factors for a loop over so many bytes. Any bit that is known only at run time would do.

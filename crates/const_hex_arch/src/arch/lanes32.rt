@@ -25,7 +25,10 @@ pub fn encode_chunk<const UPPER: bool>(v: u8x32) -> [u8x32; 2]
     ensures lanes { map length result ≡ 32 ∷ 32 ∷ [] }
 {
     let first = lanes16::encode_lanes(v.extract::<0, 16>(), UPPER, false);
-    [first, lanes16::encode_lanes(v.extract::<16, 16>(), UPPER, false)]
+    [
+        first,
+        lanes16::encode_lanes(v.extract::<16, 16>(), UPPER, false),
+    ]
 }
 
 /// Whether every lane is a digit.

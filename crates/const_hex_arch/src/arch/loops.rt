@@ -9,8 +9,7 @@ ghost use Rattle.std.specs.Prelude.{◌≡◌, ◌*◌, ◌≤◌, ◌↔◌, Is
 ghost use Rattle.const_hex_arch.specs.Texts.{hex_text, AllDigits, Spells, Partial};
 
 use crate::arch::lanes::LaneOps;
-use crate::arch::lanes16;
-use crate::arch::{small_input, steps};
+use crate::arch::{lanes16, small_input, steps};
 
 /// Fills the output with the text of the input. While two steps are left, it takes both in one turn;
 /// then one, if more than one is left; and then the last `N` bytes, if some are left, with bytes before
@@ -137,11 +136,7 @@ pub(crate) fn decode_in_steps<const N: usize, const PAIRS: bool, V: LaneOps<N>, 
     }
     if output.len() - at >= 16 {
         let end = at + 16;
-        if !steps::decode_step::<16, S>(
-            &input[2 * at..2 * end],
-            false,
-            &mut output[at..end],
-        ) {
+        if !steps::decode_step::<16, S>(&input[2 * at..2 * end], false, &mut output[at..end]) {
             return false;
         }
         at = end;
@@ -157,7 +152,10 @@ pub(crate) fn decode_in_steps<const N: usize, const PAIRS: bool, V: LaneOps<N>, 
 /// Decodes digits in steps, and then by the last 16 bytes, some of them again. A text of fewer than
 /// 16 bytes is left to `small_input::decode_small`.
 #[inline(always)]
-pub(crate) fn decode_digits_in_steps<const N: usize, V: LaneOps<N>, S: LaneOps<16>>(input: &[u8], output: &mut [u8])
+pub(crate) fn decode_digits_in_steps<const N: usize, V: LaneOps<N>, S: LaneOps<16>>(
+    input: &[u8],
+    output: &mut [u8],
+)
     requires size { length input.now ≡ 2 * length output.old }
     requires digits { AllDigits input.now }
     ensures { Spells input.now output.new }
@@ -175,11 +173,7 @@ pub(crate) fn decode_digits_in_steps<const N: usize, V: LaneOps<N>, S: LaneOps<1
     }
     if output.len() - at >= 16 {
         let end = at + 16;
-        steps::decode_digits_step::<16, S>(
-            &input[2 * at..2 * end],
-            false,
-            &mut output[at..end],
-        );
+        steps::decode_digits_step::<16, S>(&input[2 * at..2 * end], false, &mut output[at..end]);
         at = end;
     }
     if at < output.len() {

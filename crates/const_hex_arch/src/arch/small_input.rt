@@ -61,7 +61,11 @@ fn fill_byte<S: LaneOps<16>>(byte: u8, upper: bool, output: &mut [u8])
 
 /// As `fill`, for `H` to `2 * H` bytes. `D` is `2 * H`, the number of digits of `H` bytes.
 #[inline(always)]
-fn fill_ends<const H: usize, const D: usize, S: LaneOps<16>>(bytes: &[u8], upper: bool, output: &mut [u8])
+fn fill_ends<const H: usize, const D: usize, S: LaneOps<16>>(
+    bytes: &[u8],
+    upper: bool,
+    output: &mut [u8],
+)
     requires half { (1 ≤ H) × (H ≤ 8) }
     requires digits { D ≡ 2 * H }
     requires size { length output.old ≡ 2 * length bytes.now }
@@ -157,7 +161,10 @@ pub(crate) fn decode_pairs(text: &[u8], output: &mut [u8]) -> bool
 /// false, and the output is unchanged. `D` is `2 * H`, the number of digits of `H` bytes.
 #[inline(always)]
 #[tactic(auto, using(crate::proofs::lemmas::Standard::through, crate::proofs::lemmas::Ends::digits_ends, std::proofs::lemmas::List::take_all))]
-fn decode_ends<const H: usize, const D: usize, S: LaneOps<16>>(text: &[u8], output: &mut [u8]) -> bool
+fn decode_ends<const H: usize, const D: usize, S: LaneOps<16>>(
+    text: &[u8],
+    output: &mut [u8],
+) -> bool
     requires half { H ≤ 8 }
     requires digits { D ≡ 2 * H }
     requires size { length text.now ≡ 2 * length output.old }

@@ -10,14 +10,17 @@ use crate::std_shim::simd::prelude::*;
 /// over this trait. The argument `row_copy` never changes a result: it selects one of two equal rows, as
 /// [`lanes16::factors_row`](super::lanes16::factors_row) explains.
 pub(crate) trait LaneOps<const N: usize> {
-    /// Two digits for each lane, in order: the text of the first half, and the text of the second.
-    fn digits_of(v: Simd<u8, N>, upper: bool, row_copy: bool) -> [Simd<u8, N>; 2];
+    /// Fills the output with two digits for each lane, in order.
+    fn write_digits(v: Simd<u8, N>, upper: bool, row_copy: bool, output: &mut [u8]);
 
     /// The limit of each lane. If the lane is a digit, its value is at most the limit.
     fn look_up_limits(v: Simd<u8, N>) -> Simd<u8, N>;
 
     /// One byte for each two values, the higher half first.
     fn merge(first: Simd<u8, N>, second: Simd<u8, N>, row_copy: bool) -> Simd<u8, N>;
+
+    /// Whether every mark has the bits 7, 6, 4 and 3 clear.
+    fn are_unmarked(marks: Simd<u8, N>) -> bool;
 }
 
 /// The value of each lane that is a digit, and more than 15 for every other lane.
@@ -32,12 +35,6 @@ pub(crate) fn nibbles<const N: usize>(v: Simd<u8, N>) -> Simd<u8, N> {
     // The paper adds 10 with saturation. `min(letter, 245) + 10` is the same, and does not wrap.
     let letter = letter.simd_min(Simd::splat(245)) + Simd::splat(10);
     decimal.simd_min(letter)
-}
-
-/// Whether every mark has the bits 7, 6, 4 and 3 clear.
-#[inline(always)]
-pub(crate) fn are_unmarked<const N: usize>(marks: Simd<u8, N>) -> bool {
-    (marks & Simd::splat(0xD8)).reduce_or() == 0
 }
 
 /// The value of each lane that is a digit.
@@ -67,7 +64,7 @@ fn marks<const N: usize, V: LaneOps<N>>(v: Simd<u8, N>) -> Simd<u8, N> {
 /// Whether every lane is a digit.
 #[inline(always)]
 pub(crate) fn are_digits<const N: usize, V: LaneOps<N>>(v: Simd<u8, N>) -> bool {
-    are_unmarked(marks::<N, V>(v))
+    V::are_unmarked(marks::<N, V>(v))
 }
 
 /// The marks of two vectors, joined.

@@ -18,30 +18,32 @@ use crate::std_shim::simd::prelude::*;
 // the value itself, `P`, `W`, `X` and `Y` would leave the mark 32, and pass as digits.
 const LIMITS: [u8; 16] = [1, 10, 11, 12, 13, 14, 15, 8, 9, 10, 0, 0, 0, 0, 0, 0];
 
-/// Two equal rows of the factor 4097 in each lane of 16 bits, and the 16 digits in lowercase and in
-/// uppercase.
+/// The 16 digits in lowercase and in uppercase.
+const DIGITS: &[[u8; 16]; 2] = &[*b"0123456789abcdef", *b"0123456789ABCDEF"];
+
+/// Two equal rows of the factor 4097 in each lane of 16 bits.
 // Why two: a compiler that knows a factor of 4097 multiplies by a shift and a sum (LLVM 22, for x86-64),
 // which costs more instructions. In Rattle's build these are 2361 in place of 1823 to encode 2047 bytes,
 // and 3645 in place of 3347 to decode to 2048; by rustc 1.95 with AVX2, 1919 in place of 1827 to decode.
 // So `fill_in_steps`, and the loops of the decoders that take most of a long text, choose a row by a bit
 // that is known only at run time, and a short input takes the row of its case. All else takes the first
-// one: the choice would cost up to 4 instructions a call. They stand first, so that the offset of the chosen
-// row is one bit of the length: in WebAssembly, other places made a `select` of it.
-const ROWS: &[[u8; 16]; 4] = &[FACTORS, FACTORS, *b"0123456789abcdef", *b"0123456789ABCDEF"];
-
-const FACTORS: [u8; 16] = [1, 16, 1, 16, 1, 16, 1, 16, 1, 16, 1, 16, 1, 16, 1, 16];
+// one: the choice would cost up to 4 instructions a call.
+const FACTORS: &[[u8; 16]; 2] = &[
+    [1, 16, 1, 16, 1, 16, 1, 16, 1, 16, 1, 16, 1, 16, 1, 16],
+    [1, 16, 1, 16, 1, 16, 1, 16, 1, 16, 1, 16, 1, 16, 1, 16],
+];
 
 /// The digits of a case.
 #[inline(always)]
-fn digits_row(upper: bool) -> [u8; 16] {
-    ROWS[if upper { 3 } else { 2 }]
+pub(crate) fn digits_row(upper: bool) -> [u8; 16] {
+    DIGITS[usize::from(upper)]
 }
 
 /// The factors, from the first row of them or the second. Both are equal, so no result depends on
-/// `row_copy`. The comment at [`ROWS`] says why there are two.
+/// `row_copy`. The comment at [`FACTORS`] says why there are two.
 #[inline(always)]
 pub(crate) fn factors_row(row_copy: bool) -> [u8; 16] {
-    ROWS[if row_copy { 1 } else { 0 }]
+    FACTORS[usize::from(row_copy)]
 }
 
 /// The row of factors for a loop over so many bytes. Any bit that is known only at run time would do.
@@ -61,7 +63,7 @@ pub(crate) fn in_both_halves(lanes: [u8; 16]) -> u8x32 {
 /// Two digits for each lane, in order: the text of the first 8 lanes, and the text of the last 8.
 #[inline(always)]
 pub fn encode_chunk<const UPPER: bool>(v: u8x16) -> [u8x16; 2] {
-    Lanes16::digits_of(v, UPPER, false)
+    in_two(encode_lanes(v, UPPER, false))
 }
 
 /// Whether every lane is a digit.
@@ -104,7 +106,7 @@ impl Kernel for Lanes16 {
 
     #[inline(always)]
     fn fill(input: &[u8], upper: bool, output: &mut [u8]) {
-        loops::fill_in_steps::<16, Lanes16>(input, upper, output);
+        loops::fill_in_steps::<16, Lanes16, Lanes16>(input, upper, output);
     }
 
     // Not `always`: `decode_body` calls `CheckFirst::<K>` in a branch that is never taken for this
@@ -119,19 +121,19 @@ impl Kernel for Lanes16 {
 
     #[inline(always)]
     fn decode_checked(input: &[u8], output: &mut [u8]) -> bool {
-        loops::decode_in_steps::<16, true, Lanes16>(input, output)
+        loops::decode_in_steps::<16, true, Lanes16, Lanes16>(input, output)
     }
 
     #[inline(always)]
     fn decode_unchecked(input: &[u8], output: &mut [u8]) {
-        loops::decode_digits_in_steps::<16, Lanes16>(input, output);
+        loops::decode_digits_in_steps::<16, Lanes16, Lanes16>(input, output);
     }
 }
 
 impl LaneOps<16> for Lanes16 {
     #[inline(always)]
-    fn digits_of(v: u8x16, upper: bool, row_copy: bool) -> [u8x16; 2] {
-        in_two(encode_lanes(v, upper, row_copy))
+    fn write_digits(v: u8x16, upper: bool, row_copy: bool, output: &mut [u8]) {
+        encode_lanes(v, upper, row_copy).copy_to_slice(output);
     }
 
     // Constant time: this is a shuffle within a register, so no byte selects a memory address.
@@ -146,6 +148,12 @@ impl LaneOps<16> for Lanes16 {
     #[inline(always)]
     fn merge(first: u8x16, second: u8x16, row_copy: bool) -> u8x16 {
         pack(join(first, second), row_copy)
+    }
+
+    // In lanes of 64 bits: for AArch64, LLVM joins those of 8 bits by five instructions more.
+    #[inline(always)]
+    fn are_unmarked(marks: u8x16) -> bool {
+        u64x2::from_le_bytes(marks & u8x16::splat(0xD8)).reduce_or() == 0
     }
 }
 
@@ -179,7 +187,7 @@ pub(crate) fn split_lanes(v: u8x16, factors: [u8; 16]) -> u8x32 {
 fn decode_flagged(text: [u8x16; 2]) -> (u8x16, bool) {
     let marks = lanes::joint_marks::<16, Lanes16>(text[0], text[1]);
     let bytes = lanes::decode::<16, Lanes16>(text[0], text[1], false);
-    (bytes, lanes::are_unmarked(marks))
+    (bytes, Lanes16::are_unmarked(marks))
 }
 
 /// The lanes of both vectors, in order.

@@ -1,27 +1,35 @@
 // Made by rust/erase from crates/const_hex_arch/src/arch/loops.rt. Do not edit.
 //! Loops that take the input step by step, and then the remainder.
 //!
-//! `V` has the `N` lanes of a step; what is shorter takes those of [`Lanes16`]. Neither a contract nor a
+//! `V` has the `N` lanes of a step, and `S` 16 lanes for what is shorter. Neither a contract nor a
 //! test notices which steps are taken where others give the same result: compare a change with "Steps
 //! and remainders" in docs/DESIGN.md. The code was reviewed against that table, step by step; only the
 //! remainders differ from the steps of const-hex (docs/DECISIONS.md).
 
 use crate::std_shim::prelude::*;
 use crate::proved::arch::lanes::LaneOps;
-use crate::proved::arch::lanes16::{self, Lanes16};
-use crate::proved::arch::{small_input, steps};
+use crate::proved::arch::{lanes16, small_input, steps};
 
 /// Fills the output with the text of the input. While two steps are left, it takes both in one turn;
 /// then one, if more than one is left; and then the last `N` bytes, if some are left, with bytes before
-/// them that are encoded again. Less than two steps are left to `small_input::fill`.
+/// them that are encoded again. Fewer than 16 bytes are left to `small_input::fill`, and others of less than
+/// two steps to `small_input::fill_overlapping`.
 #[inline(always)]
-pub(crate) fn fill_in_steps<const N: usize, V: LaneOps<N>>(
+pub(crate) fn fill_in_steps<const N: usize, V: LaneOps<N>, S: LaneOps<16>>(
     input: &[u8],
     upper: bool,
     output: &mut [u8],
 ) {
+    if input.len() < 16 {
+        small_input::fill::<S>(input, upper, output);
+        return;
+    }
     if input.len() < 2 * N {
-        small_input::fill::<N, V>(input, upper, output);
+        if input.len() < N {
+            small_input::fill_overlapping::<16, S>(input, upper, output);
+        } else {
+            small_input::fill_overlapping::<N, V>(input, upper, output);
+        }
         return;
     }
     let row_copy = lanes16::row_copy_for(input.len());
@@ -81,12 +89,15 @@ pub(crate) fn check_in_steps<const N: usize, V: LaneOps<N>>(input: &[u8]) -> boo
 /// than 16 bytes are a remainder as a whole. If the remainder has an invalid character, its pairs
 /// before that one are decoded only if `PAIRS` is true.
 #[inline(always)]
-pub(crate) fn decode_in_steps<const N: usize, const PAIRS: bool, V: LaneOps<N>>(
+pub(crate) fn decode_in_steps<const N: usize, const PAIRS: bool, V: LaneOps<N>, S: LaneOps<16>>(
     input: &[u8],
     output: &mut [u8],
 ) -> bool {
+    if !PAIRS && output.len() <= 16 {
+        return small_input::decode_short::<S>(input, output);
+    }
     if output.len() < 16 {
-        return small_input::decode_small(input, output)
+        return small_input::decode_small::<S>(input, output)
             || (PAIRS && small_input::decode_pairs(input, output));
     }
     let mut at = 0;
@@ -98,6 +109,9 @@ pub(crate) fn decode_in_steps<const N: usize, const PAIRS: bool, V: LaneOps<N>>(
             row_copy,
             &mut output[at..end],
         ) {
+            if !PAIRS {
+                return false;
+            }
             break;
         }
         at = end;
@@ -111,11 +125,7 @@ pub(crate) fn decode_in_steps<const N: usize, const PAIRS: bool, V: LaneOps<N>>(
     }
     if output.len() - at >= 16 {
         let end = at + 16;
-        if !steps::decode_step::<16, Lanes16>(
-            &input[2 * at..2 * end],
-            false,
-            &mut output[at..end],
-        ) {
+        if !steps::decode_step::<16, S>(&input[2 * at..2 * end], false, &mut output[at..end]) {
             return false;
         }
         at = end;
@@ -124,16 +134,19 @@ pub(crate) fn decode_in_steps<const N: usize, const PAIRS: bool, V: LaneOps<N>>(
         return true;
     }
     let start = output.len() - 16;
-    steps::decode_step::<16, Lanes16>(&input[2 * start..], false, &mut output[start..])
+    steps::decode_step::<16, S>(&input[2 * start..], false, &mut output[start..])
         || (PAIRS && small_input::decode_pairs(&input[2 * at..], &mut output[at..]))
 }
 
 /// Decodes digits in steps, and then by the last 16 bytes, some of them again. A text of fewer than
 /// 16 bytes is left to `small_input::decode_small`.
 #[inline(always)]
-pub(crate) fn decode_digits_in_steps<const N: usize, V: LaneOps<N>>(input: &[u8], output: &mut [u8]) {
+pub(crate) fn decode_digits_in_steps<const N: usize, V: LaneOps<N>, S: LaneOps<16>>(
+    input: &[u8],
+    output: &mut [u8],
+) {
     if output.len() < 16 {
-        small_input::decode_small(input, output);
+        small_input::decode_small::<S>(input, output);
         return;
     }
     let mut at = 0;
@@ -145,15 +158,11 @@ pub(crate) fn decode_digits_in_steps<const N: usize, V: LaneOps<N>>(input: &[u8]
     }
     if output.len() - at >= 16 {
         let end = at + 16;
-        steps::decode_digits_step::<16, Lanes16>(
-            &input[2 * at..2 * end],
-            false,
-            &mut output[at..end],
-        );
+        steps::decode_digits_step::<16, S>(&input[2 * at..2 * end], false, &mut output[at..end]);
         at = end;
     }
     if at < output.len() {
         let start = output.len() - 16;
-        steps::decode_digits_step::<16, Lanes16>(&input[2 * start..], false, &mut output[start..]);
+        steps::decode_digits_step::<16, S>(&input[2 * start..], false, &mut output[start..]);
     }
 }

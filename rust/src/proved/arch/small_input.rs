@@ -8,28 +8,27 @@ use crate::proved::arch::plain::Plain;
 use crate::proved::arch::{Kernel, steps};
 use crate::std_shim::simd::prelude::*;
 
-/// Fills the output with two digits for each byte of less than two steps. `V` has the `N` lanes of a
-/// step.
+/// Fills the output with two digits for each of at most 15 bytes.
 #[inline(always)]
-pub(crate) fn fill<const N: usize, V: LaneOps<N>>(bytes: &[u8], upper: bool, output: &mut [u8]) {
-    if bytes.len() >= N {
-        fill_overlapping::<N, V>(bytes, upper, output);
-    } else if bytes.len() >= 16 {
-        fill_overlapping::<16, Lanes16>(bytes, upper, output);
-    } else if bytes.len() == 1 {
-        fill_ends::<1, 2>(bytes, upper, output);
+pub(crate) fn fill<S: LaneOps<16>>(bytes: &[u8], upper: bool, output: &mut [u8]) {
+    if bytes.len() == 1 {
+        fill_byte::<S>(bytes[0], upper, output);
     } else if bytes.len() >= 8 {
-        fill_ends::<8, 16>(bytes, upper, output);
+        fill_ends::<8, 16, S>(bytes, upper, output);
     } else if bytes.len() >= 4 {
-        fill_ends::<4, 8>(bytes, upper, output);
+        fill_ends::<4, 8, S>(bytes, upper, output);
     } else if bytes.len() >= 2 {
-        fill_ends::<2, 4>(bytes, upper, output);
+        fill_ends::<2, 4, S>(bytes, upper, output);
     }
 }
 
-/// As `fill`, for one to two steps: the first one, and the last one.
+/// As `fill`, for one to two steps: the first one, and the last one. `V` has the `N` lanes of a step.
 #[inline(always)]
-fn fill_overlapping<const N: usize, V: LaneOps<N>>(bytes: &[u8], upper: bool, output: &mut [u8]) {
+pub(crate) fn fill_overlapping<const N: usize, V: LaneOps<N>>(
+    bytes: &[u8],
+    upper: bool,
+    output: &mut [u8],
+) {
     steps::fill_step::<N, V>(&bytes[..N], upper, upper, &mut output[..2 * N]);
     if bytes.len() > N {
         let start = bytes.len() - N;
@@ -37,12 +36,25 @@ fn fill_overlapping<const N: usize, V: LaneOps<N>>(bytes: &[u8], upper: bool, ou
     }
 }
 
+/// As `fill`, for a single byte, which stands in the first lane.
+#[inline(always)]
+fn fill_byte<S: LaneOps<16>>(byte: u8, upper: bool, output: &mut [u8]) {
+    let mut text = [0; 32];
+    let lanes = [byte, 0, 0, 0, 0, 0, 0, 0, 0, 0, 0, 0, 0, 0, 0, 0];
+    S::write_digits(u8x16::from_array(lanes), upper, upper, &mut text);
+    u8x2::from_slice(&text).copy_to_slice(output);
+}
+
 /// As `fill`, for `H` to `2 * H` bytes. `D` is `2 * H`, the number of digits of `H` bytes.
 #[inline(always)]
-fn fill_ends<const H: usize, const D: usize>(bytes: &[u8], upper: bool, output: &mut [u8]) {
+fn fill_ends<const H: usize, const D: usize, S: LaneOps<16>>(
+    bytes: &[u8],
+    upper: bool,
+    output: &mut [u8],
+) {
     let mut text = [0; 32];
     let ends = steps::load_ends::<H, 16>(bytes, 0);
-    steps::fill_step::<16, Lanes16>(&ends, upper, upper, &mut text);
+    steps::fill_step::<16, S>(&ends, upper, upper, &mut text);
     // Two parts of the array, which LLVM keeps in registers.
     let (first, last) = (Simd::from_slice(&text), Simd::from_slice(&text[D..]));
     // Not by the output's length: so a function that is not inlined needs no register for it.
@@ -71,18 +83,24 @@ fn check_ends<const H: usize>(text: &[u8]) -> bool {
 
 /// Decodes a text to at most 16 bytes, by one vector operation on its first and last characters, and
 /// returns true. If some character is invalid, returns false, and the output is unchanged.
+#[inline(always)]
+pub(crate) fn decode_short<S: LaneOps<16>>(text: &[u8], output: &mut [u8]) -> bool {
+    if output.len() == 1 {
+        decode_ends::<1, 2, S>(text, output)
+    } else if output.len() >= 8 {
+        decode_ends::<8, 16, S>(text, output)
+    } else if output.len() >= 4 {
+        decode_ends::<4, 8, S>(text, output)
+    } else {
+        output.is_empty() || decode_ends::<2, 4, S>(text, output)
+    }
+}
+
+/// As `decode_short`.
 // Not inlined: with this body the public decoders would be too large to be inlined.
 #[inline(never)]
-pub(crate) fn decode_small(text: &[u8], output: &mut [u8]) -> bool {
-    if output.len() >= 8 {
-        decode_ends::<8, 16>(text, output)
-    } else if output.len() >= 4 {
-        decode_ends::<4, 8>(text, output)
-    } else if output.len() >= 2 {
-        decode_ends::<2, 4>(text, output)
-    } else {
-        output.is_empty() || decode_ends::<1, 2>(text, output)
-    }
+pub(crate) fn decode_small<S: LaneOps<16>>(text: &[u8], output: &mut [u8]) -> bool {
+    decode_short::<S>(text, output)
 }
 
 /// Decodes a text in which some character is invalid pair by pair, up to that one, and returns false.
@@ -96,11 +114,14 @@ pub(crate) fn decode_pairs(text: &[u8], output: &mut [u8]) -> bool {
 /// Decodes a text to `H` to `2 * H` bytes and returns true. If some byte is not a digit, returns
 /// false, and the output is unchanged. `D` is `2 * H`, the number of digits of `H` bytes.
 #[inline(always)]
-fn decode_ends<const H: usize, const D: usize>(text: &[u8], output: &mut [u8]) -> bool {
+fn decode_ends<const H: usize, const D: usize, S: LaneOps<16>>(
+    text: &[u8],
+    output: &mut [u8],
+) -> bool {
     let mut bytes = [0; 16];
     // Not by the text's length: so a function that is not inlined needs no register for it.
     let step = steps::load_ends::<D, 32>(&text[..2 * output.len()], b'0');
-    let are_digits = steps::decode_step::<16, Lanes16>(&step, false, &mut bytes);
+    let are_digits = steps::decode_step::<16, S>(&step, false, &mut bytes);
     if are_digits {
         let last = Simd::from_slice(&bytes[H..]);
         put::<H>(Simd::from_slice(&bytes), last, output.len() - H, output);

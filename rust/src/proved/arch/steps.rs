@@ -15,9 +15,7 @@ pub(crate) fn fill_step<const N: usize, V: LaneOps<N>>(
     row_copy: bool,
     output: &mut [u8],
 ) {
-    let digits = V::digits_of(Simd::from_slice(bytes), upper, row_copy);
-    digits[0].copy_to_slice(output);
-    digits[1].copy_to_slice(&mut output[N..]);
+    V::write_digits(Simd::from_slice(bytes), upper, row_copy, output);
 }
 
 /// As `fill_step`, for the bytes of two steps.
@@ -56,20 +54,20 @@ pub(crate) fn check_step<const N: usize, V: LaneOps<N>>(text: &[u8]) -> bool {
 #[inline(always)]
 pub(crate) fn check_pair<const N: usize, V: LaneOps<N>>(first: &[u8], second: &[u8]) -> bool {
     let marks = lanes::joint_marks::<N, V>(Simd::from_slice(first), Simd::from_slice(second));
-    lanes::are_unmarked(marks)
+    V::are_unmarked(marks)
 }
 
 /// As `check_step`, for the text of two steps, by one test.
 #[inline(always)]
 pub(crate) fn check_two_steps<const N: usize, V: LaneOps<N>>(text: &[u8]) -> bool {
-    lanes::are_unmarked(marks_of_two_steps::<N, V>(text))
+    V::are_unmarked(marks_of_two_steps::<N, V>(text))
 }
 
 /// As `check_step`, for the text of four steps, by one test.
 #[inline(always)]
 pub(crate) fn check_four_steps<const N: usize, V: LaneOps<N>>(text: &[u8]) -> bool {
     let (front, back) = text.split_at(2 * N);
-    lanes::are_unmarked(marks_of_two_steps::<N, V>(front) | marks_of_two_steps::<N, V>(back))
+    V::are_unmarked(marks_of_two_steps::<N, V>(front) | marks_of_two_steps::<N, V>(back))
 }
 
 /// Joined marks of the text of two steps. They are clear if and only if each byte is a digit.
