@@ -24,7 +24,7 @@ def read(data, code, constant=None, kept=None):
             return NO_CODE
         if constant and len(found.read(found.symbols[constant] - found.first, 16)) < 16:
             return NO_CONSTANT
-        return NO_CHOICE if not all(map(found.is_kept, found.places.get(kept, ()))) else "accepted"
+        return NO_CHOICE if kept and not found.is_kept(kept) else "accepted"
     except ValueError as error:
         return str(error)
 
@@ -94,11 +94,11 @@ def base_relocation(name, more=0, kind=10):
     return changed
 
 
-def imported(name, zeros=0, names=None):
+def imported(name, zeros=0, names=None, more=0):
     """The address of what is imported is written where a symbol lies, perhaps over zeros, or without names."""
 
     def changed(file):
-        place = place_of(file, name)
+        place = place_of(file, name) + more
         file.put("<I", file.at(1, 16), place)
         file.put(f"<{zeros}s", file.offset(place), b"")
         file.put("<I", file.at(1), *(file.numbers("<I", file.at(1)) if names is None else (names,)))
@@ -149,6 +149,9 @@ PES = [
     ("code from nowhere in the file", section(".text", 20, lambda old: (0,)), NO_CODE),
     ("code in a part of the file", section(".text", 20, lambda old: (old + 16,)), "begins in a page"),
     ("code in a page", section(".text", 12, lambda old: (old + 16,)), "begins in a page"),
+    ("a section that ends in a part of the file", section(".data", 16, lambda old: (16,)), "ends in a part"),
+    ("sections over the headers", lambda file: file.put("<I", file.head + 84, 4097), "share a page"),
+    ("fewer tables than are read", lambda file: file.put("<I", file.head + 132, 8), "a table for the loader"),
     ("sections in a page", lambda file: file.put("<I", file.head + 56, 512), "begins in a page"),
     ("parts of the file that are small", lambda file: file.put("<I", file.head + 60, 16), "begins in a page"),
     ("sections that meet", section(".rdata", 12, lambda old: (4096,)), "share a page"),
@@ -163,7 +166,10 @@ PES = [
     ("relocations without an end", lambda file: file.put("<I", file.at(5, 4), 0), "cut or damaged|without an end"),
     ("imports over constants", imported(CONSTANT_OF_FILL), NO_CONSTANT),
     ("a number for threads over a constant", threads, NO_CONSTANT),
-    ("a number for threads at an unknown place", base_relocation(None, 20), "at an unknown place"),
+    ("a number for threads at an unknown place", base_relocation(None, 20), "twice"),
+    ("a number for threads where an import says", imported(None, more=16), "twice"),
+    ("a number for threads where an import says without relocations",
+     lambda file: imported(None, more=16)(file) or file.put("<II", file.table(5), 0, 0), "twice"),
     ("no imports", lambda file: file.put("<II", file.table(1), 0, 0), "accepted"),
     ("imports over zeros", imported(CONSTANT_OF_FILL, zeros=16), NO_CONSTANT),
     ("imports without names", imported(CONSTANT_OF_FILL, names=0), NO_CONSTANT),
@@ -178,7 +184,7 @@ PES = [
     ("a name that is missing", lambda file: file.put("<I", file.at(0, 24), 9), "does not find const_hex_version"),
     ("a function of another file", exported(lambda file: file.numbers("<I", file.table(0))[0] + 40),
      "no plain function"),
-    ("another function by a name", exported(lambda file: 4096), "has the places"),
+    ("another function by a name", exported(lambda file: 4096), "or has two places"),
     ("a file of 32 bits", lambda file: file.put("<H", file.head + 24, 0x10B), "no DLL and no program of 64 bits"),
 ]
 
@@ -201,11 +207,18 @@ class MachO(File):
         return next(at for at in range(first, first + 16 * count, 16)
                     if self.startswith(name.encode() + b"\0", strings + self.numbers("<I", at)[0]))
 
+    def append(self, content):
+        """More of the last segment, with its place and size."""
+        place, start = len(self), self.segment("__LINKEDIT")
+        self += content
+        self.put("<Q", start + 32, len(self))
+        self.put("<Q", start + 48, len(self) - self.numbers("<Q", start + 40)[0])
+        return place, len(content)
+
     def add(self, command, content):
         """What stands after all is named by a command, in the place of LC_FUNCTION_STARTS."""
-        [at] = self.commands(0x26)
-        self.put("<IIII", at, command, 16, len(self), len(content))
-        self += content
+        [start] = self.commands(0x26)
+        self.put("<IIII", start, command, 16, *self.append(content))
 
 
 def linked_for_macos(processor):
@@ -236,19 +249,18 @@ def opcodes(number, *table, to="choice"):
         [place], [start] = file.numbers("<Q", file.symbol(to) + 8), file.numbers("<Q", file.segment(name) + 24)
         offset, index, [at] = place // 8 * 8 - start, names.index(name), file.commands(0x80000022)
         content = bytes([(0x70 if number else 0x20) | index, offset & 127 | 128, offset >> 7, *table])
-        file.put("<II", at + 8 + 8 * number, len(file), len(content))
-        file += content
+        file.put("<II", at + 8 + 8 * number, *file.append(content))
 
     return changed
 
 
-def chain(place, form=6, flag=0):
-    """A chain with one link, at a place of a segment."""
+def chain(place, form=6, flag=0, again=0):
+    """A chain with one link, at a place of a segment, perhaps twice."""
 
     def changed(file):
         [first], [value] = file.numbers("<Q", file.segment("__DATA") + 24), file.numbers("<Q", file.symbol(place) + 8)
         page = value // 4096 * 4096
-        starts = struct.pack("<IIIIIHHQIHH", 3, 0, 16, 0, 24, 4096, form, page, 0, 1, value % 4096 // 8 * 8 | flag)
+        starts = struct.pack("<IIIIIHHQIHH", 3, 0, 16, again, 24, 4096, form, page, 0, 1, value % 4096 // 8 * 8 | flag)
         [at] = file.commands(0x80000022)
         file.put("<IIIIII", at, 0x80000033, 16, *file.numbers("<II", at + 40), 0x2A, 32)
         file.add(0x80000034, struct.pack("<IIIIIII", 0, 28, 0, 0, 0, 0, 0) + starts)
@@ -268,19 +280,22 @@ def tree(change):
         change(edges)
         content, nodes = bytes([0, len(edges)]), sum(len(name) + 3 for name, _ in edges) + 2
         for name, node in edges:
-            content += name.encode() + bytes([0, nodes & 127 | 128, nodes >> 7])
-            nodes += len(node) + 1
-        content += b"".join(node + b"\0" for _, node in edges)
-        file.put("<II", at + 40, len(file), len(content))
-        file += content
+            content += name.encode() + (bytes([0, nodes & 127 | 128, nodes >> 7]) if node else b"\0\x80\0")
+            nodes += len(node) + bool(node)
+        content += b"".join(node + b"\0" for _, node in edges if node)
+        file.put("<II", at + 40, *file.append(content))
 
     return changed
 
 
-def to_nothing(edges):
+def to_nothing(node):
     """The first branch that fits has none of the rest, which another one has."""
-    edges.append(("ersion", edges[0][1]))
-    edges.insert(0, ("_const_hex_v", b"\0"))
+    return tree(lambda edges: edges.append(("ersion", edges[0][1])) or edges.insert(0, ("_const_hex_v", node)))
+
+
+def written_tables(file):
+    file.append(bytes(-len(file) % 4096))
+    segment("__LINKEDIT", 56, 3, 3)(file)
 
 
 def with_flags(flags):
@@ -310,7 +325,7 @@ MACH_OS = [
     ("a segment in a page of the file", "x86_64", segment("__DATA", 40, 0x4010, form="<Q"), "no whole pages"),
     ("a segment that ends in a page", "x86_64", segment("__DATA", 48, 16, form="<Q"), "no whole pages"),
     ("pages of 16 KB", "arm64", segment("__DATA", 24, 0x5000, form="<Q"), "no whole pages"),
-    ("code from elsewhere in the file", "x86_64", segment("__TEXT", 40, 4096, form="<Q"), "does not begin with"),
+    ("code from elsewhere in the file", "x86_64", segment("__TEXT", 40, 4096, form="<Q"), "start of the first"),
     ("relocations of the choice", "x86_64", opcodes(0, 0x51), NO_CHOICE),
     ("many relocations", "x86_64", opcodes(0, 0x60, 2), NO_CHOICE),
     ("relocations with a distance", "x86_64", opcodes(0, 0x70, 8), NO_CHOICE),
@@ -325,12 +340,15 @@ MACH_OS = [
     ("bindings with gaps", "x86_64", opcodes(1, 0xC0, 2, 8), NO_CHOICE),
     ("a binding of code", "x86_64", opcodes(1, 0x90, to="_const_hex_version"), "what must not be written"),
     ("a chain over the choice", "x86_64", chain("choice"), NO_CHOICE),
-    ("a chain over code", "x86_64", chain("_const_hex_version"), "what must not be written"),
+    ("a chain over code", "x86_64", chain("_const_hex_version"), "is written, or nowhere"),
     ("a chain of an unknown form", "x86_64", chain("choice", 1), "of a form that is not known"),
+    ("a link that is written before", "x86_64", chain("choice", again=16), "is written, or nowhere"),
+    ("tables for dyld that are written", "x86_64", written_tables, "is written, or nowhere"),
     ("a page without a chain", "x86_64", chain("choice", flag=0xFFFF), "accepted"),
     ("many chains in a page", "x86_64", chain("choice", flag=0x8000), "of a form that is not known"),
     ("a tree of names", "x86_64", tree(lambda edges: None), "accepted"),
-    ("a branch to nothing", "x86_64", tree(to_nothing), "does not find const_hex_version"),
+    ("a branch to nothing", "x86_64", to_nothing(b"\0"), "does not find const_hex_version"),
+    ("a branch to the first node", "x86_64", to_nothing(b""), "does not find const_hex_version"),
     ("a branch without a function", "x86_64", tree(lambda edges: edges.__setitem__(0, (edges[0][0], b"\0"))),
      "does not find const_hex_version"),
     ("a branch that is missing", "x86_64", tree(lambda edges: edges.pop(0)), "does not find const_hex_version"),
@@ -338,7 +356,7 @@ MACH_OS = [
     ("a function that others may replace", "x86_64", tree(with_flags(4)), "is no plain function"),
     ("a function that dyld picks", "x86_64", tree(with_flags(16)), "is no plain function"),
     ("another function in the tree", "x86_64", tree(lambda edges: edges.__setitem__(0, (edges[0][0], edges[1][1]))),
-     "has the places"),
+     "or has two places"),
     ("a name for a debugger", "x86_64", lambda file: file.put("<B", file.symbol("_const_hex_version") + 4, 0x24),
      "accepted"),
     ("a name from elsewhere", "x86_64", lambda file: file.put("<B", file.symbol("_const_hex_version") + 4, 1),
@@ -349,7 +367,7 @@ MACH_OS = [
      "a symbol of another kind"),
     ("another function by a name", "x86_64", lambda file: file.put(
         "<Q", file.symbol("_const_hex_version") + 8, *file.numbers("<Q", file.symbol("_const_hex_check") + 8)),
-     "has the places"),
+     "or has two places"),
     ("an object", "x86_64", lambda file: file.put("<I", 12, 1), "no dylib and no program"),
 ]
 # What a module has beside the package's functions.
@@ -381,7 +399,7 @@ class TestPe(unittest.TestCase):
         self.assertRegex(read(bytes(file), FILL, CONSTANT_OF_FILL), wanted)
 
     def test_another_function_by_the_name_of_a_kernel(self):
-        with self.assertRaisesRegex(ValueError, f"{FILL} has the places"):
+        with self.assertRaisesRegex(ValueError, f"{FILL} is a symbol of another kind, or has two"):
             library.whole(linked_for_windows(FILL)).symbols
 
 
@@ -393,8 +411,9 @@ class TestMachO(unittest.TestCase):
 
     def refuse(self, processor, change, wanted):
         file = MachO(self.right[processor])
+        choice = file.numbers("<Q", file.symbol("choice") + 8)[0] if processor == "x86_64" else None
         change(file)
-        self.assertRegex(read(bytes(file), "const_hex_version", kept="choice"), wanted)
+        self.assertRegex(read(bytes(file), "const_hex_version", kept=choice), wanted)
 
 
 class TestModules(unittest.TestCase):
