@@ -53,8 +53,11 @@ def read(data):
         if kind not in SEVERAL and (kind not in ONCE or kinds.count(kind) > 1):
             raise ValueError(f"a header of the kind {kind:#x}, twice or not known here")
     loaded, one = [header for header in headers if header.kind == LOAD], {header.kind: header for header in headers}
-    for header in loaded:
-        _load(image, data, header)
+    for _, flags, offset, address, _, in_file, in_memory, _ in loaded:
+        if flags not in KINDS or (address - offset) % image.page:
+            raise ValueError(f"a segment with the flags {flags}, or at another place of a page than in the file; pages of "
+                             f"{image.page} bytes are needed (-z max-page-size={image.page})")
+        image.add_segment(data, address, in_memory, offset, in_file, KINDS[flags])
     # Linux tells a program the place of the headers in the last segment that has any.
     if size != 56 or any(header.offset < end for header in loaded[1:]):
         raise ValueError("headers of another size, or in two segments")
@@ -70,13 +73,6 @@ def read(data):
     if DYNAMIC in one:
         _read_dynamic(image, one[DYNAMIC])
     return image
-
-
-def _load(image, data, header):
-    if header.flags not in KINDS or (header.address - header.offset) % image.page:
-        raise ValueError(f"a segment with the flags {header.flags}, or at another place of a page than in the file; "
-                         f"pages of {image.page} bytes are needed (-z max-page-size={image.page})")
-    image.add_segment(data, header.address, header.in_memory, header.offset, header.in_file, KINDS[header.flags])
 
 
 def _refuse_guards(image, data, header):

@@ -7,7 +7,6 @@ one is no danger; but a function that the loader finds by a name has to be the o
 is not read.
 """
 
-import functools
 import struct
 from collections import namedtuple
 
@@ -117,19 +116,6 @@ class Image:
 
     def name_at(self, address):
         """Where an address is, for messages."""
-        names = {place: name for name, place in self.symbols.items() if place <= address}
-        start = max(names, default=0)
-        return f"{names.get(start, 'the file')}+{address - start:#x}"
-
-
-def whole(read):
-    """A reader of bytes, which refuses those that end too early, or say that something lies where nothing is."""
-
-    @functools.wraps(read)
-    def wrapped(*given):
-        try:
-            return read(*given)
-        except (struct.error, LookupError, ArithmeticError, UnicodeDecodeError, MemoryError) as error:
-            raise ValueError(f"a file that is cut or damaged: {error!r}")
-
-    return wrapped
+        names = [(place, name) for name, place in self.symbols.items() if place <= address]
+        start, name = max(names, default=(0, "the file"))
+        return f"{name}+{address - start:#x}"

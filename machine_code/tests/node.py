@@ -161,7 +161,7 @@ class Node:
         state.memory, state.vectors, state.facts, state.may_leak = [*before], {}, [], False
         state.general = {"global 0": word(self.code.object.globals[0])}
         state.at = self.code.object.symbols[name]
-        state.begin(self.code.object.function_at(state.at), [], z3.BitVec("p_return", 64))
+        state.begin(self.code.object.code_at(state.at), [], z3.BitVec("p_return", 64))
         while after := [way for way in step(self.code, state) if way.is_right()]:
             state, = after
         require(state.general["global 0"].as_long() == SIZE, "another global")
