@@ -22,9 +22,8 @@ KINDS = {4: CONSTANTS, 5: CODE, 6: WRITTEN}  # of segments, by their flags
 # Tags of the loader's table. Each may stand there once, but for NEEDED; with what else is harmless: STRSZ, SYMENT,
 # INIT, FINI, SONAME, RPATH, SYMBOLIC, DEBUG, BIND_NOW, the arrays of INIT and FINI, RUNPATH; and from TLSDESC_PLT on
 # what a processor or a version of symbols has.
-NEEDED, HASH, STRINGS, SYMBOLS, RELA, RELA_SIZE, RELA_ENTRY = 1, 4, 5, 6, 7, 8, 9
-CALLS, CALLS_SIZE, CALLS_KIND, RELR, RELR_SIZE, RELR_ENTRY = 23, 2, 20, 36, 35, 37
-PLTGOT, TLSDESC_GOT, RELATIVE_COUNT = 3, 0x6FFFFEF7, 0x6FFFFFF9
+NEEDED, PLTGOT, HASH, STRINGS, SYMBOLS, RELA, RELA_SIZE, RELR, RELR_SIZE = 1, 3, 4, 5, 6, 7, 8, 36, 35
+CALLS, CALLS_SIZE, CALLS_KIND, TLSDESC_GOT, RELATIVE_COUNT = 23, 2, 20, 0x6FFFFEF7, 0x6FFFFFF9
 FLAGS, FLAGS_1, GNU_HASH, VERSIONS = 30, 0x6FFFFFFB, 0x6FFFFEF5, 0x6FFFFFF0
 KNOWN = {*range(1, 17), *range(20, 22), *range(23, 31), *range(32, 34), *range(35, 38), *range(0x6FFFFEF5, 0x6FFFFEF8),
          VERSIONS, RELATIVE_COUNT, *range(FLAGS_1, 0x70000000), 0x70000001, 0x70000003, 0x70000005}
@@ -126,8 +125,8 @@ def _read_relocations(image, dynamic):
         if (len(dynamic.keys() & tags) not in (0, len(tags)) or dynamic.get(tags[1], 0) % entry
                 or dynamic.get(CALLS_KIND, RELA) != RELA):
             raise ValueError("a table of relocations without a size, without a known form, or with a part of an entry")
-    entries = [image.numbers("<QII", dynamic[table] + place) for table, size in ((RELA, RELA_SIZE), (CALLS, CALLS_SIZE))
-               for place in range(0, dynamic.get(size, 0), 24)]
+    entries = [entry for table, size in ((RELA, RELA_SIZE), (CALLS, CALLS_SIZE)) for entry in struct.iter_unpack(
+        "<QII8x", image.content(dynamic.get(table, 0), dynamic.get(size, 0)))]
     # glibc takes so many for relative ones, whatever they are.
     count = dynamic.get(RELATIVE_COUNT, 0)
     if [kind for _, kind, _ in entries[:count]] != [RELATIVE[image.machine]] * count:
@@ -145,14 +144,12 @@ def _read_relocations(image, dynamic):
         if tag in dynamic:
             image.change(dynamic[tag] + start, size)
     place = 0
-    for word in range(0, dynamic.get(RELR_SIZE, 0), 8):
-        [entry] = image.numbers("<Q", dynamic[RELR] + word)
-        for bit in range(1, 64) if entry & 1 else ():
-            if entry >> bit & 1:
-                image.change(place + 8 * (bit - 1), 8)
-        if not entry & 1:
-            image.change(entry, 8)
-        place = place + 8 * 63 if entry & 1 else entry + 8
+    for [entry] in struct.iter_unpack("<Q", image.content(dynamic.get(RELR, 0), dynamic.get(RELR_SIZE, 0))):
+        place, bits, count = (place, entry >> 1, 63) if entry & 1 else (entry, 1, 1)
+        for number in range(count):
+            if bits >> number & 1:
+                image.change(place + 8 * number, 8)
+        place += 8 * count
 
 
 def _read_exported(image, dynamic, name):

@@ -94,9 +94,13 @@ class Image:
             raise ValueError(f"what the loader reads at {address:#x} is written, or nowhere")
         return struct.unpack(form, content)
 
+    def content(self, address, size, kinds=FIXED):
+        """So many bytes that the loader reads at an address."""
+        return self.numbers(f"{size}s", address, kinds)[0]
+
     def name_of(self, address):
         """The name that the loader reads at an address, up to a zero. Without one, it asks for more than is there."""
-        return self.numbers(f"{self.bytes_at(address, MOST).find(0) % MOST}s", address)[0].decode("latin-1")
+        return self.content(address, self.bytes_at(address, MOST).find(0) % MOST).decode("latin-1")
 
     def read(self, offset, count):
         """The constants at an offset, which may be fewer."""

@@ -10,7 +10,7 @@ PROGRAM, LIBRARY = 2, 6
 # Commands that are read, each once but for segments; and those that are harmless: DYSYMTAB, LOAD_DYLIB, ID_DYLIB,
 # LOAD_DYLINKER, UUID, CODE_SIGNATURE, SPLIT_INFO, VERSION_MIN, FUNCTION_STARTS, DATA_IN_CODE, SOURCE_VERSION,
 # BUILD_VERSION, LOAD_WEAK_DYLIB, RPATH, MAIN.
-SEGMENT, SYMBOLS, INFO, TRIE, FIXUPS = 0x19, 2, (0x22, 0x80000022), 0x80000033, 0x80000034
+SEGMENT, SYMBOLS, INFO, TRIE, FIXUPS = 0x19, 2, 0x80000022, 0x80000033, 0x80000034
 HARMLESS = (0xB, 0xC, 0xD, 0xE, 0x1B, 0x1D, 0x1E, 0x24, 0x26, 0x29, 0x2A, 0x32, 0x80000018, 0x8000001C, 0x80000028)
 # What a segment is, by its protection and its flags. PAGEZERO is nothing.
 CLOSED = "closed after relocations"
@@ -46,19 +46,16 @@ def read(data):
             # dyld finds its tables in the last segment of this name.
             if data.startswith(b"__LINKEDIT\0", place + 8):
                 tables.append(starts[-1] - struct.unpack_from("<Q", data, place + 40)[0])
-        elif command in commands or command not in (SYMBOLS, *INFO, TRIE, FIXUPS, *HARMLESS):
+        elif command in commands or command not in (SYMBOLS, INFO, TRIE, FIXUPS, *HARMLESS):
             raise ValueError(f"the command {command:#x}, twice or not known here")
         elif command not in HARMLESS:
             commands[command] = struct.unpack_from(f"<{size // 4 - 2}I", data, place + 8)
         place += size
     # With another set, dyld reads DYSYMTAB, or one of two trees of names.
-    if commands.keys() - {SYMBOLS} not in ({INFO[0]}, {INFO[1]}, {TRIE, FIXUPS}):
+    if commands.keys() - {SYMBOLS} not in ({INFO}, {TRIE, FIXUPS}):
         raise ValueError("tables for dyld that are neither INFO, nor a tree of names and chains")
-
-    def table(start, size):
-        return image.numbers(f"{size}s", tables[-1] + start)[0]
-
-    info = next((commands[tag] for tag in INFO if tag in commands), (0,) * 10)
+    table = lambda start, size: image.content(tables[-1] + start, size)
+    info = commands.get(INFO, (0,) * 10)
     for number, opcodes in enumerate((REBASES, BINDS, BINDS, BINDS)):
         _read_opcodes(image, starts, table(*info[2 * number :][:2]), opcodes)
     if FIXUPS in commands:

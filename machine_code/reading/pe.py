@@ -13,8 +13,8 @@ EXPORTS, IMPORTS, RELOCATIONS, THREADS = READ = 0, 1, 5, 9
 TABLES, HARMLESS = 16, (2, 3, 4, 6, 12)
 # What a section is, by its flags without those that mean nothing here: what it has, and how it was aligned. In others
 # nothing is known.
-KINDS, NO_MEANING, UNINITIALIZED = {0x60000000: CODE, 0x40000000: CONSTANTS, 0xC0000000: WRITTEN}, 0x00F00060, 0x80
-OTHER = "other"
+KINDS = {0x60000000: CODE, 0x40000000: CONSTANTS, 0xC0000000: WRITTEN, 0xC0000080: WRITTEN}
+NO_MEANING, OTHER = 0x00F00060, "other"
 ALL = CODE, CONSTANTS, WRITTEN, OTHER
 PADDING, ADDRESS = 0, 10  # kinds of relocations
 EXTERNAL, STATIC = 2, 3  # kinds of symbols
@@ -32,12 +32,12 @@ def read(data):
     image.add_segment(data, 0, headers, 0, headers, OTHER)
     sections = [struct.unpack_from("<8sIIIIIIHHI", data, place) for place in range(table, table + 40 * count, 40)]
     for _, in_memory, address, size, offset, *_, flags in sections:
-        kind = KINDS.get(flags & ~(NO_MEANING | (UNINITIALIZED if flags & 0x80000000 else 0)), OTHER)
         # What ends in a part of the file is read with all of that part.
         if address % PAGE or offset % IN_FILE or size % IN_FILE or alignment < PAGE or in_file < IN_FILE:
             raise ValueError("a section that begins in a page, or begins or ends in a part of the file")
         # An offset of 0 means that nothing is read from the file.
-        image.add_segment(data, address, in_memory, offset, offset and min(size, in_memory), kind)
+        image.add_segment(data, address, in_memory, offset, offset and min(size, in_memory),
+                          KINDS.get(flags & ~NO_MEANING, OTHER))
     tables = [struct.unpack_from("<II", data, start + 136 + 8 * number) for number in range(TABLES)]
     if tables_count != TABLES or any(where and number not in (*READ, *HARMLESS)
                                      for number, (where, _) in enumerate(tables)):
@@ -74,7 +74,7 @@ def _read_relocations(image, address, size):
         block += length
     for place in places:
         _change(image, place, 8)
-    image.numbers(f"<{size}B", address, ALL)
+    image.content(address, size, ALL)
     return places
 
 
