@@ -54,8 +54,8 @@ def read(data):
     loaded, one = [header for header in headers if header.kind == LOAD], {header.kind: header for header in headers}
     for _, flags, offset, address, _, in_file, in_memory, _ in loaded:
         if flags not in KINDS or (address - offset) % image.page:
-            raise ValueError(f"a segment with the flags {flags}, or at another place of a page than in the file; pages of "
-                             f"{image.page} bytes are needed (-z max-page-size={image.page})")
+            raise ValueError(f"a segment with the flags {flags}, or at another place of a page than in the file; "
+                             f"pages of {image.page} bytes are needed (-z max-page-size={image.page})")
         image.add_segment(data, address, in_memory, offset, in_file, KINDS[flags])
     # Linux tells a program the place of the headers in the last segment that has any.
     if size != 56 or any(header.offset < end for header in loaded[1:]):
@@ -67,7 +67,12 @@ def read(data):
     if PROPERTIES in one:
         _refuse_guards(image, data, one[PROPERTIES])
     if CLOSED in one:
-        _close(image, one[CLOSED].address, one[CLOSED].in_memory)
+        # The loader makes whole pages of a segment read-only.
+        _, _, _, start, _, _, size, _ = one[CLOSED]
+        segment = image.segment_at(start)
+        if not segment or segment.kind != WRITTEN or up(segment.address + segment.size, image.page) < start + size:
+            raise ValueError("what is closed after relocations is no part of a segment that is written")
+        image.closed.append(range(start // image.page * image.page, start + size))
     _read_symbols(image, data, sections, *struct.unpack_from("<H", data, 60))
     if DYNAMIC in one:
         _read_dynamic(image, one[DYNAMIC])
@@ -76,23 +81,15 @@ def read(data):
 
 def _refuse_guards(image, data, header):
     """Linux reads this note in the file, and glibc in memory, where it may be one of several."""
-    note, place = image.bytes_at(header.address, header.in_memory), 16
-    if note != data[header.offset :][: header.in_file] or struct.unpack("<III4s", note[:16]) != (
-            4, len(note) - 16, 5, b"GNU\0"):
+    note, place = image.content(header.address, header.in_memory), 16
+    is_only_one = note[:place] == struct.pack("<III4s", 4, len(note) - place, 5, b"GNU")
+    if note != data[header.offset :][: header.in_file] or not is_only_one:
         raise ValueError("a note of properties that is another one in memory than in the file, or is not the only one")
     while place < len(note):
         kind, size = struct.unpack_from("<II", note, place)
         if kind == GUARDS[image.machine] and note[place + 8] & 1:
             raise ValueError("each function needs a mark (BTI or IBT), which these do not have")
         place += 8 + up(size, 8)
-
-
-def _close(image, address, size):
-    """The loader makes whole pages of a segment read-only."""
-    segment = image.segment_at(address)
-    if not segment or segment.kind != WRITTEN or up(segment.address + segment.size, image.page) < address + size:
-        raise ValueError("what is closed after relocations is no part of a segment that is written")
-    image.closed.append(range(address // image.page * image.page, address + size))
 
 
 def _read_dynamic(image, header):
@@ -120,11 +117,10 @@ def _read_dynamic(image, header):
 
 def _read_relocations(image, dynamic):
     """What the loader writes: by two tables of places and kinds, and by one of bits for the words after a place."""
-    # A loader may read a table as soon as it has one of its tags, and reads whole entries.
-    for *tags, entry in (RELA, RELA_SIZE, 24), (CALLS, CALLS_SIZE, CALLS_KIND, 24), (RELR, RELR_SIZE, 8):
-        if (len(dynamic.keys() & tags) not in (0, len(tags)) or dynamic.get(tags[1], 0) % entry
-                or dynamic.get(CALLS_KIND, RELA) != RELA):
-            raise ValueError("a table of relocations without a size, without a known form, or with a part of an entry")
+    # A loader may read a table as soon as it has one of its tags.
+    for tags in {RELA, RELA_SIZE}, {CALLS, CALLS_SIZE, CALLS_KIND}, {RELR, RELR_SIZE}:
+        if dynamic.keys() & tags not in (set(), tags) or dynamic.get(CALLS_KIND, RELA) != RELA:
+            raise ValueError("a table of relocations without a size, or without a known form")
     entries = [entry for table, size in ((RELA, RELA_SIZE), (CALLS, CALLS_SIZE)) for entry in struct.iter_unpack(
         "<QII8x", image.content(dynamic.get(table, 0), dynamic.get(size, 0)))]
     # glibc takes so many for relative ones, whatever they are.

@@ -135,6 +135,11 @@ class Elf(File):
         return self.numbers("<Q", self.symbols(name)[0] + 8)[0]
 
 
+def put(form, place, *values):
+    """A change of what lies at a place of a file, or where a function says."""
+    return lambda file: file.put(form, place(file) if callable(place) else place, *values)
+
+
 def add_tests(case, check, rows):
     """Each row of a table becomes a test of a class: what it shows, by which the test has its name, and what `check`
     takes, perhaps a build first."""
