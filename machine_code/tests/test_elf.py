@@ -224,8 +224,8 @@ CHANGED = [
 ]
 # The same in a library by other options: with both tables of hashes, with relocations, with those that are packed, with
 # a call that is bound later, and with functions that need marks.
-DATA = (".bss; .space 64; .data; .balign 8; .hidden more; .globl more; more: .quad other, other; .space 600; .quad other; "
-        ".text; other: ret")
+DATA = (".bss; .space 64; .data; .balign 8; .hidden more; .globl more; more: .quad other, other; .space 600; "
+        ".quad other; .text; other: ret")
 MORE = {"hashes": shared("-Wl,--hash-style=both"), "sysv": shared("-Wl,--hash-style=sysv"),
         "relocations": shared(more=DATA), "packed": shared("-Wl,-z,pack-relative-relocs", more=DATA),
         "later": shared("-Wl,-z,lazy", more="call other@PLT"), "marks": shared("-Wl,-z,ibt")}
