@@ -79,7 +79,10 @@ def _add_segment(image, data, command):
     kind = KINDS.get((protection, flags), "unknown")
     if kind == "unknown" or address % image.page or offset % image.page or kind == WRITTEN and in_file % image.page:
         raise ValueError(f"a segment that is {protection}, {flags}, or is no whole pages in the file or in memory")
-    if protection:
+    # dyld counts addresses from the segment of this name.
+    if kind and data.startswith(b"__TEXT\0", command + 8) == bool(image.segments):
+        raise ValueError("the first segment, and no other one, has to be __TEXT")
+    if kind:
         image.add_segment(data, address, in_memory, offset, in_file, kind)
     for section in range(command + 72, command + 72 + 80 * count, 80):
         if data[section + 64] not in HARMLESS_SECTIONS or data.startswith(REPLACING, section):

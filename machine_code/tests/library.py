@@ -136,8 +136,8 @@ class Elf(File):
 
 
 def put(form, place, *values):
-    """A change of what lies at a place of a file, or where a function says."""
-    return lambda file: file.put(form, place(file) if callable(place) else place, *values)
+    """A change of what lies at a place of a file. Functions of the file may say where, and to what."""
+    return lambda file: file.put(form, *(value(file) if callable(value) else value for value in (place, *values)))
 
 
 def add_tests(case, check, rows):

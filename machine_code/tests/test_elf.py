@@ -5,7 +5,7 @@ import functools
 import unittest
 
 from execution import proofs
-from reading import library
+from reading import elf, library
 from solver.questions import Refused
 from tests.library import AARCH64, Elf, add_tests, needs_aarch64, put, shared
 
@@ -21,19 +21,16 @@ def said(data, symbol):
         return str(error)
 
 
-# Changes of a file: those of segments take a header's fields, which are flags, offset, address, .., sizes, alignment.
-def segment(wanted, change, kind=1, start=0):
-    """A change of the first segment of a kind with some flags, from an address on."""
+def segment(wanted, kind=1, start=0, **changes):
+    """A change of fields of the first segment of a kind with some flags, from an address on."""
 
     def changed(file):
         place, _, *fields = next(row for row in file.segments if row[1:3] == (kind, wanted) and row[4] >= start)
-        file.put("<IIQQQQQQ", place, kind, *change(*fields))
+        fields = elf.Header(kind, *fields)
+        new = {name: value(getattr(fields, name)) if callable(value) else value for name, value in changes.items()}
+        file.put("<IIQQQQQQ", place, *fields._replace(**new))
 
     return changed
-
-
-def flags(new):
-    return lambda old, *rest: (new, *rest)
 
 
 def entry(form, offset, change, name="const_hex_decode", kinds=(2, 11)):
@@ -71,12 +68,8 @@ def relocation(kind, place, counted=0):
 
 def packed(distance, *bits):
     """The first packed relocations are of the word with the choice, or of others at a distance and these."""
-
-    def changed(file):
-        file.put(f"<{len(bits) + 1}Q", file.table(36), file.value("choice") // 8 * 8 + distance, *bits)
-        file.put("<Q", file.tag(35), 8 * len(bits) + 8)
-
-    return changed
+    first = lambda file: file.value("choice") // 8 * 8 + distance
+    return put(f"<{len(bits) + 1}Q", lambda file: file.table(36), first, *bits)
 
 
 def copy_over_the_choice(file):
@@ -88,28 +81,11 @@ def other_header(kind):
     return put("<I", lambda file: file.header(0x6474E551)[0], kind)
 
 
-def headers_elsewhere(file):
-    start, count = file.numbers("<Q", 32)[0], 56 * len(file.segments)
-    file.put("<Q", 32, len(file))
-    file += file[start : start + count]
-
-
 def first_from_elsewhere(file):
     """Linux does not find the headers in memory, or others than those that PT_PHDR names."""
     file += bytes(-len(file) % PAGE)
-    segment(4, lambda f, o, *rest: (f, len(file), *rest))(file)
+    segment(4, offset=len(file))(file)
     file += file[:PAGE]
-
-
-def closed(start, size):
-    """What the loader closes begins at a place, if it is another one, or where a symbol lies, and has a size."""
-
-    def changed(file):
-        place, _, _, offset, address, *_ = file.header(0x6474E552)
-        first = file.value(start) if type(start) is str else start or address
-        file.put("<IIQQQQQ", place, 0x6474E552, 4, offset, first, first, size, size)
-
-    return changed
 
 
 def hashes(form, offset, change=lambda old, number: old):
@@ -145,15 +121,6 @@ def other_call(file):
     file.put("<i", place, file.numbers("<i", place)[0] + new - old)
 
 
-def without_relocation(file):
-    """What a linker makes that leaves out a relocation: a distance of 0 to a constant."""
-    [constants] = [row for row in file.segments if row[1:3] == (1, 4) and row[4]]
-    start = file.value("const_hex_kernel_fill_v3")
-    place = next(place for place in range(start, start + 400)
-                 if 0 <= place + 4 + file.numbers("<i", file.offset(place))[0] - constants[4] < constants[6])
-    file.put("<i", file.offset(place), 0)
-
-
 WRITTEN, ENDS, PLAIN = "a place that has no constant, or may be written", "it leaves the code", "is no plain function"
 VERSION, CHECK, FILL = "const_hex_version", "const_hex_kernel_check", "const_hex_kernel_fill_v3"
 CLOSED, KNOWN, PLACES = "is no part of a segment", "twice or not known here", "another kind, or has two places"
@@ -161,32 +128,30 @@ START, TWO, SAID = "start of the first segment", "another size, or in two segmen
 OTHERS, PARTS, CONSTANT = "other flags than its segment", "a table of relocations without", "what must not be written"
 NOTE, NOWHERE, NO_FORM, FIND = "a note of properties", "is written, or nowhere", "no known form", "does not find"
 OBJECT, TABLES, OWN, NOTHING = "no shared library and", "in each of its tables", "its own table", "where nothing is"
-PAGE = 1 << 12
+PAGE, RELRO, EARLIER = 1 << 12, 0x6474E552, lambda old: old - PAGE
 # What is forged in the bytes of a right library, how, of which function, and what the tool says.
 CHANGED = [
     ("nothing", lambda file: None, "const_hex_decode", "accepted"),
-    ("constants that can be written", segment(4, flags(6), start=PAGE), FILL, WRITTEN),
-    ("constants that cannot be read", segment(4, flags(0), start=PAGE), "", "with the flags 0"),
-    ("code that can be written", segment(5, flags(7)), "", "with the flags 7"),
-    ("code that cannot run", segment(5, flags(4)), VERSION, ENDS),
-    ("segments that meet", segment(6, lambda f, o, a, *rest: (f, o - PAGE, a - PAGE, *rest)), "", "share a page"),
-    ("code at another place of a page", segment(5, lambda f, o, *rest: (f, o + 16, *rest)), "", "another place of a"),
-    ("constants that end early", segment(4, lambda *old: (*old[:4], 1, *old[5:]), start=PAGE), FILL, WRITTEN),
-    ("a segment larger than in memory", segment(5, lambda *old: (*old[:5], 1, old[6])), "", "larger in the file"),
+    ("constants that can be written", segment(4, start=PAGE, flags=6), FILL, WRITTEN),
+    ("code that can be written", segment(5, flags=7), "", "with the flags 7"),
+    ("code that cannot run", segment(5, flags=4), VERSION, ENDS),
+    ("segments that meet", segment(6, offset=EARLIER, address=EARLIER), "", "share a page"),
+    ("code at another place of a page", segment(5, offset=lambda old: old + 16), "", "another place of a"),
+    ("constants that end early", segment(4, start=PAGE, in_file=1), FILL, WRITTEN),
+    ("a segment larger than in memory", segment(5, in_memory=1), "", "larger in the file"),
     ("a segment with random bytes", other_header(0x65A3DBE6), "", "a header of the kind 0x65a3dbe6"),
     ("a second table for the loader", other_header(2), "", "a header of the kind 0x2, twice"),
-    ("other headers in memory", headers_elsewhere, "", START),
+    ("headers that are not in memory", segment(4, in_file=64), "", START),
     ("headers in memory from elsewhere in the file", first_from_elsewhere, "", START),
     ("headers of another size", put("<H", 54, 64), "", TWO),
-    ("headers in two segments", segment(4, lambda f, o, *rest: (f, 0, *rest), start=PAGE), "", TWO),
+    ("headers in two segments", segment(4, start=PAGE, offset=0), "", TWO),
     ("headers that are said to lie elsewhere", other_header(6), "", SAID),
     ("a program that does not say where its headers lie", other_header(3), "", SAID),
-    ("a choice that is closed", closed(0, 4096), CHECK, WRITTEN),
-    ("code that is closed", closed(VERSION, 16), "", CLOSED),
-    ("what is closed is nowhere", closed(1 << 30, 16), "", CLOSED),
-    ("what is closed has no end", closed(0, 1 << 20), "", CLOSED),
+    ("a choice that is closed", segment(4, RELRO, in_memory=4096), CHECK, WRITTEN),
+    ("code that is closed", segment(4, RELRO, address=PAGE), "", CLOSED),
+    ("what is closed is nowhere", segment(4, RELRO, address=1 << 30), "", CLOSED),
+    ("what is closed has no end", segment(4, RELRO, in_memory=1 << 20), "", CLOSED),
     ("a program", put("<H", 16, 2), VERSION, "accepted"),
-    ("calls with relocations of another form", tag(10, 20, -8), "", PARTS),
     ("a protected function", of_the_loader("<B", 5, 3), VERSION, "accepted"),
     ("a file of 32 bits", put("<B", 4, 1), "", OBJECT),
     ("another processor", put("<H", 18, 40), "", OBJECT),
@@ -194,10 +159,9 @@ CHANGED = [
     ("an auditor", tag(10, 0x6FFFFEFC, -8), "", KNOWN),
     ("code that the loader changes", tag(30, 4), "", KNOWN),
     ("a library before all others", tag(0x6FFFFFFB, 0x400), "", KNOWN),
-    ("a table for the loader without an end",
-     segment(6, lambda f, o, a, b, size, _, e: (f, o, a, b, size, 96, e), kind=2), "", "the loader's table has no end"),
-    ("a table for the loader in constants", segment(6, lambda f, o, a, *rest: (f, 0, 0, *rest), kind=2), "", OTHERS),
-    ("a table for the loader that is said to be constant", segment(6, flags(4), kind=2), "", OTHERS),
+    ("a table for the loader without an end", segment(6, 2, in_memory=96), "", "the loader's table has no end"),
+    ("a table for the loader in constants", segment(6, 2, address=0), "", OTHERS),
+    ("a table for the loader that is said to be constant", segment(6, 2, flags=4), "", OTHERS),
     ("a table of names that is nowhere", tag(6, 1 << 20), "", NOWHERE),
     ("a function without a section", of_the_loader("<H", 6, 0), "", PLAIN),
     ("a function at a number", of_the_loader("<H", 6, 0xFFF1), "", PLAIN),
@@ -217,7 +181,6 @@ CHANGED = [
     ("an empty bucket", hashes("<I", None, 0), "", FIND),
     ("a filter without a name", hashes("<Q", 16, lambda old, number: old & ~(1 << number % 64)), "", FIND),
     ("a call of another function", other_call, "const_hex_check_raw", "lies? in|an address|a register|argument|input"),
-    ("a relocation that is left out", without_relocation, FILL, "a wrong character|a place|an address"),
     ("a file that is cut", lambda file: file.__delitem__(slice(5000, None)), "", "or not in it"),
     ("an object", put("<H", 16, 1), "", OBJECT),
     ("nothing at all", lambda file: file.clear(), "", "no linked file"),
@@ -257,11 +220,11 @@ CHANGED_MORE = [
      WRITTEN),
     ("what is bound later is written over names", "later", tag(10, 0x6FFFFEF7, -8), "", CONSTANT),
     ("what is bound later is written over the table", "later", tag(3, lambda file: file.header(2)[4]), "", OWN),
-    ("other properties in the file", "marks", segment(4, lambda *old: (*old[:4], 0, *old[5:]), 0x6474E553), "", NOTE),
+    ("other properties in the file", "marks", segment(4, 0x6474E553, in_file=0), "", NOTE),
     ("two notes of properties", "marks", put("<I", lambda file: file.header(0x6474E553)[3] + 4, 0), "", NOTE),
     ("packed relocations", "packed", lambda file: None, CHECK, "accepted"),
-    ("a packed relocation of the choice", "packed", packed(0), CHECK, WRITTEN),
-    ("a packed bit for the choice", "packed", packed(-8, 3), CHECK, WRITTEN),
+    ("a packed relocation of the choice", "packed", packed(0, 1, 1), CHECK, WRITTEN),
+    ("a packed bit for the choice", "packed", packed(-8, 3, 1), CHECK, WRITTEN),
     ("a packed bit for the choice after 63 words", "packed", packed(-512, 1, 3), CHECK, WRITTEN),
 ]
 C, DISPATCH, FALSE = "functions_x86_64", "dispatch", "mov $1, %eax; ret"
@@ -296,14 +259,13 @@ LINKED = [
     ("no names", "", ["-Wl,-s"], [], "", "", "it is stripped"),
     ("calls that need marks", "", ["-Wl,-z,ibt"], [], "", "", "needs a mark"),
 ]
-# On AArch64, where a system may have pages of 64 KB: segments that share one.
-PAGES = """PHDRS { h PT_LOAD FILEHDR PHDRS FLAGS(4); t PT_LOAD FLAGS(5); d PT_LOAD FLAGS(6); dyn PT_DYNAMIC; }
-SECTIONS { . = SIZEOF_HEADERS; .gnu.hash : { *(.gnu.hash) } :h .dynsym : { *(.dynsym) } :h .dynstr : { *(.dynstr) } :h
- . = ALIGN(%d); .text : { *(.text .text.* .rodata .rodata.*) } :t
- . = ALIGN(65536) + 65536; .dynamic : { *(.dynamic) } :d :dyn .got : { *(.got*) } :d
- /DISCARD/ : { *(.comment) *(.note*) *(.eh_frame) } }"""
-OF_AARCH64 = [("pages", "in_aarch64", 65536, "accepted"),
-              ("a page of two segments", "in_aarch64", 4096, "share a page")]
+# On AArch64, where a system may have pages of 64 KB.
+OF_AARCH64 = [
+    ("code that is not aligned", "in_aarch64", value(2, VERSION), VERSION, ENDS),
+    ("a relative relocation", "in_aarch64", relocation(1027, "more", 1), "", "accepted"),
+    ("a relocation that counts as relative", "in_aarch64", relocation(0, "more", 1), "", "fewer than 1 relative"),
+    ("a page of two segments", "in_aarch64", segment(6, address=lambda old: old - 65536), "", "share a page of 65536"),
+]
 
 
 class TestElf(unittest.TestCase):
@@ -322,22 +284,10 @@ class TestElf(unittest.TestCase):
     def refuse_linked(self, symbol, options, changes, more, script, wanted):
         self.assertRegex(said(shared(*options, changes=changes, more=more, script=script), symbol), wanted)
 
-    def refuse_pages(self, build, page, wanted):
-        self.assertRegex(said(shared("-Wl,-T,/dev/stdin", "-Wl,-z,max-page-size=65536", compiler=AARCH64,
-                                     script=PAGES % page), VERSION), wanted)
-
-    @needs_aarch64
-    def test_code_that_is_not_aligned_aarch64(self):
-        file = Elf(shared(compiler=AARCH64))
-        value(2, VERSION)(file)
-        self.assertRegex(said(bytes(file), VERSION), ENDS)
-
-    @needs_aarch64
-    def test_a_relocation_that_counts_as_relative_aarch64(self):
-        for kind, wanted in (1027, "accepted"), (0, "fewer than 1 relative"):
-            file = Elf(shared(more=DATA, compiler=AARCH64))
-            relocation(kind, "more", 1)(file)
-            self.assertRegex(said(bytes(file), ""), wanted)
+    def refuse_in_aarch64(self, build, change, symbol, wanted):
+        file = Elf(shared(more=DATA, compiler=AARCH64))
+        change(file)
+        self.assertRegex(said(bytes(file), symbol), wanted)
 
     @needs_aarch64
     def test_calls_that_need_marks_aarch64(self):
@@ -347,4 +297,4 @@ class TestElf(unittest.TestCase):
 add_tests(TestElf, TestElf.refuse, CHANGED)
 add_tests(TestElf, TestElf.refuse_more, CHANGED_MORE)
 add_tests(TestElf, TestElf.refuse_linked, LINKED)
-add_tests(TestElf, TestElf.refuse_pages, OF_AARCH64)
+add_tests(TestElf, TestElf.refuse_in_aarch64, OF_AARCH64)

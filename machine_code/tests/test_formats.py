@@ -58,10 +58,6 @@ class Pe(File):
         start = self.index(b"\0" + name.encode() + b"\0", first + 18 * count) + 1 - first - 18 * count
         return next(place for place in range(first, first + 18 * count, 18) if self.numbers("<II", place) == (0, start))
 
-    def content(self, number, more=0):
-        """Where a table of the loader lies in the file."""
-        return self.offset(self.numbers("<I", self.table(number))[0]) + more
-
 
 def linked_for_windows(kernel=""):
     """A DLL with the Rust crate's kernels, and functions that have the names of those for C, of which the first may
@@ -80,81 +76,60 @@ def head(form, offset, *values):
     return put(form, lambda file: file.head + offset, *values)
 
 
-def table(number, *values):
-    """Another place and size of a table for the loader."""
-    return put("<II", lambda file: file.table(number), *values)
-
-
 def section(name, offset, change):
     """A change of a field of a section."""
-
-    def changed(file):
-        place = file.section(name) + offset
-        file.put("<I", place, change(*file.numbers("<I", place)))
-
-    return changed
+    place = lambda file: file.section(name) + offset
+    return put("<I", place, lambda file: change(*file.numbers("<I", place(file))))
 
 
-def with_flag(name, flag):
-    return section(name, 36, lambda flags: flags | flag)
+def content(number, more=0):
+    """Where a table of the loader lies in the file."""
+    return lambda file: file.offset(file.numbers("<I", file.table(number))[0]) + more
+
+
+def number_at(place):
+    return lambda file: file.numbers("<I", place(file))[0]
+
+
+def names(more=0):
+    """Where the file has the addresses of the names of exported functions."""
+    return lambda file: file.offset(number_at(content(0, 32))(file)) + more
 
 
 def place_of(file, name):
-    """Where a section begins, a symbol lies, or without a name the table for threads."""
-    if not name:
-        return file.numbers("<I", file.table(9))[0]
+    """Where a section begins, a symbol lies, or what a function says."""
+    if callable(name):
+        return name(file)
     return file.numbers("<I", file.section(name) + 12)[0] if name[0] == "." else library.read(bytes(file)).symbols[name]
 
 
 def base_relocation(name, more=0, kind=10):
-    """The first relocation writes to a section, or where a symbol lies."""
+    """The first relocation writes to a place."""
+    place = lambda file: place_of(file, name) + more
+    return lambda file: (put("<H", content(5, 8), lambda file: kind << 12 | place(file) & 4095)(file),
+                         put("<I", content(5), lambda file: place(file) & ~4095)(file))
+
+
+def imported(name, zeros=0, names=None):
+    """The address of what is imported is written to a place, perhaps over zeros, or without names."""
 
     def changed(file):
-        place = place_of(file, name) + (more(file) if callable(more) else more)
-        file.put("<I", file.content(5), place & ~4095)
-        file.put("<H", file.content(5, 8), kind << 12 | place & 4095)
-
-    return changed
-
-
-def imported(name, zeros=0, names=None, more=0):
-    """The address of what is imported is written where a symbol lies, perhaps over zeros, or without names."""
-
-    def changed(file):
-        place = place_of(file, name) + more
-        file.put("<I", file.content(1, 16), place)
+        place = place_of(file, name)
+        put("<I", content(1, 16), place)(file)
         file.put(f"<{zeros}s", file.offset(place), b"")
-        file.put("<I", file.content(1), *(file.numbers("<I", file.content(1)) if names is None else (names,)))
+        put("<I", content(1), number_at(content(1)) if names is None else names)(file)
 
     return changed
 
 
-def threads(file):
-    """The number of a thread is written over a constant."""
-    file.put("<Q", file.content(9, 16), file.numbers("<Q", file.head + 48)[0] + place_of(file, CONSTANT_OF_FILL))
-
-
-def names_of_exports(file):
-    """Where the file has the places of the names of exported functions, and these."""
-    start = file.offset(*file.numbers("<I", file.content(0, 32)))
-    return start, file.numbers("<II", start)
-
-
-def with_names(change):
-    return lambda file: file.put("<II", names_of_exports(file)[0], *change(*names_of_exports(file)[1]))
-
-
-def exported(place):
-    """The first function that is exported lies at another place."""
-    return lambda file: file.put("<I", file.offset(file.numbers("<I", file.content(0, 28))[0]), place(file))
-
-
+# Where the first exported function lies, and what says where the loader writes a number for threads.
+EXPORTED = lambda file: file.offset(number_at(content(0, 28))(file))
+THREADS = lambda file: file.numbers("<I", file.table(9))[0] + 16
 PES = [
     ("nothing", lambda file: None, "accepted"),
-    ("constants that can be written", with_flag(".rdata", 1 << 31), NO_CONSTANT),
-    ("constants that others have", with_flag(".rdata", 1 << 28), NO_CONSTANT),
-    ("constants that are not in the file", with_flag(".rdata", 0x80), NO_CONSTANT),
-    ("code that can be written", with_flag(".text", 1 << 31), NO_CODE),
+    ("constants that can be written", section(".rdata", 36, lambda flags: flags | 1 << 31), NO_CONSTANT),
+    ("constants that are not in the file", section(".rdata", 36, lambda flags: flags | 0x80), NO_CONSTANT),
+    ("code that can be written", section(".text", 36, lambda flags: flags | 1 << 31), NO_CODE),
     ("code from nowhere in the file", section(".text", 20, lambda old: 0), NO_CODE),
     ("code in a part of the file", section(".text", 20, lambda old: old + 16), "begins in a page"),
     ("code in a page", section(".text", 12, lambda old: old + 16), "begins in a page"),
@@ -164,35 +139,34 @@ PES = [
     ("sections in a page", head("<I", 56, 512), "begins in a page"),
     ("parts of the file that are small", head("<I", 60, 16), "begins in a page"),
     ("sections that meet", section(".rdata", 12, lambda old: 4096), "share a page"),
-    ("a configuration", table(10, 4096, 320), "a table for the loader"),
+    ("a configuration", put("<II", lambda file: file.table(10), 4096, 320), "a table for the loader"),
     ("fewer tables than are read", head("<I", 132, 8), "a table for the loader"),
     ("a relocation of constants", base_relocation(CONSTANT_OF_FILL), NO_CONSTANT),
     ("a relocation of an unknown kind", base_relocation(".rdata", 0, 3), "a relocation of the kind 3"),
     ("a relocation of the relocations", base_relocation(".reloc"), NOWHERE),
-    ("a relocation of imports", base_relocation(".idata"), NOWHERE),
     ("a relocation of exports", base_relocation(".edata", 16), NOWHERE),
-    ("relocations without an end", put("<I", lambda file: file.content(5, 4), 0), "cut or damaged"),
-    ("a number for threads over a constant", threads, NO_CONSTANT),
-    ("a number for threads at an unknown place", base_relocation(None, 20), "twice"),
-    ("a number for threads where an import says", imported(None, more=16), "twice"),
+    ("relocations without an end", put("<I", content(5, 4), 0), "cut or damaged"),
+    ("a number for threads over a constant", put("<Q", content(9, 16), lambda file: (
+        file.numbers("<Q", file.head + 48)[0] + place_of(file, CONSTANT_OF_FILL))), NO_CONSTANT),
+    ("a number for threads at an unknown place", base_relocation(THREADS, 4), "twice"),
+    ("a number for threads where an import says", imported(THREADS), "twice"),
     ("a number for threads that is not relocated",
-     lambda file: imported(None, more=16)(file) or table(5, 0, 0)(file), "twice"),
-    ("no imports", table(1, 0, 0), "accepted"),
+     lambda file: imported(THREADS)(file) or file.put("<II", file.table(5), 0, 0), "twice"),
+    ("no imports", put("<II", lambda file: file.table(1), 0, 0), "accepted"),
     ("imports over zeros", imported(CONSTANT_OF_FILL, zeros=16), NO_CONSTANT),
     ("imports without names", imported(CONSTANT_OF_FILL, names=0), NO_CONSTANT),
-    ("functions beyond their table", put("<I", lambda file: file.content(0, 20), 0), PLAIN),
+    ("functions beyond their table", put("<I", content(0, 20), 0), PLAIN),
     ("an absolute name", put("<h", lambda file: file.symbol(FILL) + 12, -1), OTHER_KIND),
     ("a name of another kind", put("<B", lambda file: file.symbol(FILL) + 16, 104), OTHER_KIND),
     ("another form of programs", head("<2s", 0, b"NE"), NO_FORM),
     ("another processor", head("<H", 4, 0x14C), NO_FORM),
     ("a file of 32 bits", head("<H", 24, 0x10B), NO_FORM),
-    ("names that are not sorted", with_names(lambda first, second: (second, first)), "not sorted"),
-    ("a name twice", with_names(lambda first, second: (second, second)), "not sorted"),
-    ("a name that is relocated",
-     base_relocation(".edata", lambda file: names_of_exports(file)[1][0] + 12 - place_of(file, ".edata")), NOWHERE),
-    ("a name that is missing", put("<I", lambda file: file.content(0, 24), 9), "does not find const_hex_version"),
-    ("a function of another file", exported(lambda file: file.numbers("<I", file.table(0))[0] + 40), PLAIN),
-    ("another function by a name", exported(lambda file: 4096), OTHER_KIND),
+    ("names that are not sorted", put("<II", names(), number_at(names(4)), number_at(names())), "not sorted"),
+    ("a name twice", put("<I", names(), number_at(names(4))), "not sorted"),
+    ("a name that is relocated", base_relocation(number_at(names()), 12), NOWHERE),
+    ("a name that is missing", put("<I", content(0, 24), 9), "does not find const_hex_version"),
+    ("a function of another file", put("<I", EXPORTED, lambda file: file.numbers("<I", file.table(0))[0] + 40), PLAIN),
+    ("another function by a name", put("<I", EXPORTED, 4096), OTHER_KIND),
 ]
 
 
@@ -311,11 +285,6 @@ def to_nothing(node):
     return tree(lambda edges: edges.append(("ersion", edges[0][1])) or edges.insert(0, ("_const_hex_v", node)))
 
 
-def written_tables(file):
-    file.append(bytes(-len(file) % 4096))
-    segment("__LINKEDIT", 56, "<II", 3, 3)(file)
-
-
 VERSION, TABLES, NOT_FOUND = "_const_hex_version", "neither INFO, nor", "does not find const_hex_version"
 REPLACE, PAGES = "that replace others", "no whole pages"
 # For x86-64, if nothing else is said.
@@ -326,15 +295,16 @@ MACH_OS = [
     ("an object", put("<I", 12, 1), "no dylib and no program"),
     ("another processor", put("<I", 4, 7), "no dylib and no program"),
     ("an unknown command", command(0x26, 0x2C), "the command 0x2c"),
-    # Of two tables of symbols, linkers take the first.
     ("a second table of symbols", command(0x26, 2), "the command 0x2,"),
     ("a second tree of names", lambda file: file.add(0x80000033, bytes(8)), TABLES),
-    ("tables for dyld that are written", written_tables, NOWHERE),
+    ("tables for dyld that are written", lambda file: file.append(bytes(-len(file) % 4096)) and segment(
+        "__LINKEDIT", 56, "<II", 3, 3)(file), NOWHERE),
     ("functions that replace others", segment("__DATA", 136, "<B", 13), REPLACE),
     ("a name of those that replace others", segment("__DATA", 72, "<16s", b"__interpose"), REPLACE),
     ("a choice in a variable of threads", segment("__DATA", 216, "<B", 0x13), NO_CHOICE),
     ("code that can be written", segment("__TEXT", 56, "<II", 7, 7), "a segment that is 7"),
     ("code that is encrypted", segment("__TEXT", 68, "<I", 8), "a segment that is 5, 8"),
+    ("a segment by the name of the first one", segment("__DATA", 8, "<16s", b"__TEXT"), "has to be __TEXT"),
     ("a choice that is closed", segment("__DATA", 68, "<I", 16), NO_CHOICE),
     ("a segment in a page", segment("__DATA", 24, "<Q", 0x4010), PAGES),
     ("a segment in a page of the file", segment("__DATA", 40, "<Q", 0x4010), PAGES),
@@ -369,7 +339,7 @@ MACH_OS = [
     ("a name from elsewhere", symbol("<B", 4, 1), "accepted"),
     ("a name that is picked", symbol("<H", 6, 0x100), OTHER_KIND),
     ("an absolute name", symbol("<B", 4, 3), OTHER_KIND),
-    ("another function by a name", lambda file: symbol("<Q", 8, file.value("_const_hex_check"))(file), OTHER_KIND),
+    ("another function by a name", symbol("<Q", 8, lambda file: file.value("_const_hex_check")), OTHER_KIND),
 ]
 # What a module has beside the package's functions.
 MODULES = [
@@ -418,6 +388,11 @@ class TestMachO(unittest.TestCase):
 
 
 class TestModules(unittest.TestCase):
+    @needs_module
+    def test_a_module_that_is_cut(self):
+        with self.assertRaisesRegex(ValueError, "no module"):
+            library.whole(library.MODULE)
+
     @needs_module
     def refuse(self, change, wanted):
         command = ["wasm2wat", "--no-debug-names", MODULE]
