@@ -9,8 +9,8 @@ from collections import namedtuple
 
 from reading.image import AARCH64, CODE, CONSTANTS, FIXED, WRITTEN, X86_64, Image, up
 
-PAGES = {X86_64: 1 << 12, AARCH64: 1 << 16}
-PROGRAM, SHARED = 2, 3
+# By whether it is a program or a library, and a processor.
+FORMS = {(kind, form[0]): form for kind in (2, 3) for form in ((X86_64, 1 << 12), (AARCH64, 1 << 16))}
 # Headers of segments. There may be several of what is loaded, of notes, and of nothing, and one of each other kind: the
 # loader's table, what is closed after relocations, a note of properties, the loader's name, where the headers lie; and
 # of TLS, EH_FRAME and STACK, which are harmless.
@@ -40,12 +40,9 @@ SYMBOL_TABLE, GLOBAL_FUNCTION, SOURCE_FILE, RESERVED, PLACED = 2, 0x12, 4, 0xFF0
 def read(data):
     """The image of these bytes."""
     kind, machine = struct.unpack_from("<HH", data, 16)
-    if data[:6] != b"\x7fELF\x02\x01" or machine not in PAGES or kind not in (PROGRAM, SHARED):
-        raise ValueError("no shared library and no program for a processor that is known here; "
-                         "an object has to be linked, as machine_code/README.md says")
     [first, sections], [size, count] = struct.unpack_from("<QQ", data, 32), struct.unpack_from("<HH", data, 54)
     end = first + 56 * count
-    image = Image(machine, PAGES[machine], end)
+    image = Image(data[4:6] == b"\2\1" and FORMS.get((kind, machine)), end)
     headers = [Header(*struct.unpack_from("<IIQQQQQQ", data, place)) for place in range(first, end, 56)]
     kinds = [header.kind for header in headers]
     for kind in kinds:

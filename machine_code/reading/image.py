@@ -29,12 +29,16 @@ def up(address, page):
 
 
 class Image:
-    """A file for a processor, which begins with so many bytes of headers. `page` is the greatest page that a system may
-    have, in which no two segments may lie."""
+    """A file, which begins with so many bytes of headers. Its form is a processor, and the greatest page that a system
+    may have, in which no two segments may lie."""
 
-    def __init__(self, machine, page, headers):
+    def __init__(self, form, headers):
+        if not form:
+            raise ValueError("no library and no program for a processor that is known here; an object has to be "
+                             "linked, as machine_code/README.md says")
+        [self.machine, self.page], self.headers = form, headers
         # Where the file begins in memory, and how large it is there.
-        self.machine, self.page, self.headers, self.segments, self.first, self.size = machine, page, headers, [], 0, 0
+        self.segments, self.first, self.size = [], 0, 0
         # The places of functions of the library, and of what is named after one; all places with a name; and the
         # functions of the header that the loader finds.
         self.symbols, self.starts, self.exported = {}, set(), set()

@@ -5,8 +5,9 @@ import struct
 
 from reading.image import AARCH64, CODE, CONSTANTS, WRITTEN, X86_64, Image
 
-MACHINES, PAGES = {0x01000007: X86_64, 0x0100000C: AARCH64}, {X86_64: 1 << 12, AARCH64: 1 << 14}
-PROGRAM, LIBRARY = 2, 6
+# By a processor, and whether it is a program or a library.
+FORMS = {(machine, kind): form for kind in (2, 6)
+         for machine, form in ((0x01000007, (X86_64, 1 << 12)), (0x0100000C, (AARCH64, 1 << 14)))}
 # Commands that are read, each once but for segments; and those that are harmless: DYSYMTAB, LOAD_DYLIB, ID_DYLIB,
 # LOAD_DYLINKER, UUID, CODE_SIGNATURE, SPLIT_INFO, VERSION_MIN, FUNCTION_STARTS, DATA_IN_CODE, SOURCE_VERSION,
 # BUILD_VERSION, LOAD_WEAK_DYLIB, RPATH, MAIN.
@@ -26,7 +27,7 @@ REBASES = [NOTHING, NOTHING, PLACE, MOVE, (0, lambda low: (0, 0, 8 * low)), (0, 
 BINDS = [NOTHING, NOTHING, NUMBER, NOTHING, NAME, NOTHING, NUMBER, PLACE, MOVE, (0, lambda low: (1, 0, 0)), THEN_MOVE,
          (0, lambda low: (1, 0, 8 * low)), TIMES]
 # Chains: no first link in a page, and the forms of links that have the distance to the next one at the same bits.
-NO_LINK, FORMS = 0xFFFF, (2, 6)
+NO_LINK, LINKS = 0xFFFF, (2, 6)
 DEBUG, TYPE, IN_SECTION, RESOLVED = 0xE0, 0xE, 0xE, 0x100  # of symbols
 # Kinds of sections: variables of threads, which dyld writes, and others that are harmless: up to GB_ZEROFILL,
 # 16BYTE_LITERALS, DTRACE_DOF, and from THREAD_LOCAL_REGULAR to INIT_FUNC_OFFSETS. In one it finds what replaces others.
@@ -35,10 +36,7 @@ VARIABLES, HARMLESS_SECTIONS, REPLACING = 0x13, {*range(13), 14, 15, *range(0x11
 
 def read(data):
     machine, _, kind, count, size = struct.unpack_from("<IIIII", data, 4)
-    if machine not in MACHINES or kind not in (PROGRAM, LIBRARY):
-        raise ValueError("no dylib and no program for a processor that is known here")
-    place, commands, starts, tables = 32, {}, [], []
-    image = Image(MACHINES[machine], PAGES[MACHINES[machine]], place + size)
+    image, place, commands, starts, tables = Image(FORMS.get((machine, kind)), 32 + size), 32, {}, [], []
     for _ in range(count):
         command, size = struct.unpack_from("<II", data, place)
         if command == SEGMENT:
@@ -130,7 +128,7 @@ def _read_chains(image, table):
     for offset in filter(None, struct.unpack_from(f"<{count}I", table, start + 4)):
         _, page, form, first, _, pages = struct.unpack_from("<IHHQIH", table, start + offset)
         for number, link in enumerate(struct.unpack_from(f"<{pages}H", table, start + offset + 22)):
-            if form not in FORMS or link >> 15 and link != NO_LINK:
+            if form not in LINKS or link >> 15 and link != NO_LINK:
                 raise ValueError("chains of relocations of a form that is not known here")
             place, distance = image.first + first + number * page + link, link != NO_LINK
             while distance:

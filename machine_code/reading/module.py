@@ -23,16 +23,9 @@ class Module:
 
     def __init__(self):
         self.machine, self.functions, self.data = None, [], []
+        # Where the data lie, which have so many bytes.
+        self.first = self.size = 0
         self.symbols, self.exported, self.globals, self.mutable, self.places = {}, set(), [], set(), {}
-
-    @property
-    def first(self):
-        """Where the data lie, which have so many bytes."""
-        return self.data[0].address
-
-    @property
-    def size(self):
-        return len(self.data[0].content) if self.data else 0
 
     def read(self, offset, count):
         return self.data[0].content[offset : offset + count]
@@ -69,6 +62,7 @@ def _add(module, part):
     elif fields := re.fullmatch(r'\(data \(;\d+;\) \(i32\.const (\d+)\) "((\\[0-9a-f]{2}|[^\\])*)"\)', part):
         content = re.sub(rb"\\(..)", lambda code: bytes.fromhex(code[1].decode()), fields[2].encode("ascii"))
         module.data.append(Data(int(fields[1]), content))
+        module.first, module.size = int(fields[1]), len(content)
     elif fields := re.search(r"^\(global .*\((i\d\d)\.const (-?\d+)\)\)$", part):
         module.mutable |= {len(module.globals)} if "(mut " in part else set()
         module.globals.append(int(fields[2]) % (1 << 8 * SIZES[fields[1]]))

@@ -6,7 +6,8 @@ import struct
 
 from reading.image import AARCH64, CODE, CONSTANTS, WRITTEN, X86_64, Image
 
-MACHINES, PAGE, IN_FILE = {0x8664: X86_64, 0xAA64: AARCH64}, 1 << 12, 512
+PAGE, IN_FILE = 1 << 12, 512
+FORMS = {0x8664: (X86_64, PAGE), 0xAA64: (AARCH64, PAGE)}  # by a processor
 # Tables for the loader by their numbers: those that are read, and those that are harmless: RESOURCE, EXCEPTION,
 # CERTIFICATE, DEBUG, IAT. With others, such as a configuration, the loader writes elsewhere, too.
 EXPORTS, IMPORTS, RELOCATIONS, THREADS = READ = 0, 1, 5, 9
@@ -23,10 +24,8 @@ EXTERNAL, STATIC = 2, 3  # kinds of symbols
 def read(data):
     [start] = struct.unpack_from("<I", data, 60)
     machine, count, _, symbols, symbols_count, size, _ = struct.unpack_from("<HHIIIHH", data, start + 4)
-    if data[start : start + 4] != b"PE\0\0" or machine not in MACHINES or data[start + 24 : start + 26] != b"\x0b\x02":
-        raise ValueError("no DLL and no program of 64 bits for a processor that is known here")
-    table = start + 24 + size
-    image = Image(MACHINES[machine], PAGE, table + 40 * count)
+    table, is_known = start + 24 + size, (data[start:][:4], data[start + 24 :][:2]) == (b"PE\0\0", b"\x0b\x02")
+    image = Image(is_known and FORMS.get(machine), table + 40 * count)
     base, alignment, in_file = struct.unpack_from("<QII", data, start + 48)
     headers, tables_count = struct.unpack_from("<I44xI", data, start + 84)
     image.add_segment(data, 0, headers, 0, headers, OTHER)

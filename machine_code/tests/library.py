@@ -79,10 +79,10 @@ def shared(*options, changes=(), more="", compiler=X86_64, script=""):
         texts = {name: (old, new) for name, old, new in changes}
         objects = [member(name, compiler, *texts.get(name, ())) for name in MEMBERS[compiler]]
         objects += [assembled(more.replace("; ", "\n"), compiler)] if more else []
-        for at, content in enumerate(objects):
-            pathlib.Path(folder, f"{at}.o").write_bytes(content)
+        for number, content in enumerate(objects):
+            pathlib.Path(folder, f"{number}.o").write_bytes(content)
         command = [compiler, "-shared", "-nostdlib", "-Wl,-z,relro,-z,now", "-o", "library.so",
-                   *(f"{at}.o" for at in range(len(objects))), *options]
+                   *(f"{number}.o" for number in range(len(objects))), *options]
         subprocess.run(command, check=True, capture_output=True, input=script.encode(), cwd=folder)
         return pathlib.Path(folder, "library.so").read_bytes()
 

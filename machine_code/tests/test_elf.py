@@ -127,7 +127,7 @@ CLOSED, KNOWN, PLACES = "is no part of a segment", "twice or not known here", "a
 START, TWO, SAID = "start of the first segment", "another size, or in two segments", "PT_PHDR is missing, or"
 OTHERS, PARTS, CONSTANT = "other flags than its segment", "a table of relocations without", "what must not be written"
 NOTE, NOWHERE, NO_FORM, FIND = "a note of properties", "is written, or nowhere", "no known form", "does not find"
-OBJECT, TABLES, OWN, NOTHING = "no shared library and", "in each of its tables", "its own table", "where nothing is"
+OBJECT, TABLES, OWN, NOTHING = "no library and no program", "in each of its tables", "its own table", "where nothing is"
 PAGE, RELRO, EARLIER = 1 << 12, 0x6474E552, lambda old: old - PAGE
 # What is forged in the bytes of a right library, how, of which function, and what the tool says.
 CHANGED = [

@@ -16,7 +16,7 @@ MINGW, LLD = "x86_64-w64-mingw32-gcc", next(map(str, pathlib.Path("/usr/lib").gl
 NAMES = sorted(image.HEADER)
 FILL, CONSTANT_OF_FILL = "const_hex_1_0_0_fill_v2", "const_hex_1_0_0_constant_4_v2"
 NO_CONSTANT, NO_CODE, NO_CHOICE = "no constant", "no code", "no byte that is kept"
-NOWHERE, NO_FORM, PLAIN = "is written, or nowhere", "no DLL and no program of 64 bits", "is no plain function"
+NOWHERE, NO_FORM, PLAIN = "is written, or nowhere", "no library and no program", "is no plain function"
 OTHER_KIND, MUST_NOT = "is a symbol of another kind, or has two places", "what must not be written"
 
 
@@ -292,8 +292,8 @@ MACH_OS = [
     ("nothing", lambda file: None, "accepted"),
     ("nothing for arm64", lambda file: None, "accepted", "arm64"),
     ("a program", put("<I", 12, 2), "accepted"),
-    ("an object", put("<I", 12, 1), "no dylib and no program"),
-    ("another processor", put("<I", 4, 7), "no dylib and no program"),
+    ("an object", put("<I", 12, 1), NO_FORM),
+    ("another processor", put("<I", 4, 7), NO_FORM),
     ("an unknown command", command(0x26, 0x2C), "the command 0x2c"),
     ("a second table of symbols", command(0x26, 2), "the command 0x2,"),
     ("a second tree of names", lambda file: file.add(0x80000033, bytes(8)), TABLES),
