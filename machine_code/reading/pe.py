@@ -15,7 +15,7 @@ TABLES, HARMLESS = 16, (2, 3, 4, 6, 12)
 # What a section is, by its flags without those that mean nothing here: what it has, and how it was aligned. In others
 # nothing is known.
 KINDS = {0x60000000: CODE, 0x40000000: CONSTANTS, 0xC0000000: WRITTEN, 0xC0000080: WRITTEN}
-NO_MEANING, OTHER = 0x00F00060, "other"
+NO_MEANING, OTHER, HEADERS = 0x00F00060, "other", "headers"
 ALL = CODE, CONSTANTS, WRITTEN, OTHER
 PADDING, ADDRESS = 0, 10  # kinds of relocations
 EXTERNAL, STATIC = 2, 3  # kinds of symbols
@@ -28,7 +28,7 @@ def read(data):
     image = Image(is_known and FORMS.get(machine), table + 40 * count)
     base, alignment, in_file = struct.unpack_from("<QII", data, start + 48)
     headers, tables_count = struct.unpack_from("<I44xI", data, start + 84)
-    image.add_segment(data, 0, headers, 0, headers, OTHER)
+    image.add_segment(data, 0, headers, 0, headers, HEADERS)
     sections = [struct.unpack_from("<8sIIIIIIHHI", data, place) for place in range(table, table + 40 * count, 40)]
     for _, in_memory, address, size, offset, *_, flags in sections:
         # What ends in a part of the file is read with all of that part.

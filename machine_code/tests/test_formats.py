@@ -144,6 +144,7 @@ PES = [
     ("a relocation of constants", base_relocation(CONSTANT_OF_FILL), NO_CONSTANT),
     ("a relocation of an unknown kind", base_relocation(".rdata", 0, 3), "a relocation of the kind 3"),
     ("a relocation of the relocations", base_relocation(".reloc"), NOWHERE),
+    ("a relocation of the headers", base_relocation(lambda file: 256), MUST_NOT),
     ("a relocation of exports", base_relocation(".edata", 16), NOWHERE),
     ("relocations without an end", put("<I", content(5, 4), 0), "cut or damaged"),
     ("a number for threads over a constant", put("<Q", content(9, 16), lambda file: (
