@@ -22,7 +22,8 @@ KINDS = {4: CONSTANTS, 5: CODE, 6: WRITTEN}  # of segments, by their flags
 # Tags of the loader's table. Each may stand there once, but for NEEDED; with what else is harmless: STRSZ, SYMENT,
 # INIT, FINI, SONAME, RPATH, SYMBOLIC, DEBUG, BIND_NOW, the arrays of INIT and FINI, RUNPATH; and from TLSDESC_PLT on
 # what a processor or a version of symbols has.
-NEEDED, PLTGOT, HASH, STRINGS, SYMBOLS, RELA, RELA_SIZE, RELR, RELR_SIZE = 1, 3, 4, 5, 6, 7, 8, 36, 35
+NEEDED, PLTGOT, HASH, STRINGS, SYMBOLS = 1, 3, 4, 5, 6
+RELA, RELA_SIZE, RELA_ENTRY, RELR, RELR_SIZE, RELR_ENTRY = 7, 8, 9, 36, 35, 37
 CALLS, CALLS_SIZE, CALLS_KIND, TLSDESC_GOT, RELATIVE_COUNT = 23, 2, 20, 0x6FFFFEF7, 0x6FFFFFF9
 FLAGS, FLAGS_1, GNU_HASH, VERSIONS = 30, 0x6FFFFFFB, 0x6FFFFEF5, 0x6FFFFFF0
 KNOWN = {*range(1, 17), *range(20, 22), *range(23, 31), *range(32, 34), *range(35, 38), *range(0x6FFFFEF5, 0x6FFFFEF8),
@@ -115,7 +116,7 @@ def _read_dynamic(image, header):
 def _read_relocations(image, dynamic):
     """What the loader writes: by two tables of places and kinds, and by one of bits for the words after a place."""
     # A loader may read a table as soon as it has one of its tags.
-    for tags in {RELA, RELA_SIZE}, {CALLS, CALLS_SIZE, CALLS_KIND}, {RELR, RELR_SIZE}:
+    for tags in {RELA, RELA_SIZE, RELA_ENTRY}, {CALLS, CALLS_SIZE, CALLS_KIND}, {RELR, RELR_SIZE, RELR_ENTRY}:
         if dynamic.keys() & tags not in (set(), tags) or dynamic.get(CALLS_KIND, RELA) != RELA:
             raise ValueError("a table of relocations without a size, or without a known form")
     entries = [entry for table, size in ((RELA, RELA_SIZE), (CALLS, CALLS_SIZE)) for entry in struct.iter_unpack(
@@ -125,9 +126,8 @@ def _read_relocations(image, dynamic):
     if [kind for _, kind, _ in entries[:count]] != [RELATIVE[image.machine]] * count:
         raise ValueError(f"fewer than {count} relative relocations at the start of their table")
     for place, kind, symbol in entries:
-        size = SIZES[image.machine].get(kind)
-        if kind == COPY[image.machine]:
-            [size] = image.numbers("<Q", dynamic[SYMBOLS] + 24 * symbol + 16)
+        [size] = image.numbers("<Q", dynamic[SYMBOLS] + 24 * symbol + 16)
+        size = SIZES[image.machine].get(kind, size if kind == COPY[image.machine] else None)
         if size is None:
             raise ValueError(f"a relocation of the kind {kind}")
         if kind:

@@ -207,6 +207,7 @@ CHANGED_MORE = [
     ("a relocation beyond a segment", "relocations",
      relocation(8, lambda file: max(row[4] + row[7] for row in file.segments if row[1] == 1) - 4), "", NOTHING),
     ("a relocation of an unknown kind", "relocations", relocation(33, "more"), "", "a relocation of the kind 33"),
+    ("a relocation for a symbol that is nowhere", "relocations", relocation(1 | 1 << 62, "more"), "", NOWHERE),
     ("a copy over the choice", "relocations", copy_over_the_choice, CHECK, WRITTEN),
     ("a relocation that counts as relative", "relocations", relocation(0, "more", 1), "", "fewer than 1 relative"),
     ("more relative relocations than are there", "relocations", tag(0x6FFFFFF9, 4), "", "fewer than 4 relative"),
