@@ -77,12 +77,8 @@ def copy_over_the_choice(file):
     file.put("<Q", file.table(6) + 24 * 3 + 16, 9)
 
 
-def other_header(kind):
-    return put("<I", lambda file: file.header(0x6474E551)[0], kind)
-
-
 def first_from_elsewhere(file):
-    """Linux does not find the headers in memory, or others than those that PT_PHDR names."""
+    """Linux finds no headers in memory, or others than PT_PHDR says."""
     file += bytes(-len(file) % PAGE)
     segment(4, offset=len(file))(file)
     file += file[:PAGE]
@@ -128,7 +124,7 @@ START, TWO, SAID = "start of the first segment", "another size, or in two segmen
 OTHERS, PARTS, CONSTANT = "other flags than its segment", "a table of relocations without", "what must not be written"
 NOTE, NOWHERE, NO_FORM, FIND = "a note of properties", "is written, or nowhere", "no known form", "does not find"
 OBJECT, TABLES, OWN, NOTHING = "no library and no program", "in each of its tables", "its own table", "where nothing is"
-PAGE, RELRO, EARLIER = 1 << 12, 0x6474E552, lambda old: old - PAGE
+PAGE, RELRO, EARLIER, STACK = 1 << 12, 0x6474E552, lambda old: old - PAGE, lambda file: file.header(0x6474E551)[0]
 # What is forged in the bytes of a right library, how, of which function, and what the tool says.
 CHANGED = [
     ("nothing", lambda file: None, "const_hex_decode", "accepted"),
@@ -139,14 +135,14 @@ CHANGED = [
     ("code at another place of a page", segment(5, offset=lambda old: old + 16), "", "another place of a"),
     ("constants that end early", segment(4, start=PAGE, in_file=1), FILL, WRITTEN),
     ("a segment larger than in memory", segment(5, in_memory=1), "", "larger in the file"),
-    ("a segment with random bytes", other_header(0x65A3DBE6), "", "a header of the kind 0x65a3dbe6"),
-    ("a second table for the loader", other_header(2), "", "a header of the kind 0x2, twice"),
+    ("a segment with random bytes", put("<I", STACK, 0x65A3DBE6), "", "a header of the kind 0x65a3dbe6"),
+    ("a second table for the loader", put("<I", STACK, 2), "", "a header of the kind 0x2, twice"),
     ("headers that are not in memory", segment(4, in_file=64), "", START),
     ("headers in memory from elsewhere in the file", first_from_elsewhere, "", START),
     ("headers of another size", put("<H", 54, 64), "", TWO),
     ("headers in two segments", segment(4, start=PAGE, offset=0), "", TWO),
-    ("headers that are said to lie elsewhere", other_header(6), "", SAID),
-    ("a program that does not say where its headers lie", other_header(3), "", SAID),
+    ("headers that are said to lie elsewhere", put("<I", STACK, 6), "", SAID),
+    ("a program that does not say where its headers lie", put("<I", STACK, 3), "", SAID),
     ("a choice that is closed", segment(4, RELRO, in_memory=4096), CHECK, WRITTEN),
     ("code that is closed", segment(4, RELRO, address=PAGE), "", CLOSED),
     ("what is closed is nowhere", segment(4, RELRO, address=1 << 30), "", CLOSED),

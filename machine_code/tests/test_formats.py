@@ -133,7 +133,7 @@ PES = [
     ("code from nowhere in the file", section(".text", 20, lambda old: 0), NO_CODE),
     ("code in a part of the file", section(".text", 20, lambda old: old + 16), "begins in a page"),
     ("code in a page", section(".text", 12, lambda old: old + 16), "begins in a page"),
-    # The loader reads all of the part, as which the byte that is kept may lie there.
+    # The loader reads the whole part, so a byte that seems to be 0 is another one.
     ("a section that ends in a part of the file", section(".data", 16, lambda old: 16), "ends in a part"),
     ("sections over the headers", head("<I", 84, 4097), "share a page"),
     ("sections in a page", head("<I", 56, 512), "begins in a page"),
@@ -224,10 +224,6 @@ def segment(name, offset, form, *values):
     return put(form, lambda file: file.segment(name) + offset, *values)
 
 
-def command(wanted, new):
-    return put("<I", lambda file: file.commands(wanted)[0], new)
-
-
 def symbol(form, offset, new):
     return put(form, lambda file: file.symbol(VERSION) + offset, new)
 
@@ -287,7 +283,7 @@ def to_nothing(node):
 
 
 VERSION, TABLES, NOT_FOUND = "_const_hex_version", "neither INFO, nor", "does not find const_hex_version"
-REPLACE, PAGES = "that replace others", "no whole pages"
+REPLACE, PAGES, FUNCTION_STARTS = "that replace others", "no whole pages", lambda file: file.commands(0x26)[0]
 # For x86-64, if nothing else is said.
 MACH_OS = [
     ("nothing", lambda file: None, "accepted"),
@@ -295,8 +291,8 @@ MACH_OS = [
     ("a program", put("<I", 12, 2), "accepted"),
     ("an object", put("<I", 12, 1), NO_FORM),
     ("another processor", put("<I", 4, 7), NO_FORM),
-    ("an unknown command", command(0x26, 0x2C), "the command 0x2c"),
-    ("a second table of symbols", command(0x26, 2), "the command 0x2,"),
+    ("an unknown command", put("<I", FUNCTION_STARTS, 0x2C), "the command 0x2c"),
+    ("a second table of symbols", put("<I", FUNCTION_STARTS, 2), "the command 0x2,"),
     ("a second tree of names", lambda file: file.add(0x80000033, bytes(8)), TABLES),
     ("tables for dyld that are written", lambda file: file.append(bytes(-len(file) % 4096)) and segment(
         "__LINKEDIT", 56, "<II", 3, 3)(file), NOWHERE),
