@@ -127,7 +127,7 @@ class State(state.State):
         module, given = self.code.object, len(self.contract.arguments)
         arguments = [self.general[name] for name in self.ARGUMENTS[:given]]
         self._lay_out(module)
-        function = module.function_at(self.address)
+        function = module.code_at(self.address)
         results = [] if self.contract.is_local else [4]
         require((function.parameters, function.results) == ([4] * given, results), "a function of another type")
         self.general = {f"global {index}": word(number) for index, number in enumerate(module.globals)}
@@ -318,7 +318,7 @@ def call(s, i):
 
 def leave(s, i):
     """A function leaves its result, if there is one, for the caller."""
-    function = s.code.object.function_at(i.address // SPACE * SPACE)
+    function = s.code.object.code_at(i.address // SPACE * SPACE)
     if function.results:
         s.put("result", s.take(_top(i)))
     return s.leave_function(i.address // SPACE)

@@ -28,22 +28,21 @@ ADDRESS, SAID = re.compile(r"(?<!#)\b0x([0-9a-f]+)$"), re.compile(r"\{standard i
 
 def with_distance(instruction):
     """The text of an instruction that ends in an address, with the distance to it."""
-    return ADDRESS.sub(lambda found: f".{int(found[1], 16) - instruction.address:+d}", instruction.text)
+    return ADDRESS.sub(lambda match: f".{int(match[1], 16) - instruction.address:+d}", instruction.text)
 
 
 def read(part, processor, operands, command, text_of, is_same):
     """The instructions of some code, by address. `operands` reads what stands after a mnemonic. Those that the
     assembler makes otherwise have a reason why they are refused: `text_of` gives what is assembled for one, and
     `is_same` says of one whose bytes differ that they are right."""
-    (first, content), found = part, printed(part, processor, operands)
-    made, said = _assembled(processor, command, [text_of(i) for i in found.values()])
-    for at, (address, i) in enumerate(found.items()):
-        start = address - first
-        old, new = content[start : start + i.size], made[PLACE * at :][:PLACE]
-        if (said[at] or new != old.ljust(PLACE, FILL)) and not is_same(i, old, new):
-            what = "; ".join(said[at]) or new.rstrip(FILL).hex()
-            found[address] = i._replace(refused=f"{old.hex()} is not what the assembler makes of it: {what}")
-    return found
+    (first, content), instructions = part, printed(part, processor, operands)
+    made, said = _assembled(processor, command, [text_of(i) for i in instructions.values()])
+    for number, (address, i) in enumerate(instructions.items()):
+        old, new = content[address - first :][: i.size], made[PLACE * number :][:PLACE]
+        if (said[number] or new != old.ljust(PLACE, FILL)) and not is_same(i, old, new):
+            what = "; ".join(said[number]) or new.rstrip(FILL).hex()
+            instructions[address] = i._replace(refused=f"{old.hex()} is not what the assembler makes of it: {what}")
+    return instructions
 
 
 def printed(part, processor, operands=lambda text: ()):
@@ -55,29 +54,28 @@ def printed(part, processor, operands=lambda text: ()):
         file.flush()
         command = [*command, "-D", "-b", "binary", f"--adjust-vma={first:#x}", file.name]
         listing = subprocess.run(command, check=True, capture_output=True, text=True).stdout
-    found = {}
+    instructions = {}
     for match in filter(None, map(LINE.match, listing.splitlines())):
         address, size = int(match[1], 16), len(bytes.fromhex(match[2]))
         text = re.split(comment, match[3])[0].replace("\t", " ").strip()
         # A nop may have prefixes and operands, which mean nothing. That of two bytes has another name.
         mnemonic, _, rest = re.sub("^(data16 |cs )*nop.*|^xchg +ax,ax$", "nop", text).partition(" ")
         try:
-            found[address] = Instruction(address, size, mnemonic, operands(rest), text)
+            instructions[address] = Instruction(address, size, mnemonic, operands(rest), text)
         except Exception:
             # An operand that is not known here. It is refused if it is run.
-            found[address] = Instruction(address, size, "unknown", (), text)
-    return found
+            instructions[address] = Instruction(address, size, "unknown", (), text)
+    return instructions
 
 
 def _assembled(processor, command, texts):
     """The places with what the assembler makes of each text, and what it says of each."""
-    lines = [f".org {PLACE * at}, {FILL[0]}; {text}" for at, text in enumerate(texts)]
-    lines += [f".org {PLACE * len(texts)}, {FILL[0]}", ""]
+    lines = [f".org {PLACE * number}, {FILL[0]}; {text}\n" for number, text in enumerate([*texts, ""])]
     with tempfile.TemporaryDirectory() as folder:
         # With -Z there is an object in spite of errors.
         file, command = pathlib.Path(folder, "again.o"), [*command, "-Z", "-o", f"{folder}/again.o", "-"]
         english = os.environ | {"LC_ALL": "C"}
-        run = subprocess.run(command, input="\n".join(lines), capture_output=True, text=True, env=english)
+        run = subprocess.run(command, input="".join(lines), capture_output=True, text=True, env=english)
         if not file.exists():
             raise OSError(f"{command[0]} fails: {run.stderr}")
         subprocess.run([COPY[processor], "-O", "binary", "-j", ".text", file, f"{folder}/text"], check=True)

@@ -9,26 +9,25 @@ from collections import namedtuple
 
 from reading.image import AARCH64, CODE, CONSTANTS, FIXED, WRITTEN, X86_64, Image, up
 
-PAGES = {X86_64: 1 << 12, AARCH64: 1 << 16}
-PROGRAM, SHARED = 2, 3
-# Headers of segments: what is loaded, the loader's table, what is closed after relocations, a note of properties, the
-# loader's name, and where the headers lie; others that are harmless: nothing, NOTE, TLS, EH_FRAME, STACK.
+# By whether it is a program or a library, and a processor.
+FORMS = {(kind, form[0]): form for kind in (2, 3) for form in ((X86_64, 1 << 12), (AARCH64, 1 << 16))}
+# Headers of segments. There may be several of what is loaded, of notes, and of nothing, and one of each other kind: the
+# loader's table, what is closed after relocations, a note of properties, the loader's name, where the headers lie; and
+# of TLS, EH_FRAME and STACK, which are harmless.
 Header = namedtuple("Header", "kind flags offset address physical in_file in_memory alignment")
-LOAD, DYNAMIC, CLOSED, PROPERTIES, LOADER, HEADERS = READ = 1, 2, 0x6474E552, 0x6474E553, 3, 6
-HARMLESS = 0, 4, 7, 0x6474E550, 0x6474E551
+LOAD, DYNAMIC, CLOSED, PROPERTIES, LOADER, HEADERS = 1, 2, 0x6474E552, 0x6474E553, 3, 6
+SEVERAL, ONCE = (LOAD, 4, 0), (DYNAMIC, CLOSED, PROPERTIES, LOADER, HEADERS, 7, 0x6474E550, 0x6474E551)
 GUARDS = {X86_64: 0xC0000002, AARCH64: 0xC0000000}  # the property whose bit 0 says that calls need marks
 KINDS = {4: CONSTANTS, 5: CODE, 6: WRITTEN}  # of segments, by their flags
 # Tags of the loader's table. Each may stand there once, but for NEEDED; with what else is harmless: STRSZ, SYMENT,
 # INIT, FINI, SONAME, RPATH, SYMBOLIC, DEBUG, BIND_NOW, the arrays of INIT and FINI, RUNPATH; and from TLSDESC_PLT on
 # what a processor or a version of symbols has.
-NEEDED, HASH, STRINGS, SYMBOLS, RELA, RELA_SIZE, RELA_ENTRY = 1, 4, 5, 6, 7, 8, 9
-CALLS, CALLS_SIZE, CALLS_KIND, RELR, RELR_SIZE, RELR_ENTRY = 23, 2, 20, 36, 35, 37
-PLTGOT, TLSDESC_GOT, RELATIVE_COUNT = 3, 0x6FFFFEF7, 0x6FFFFFF9
+NEEDED, PLTGOT, HASH, STRINGS, SYMBOLS = 1, 3, 4, 5, 6
+RELA, RELA_SIZE, RELA_ENTRY, RELR, RELR_SIZE, RELR_ENTRY = 7, 8, 9, 36, 35, 37
+CALLS, CALLS_SIZE, CALLS_KIND, TLSDESC_GOT, RELATIVE_COUNT = 23, 2, 20, 0x6FFFFEF7, 0x6FFFFFF9
 FLAGS, FLAGS_1, GNU_HASH, VERSIONS = 30, 0x6FFFFFFB, 0x6FFFFEF5, 0x6FFFFFF0
-TABLES = HASH, STRINGS, SYMBOLS, RELA, CALLS, RELR, GNU_HASH, VERSIONS
-KNOWN = {*TABLES, NEEDED, RELA_SIZE, RELA_ENTRY, CALLS_SIZE, CALLS_KIND, RELR_SIZE, RELR_ENTRY, FLAGS, FLAGS_1,
-         PLTGOT, TLSDESC_GOT, RELATIVE_COUNT, *range(10, 17), 21, *range(24, 30), 32, 33, 0x6FFFFEF6,
-         *range(0x6FFFFFFC, 0x70000000), 0x70000001, 0x70000003, 0x70000005}
+KNOWN = {*range(1, 17), *range(20, 22), *range(23, 31), *range(32, 34), *range(35, 38), *range(0x6FFFFEF5, 0x6FFFFEF8),
+         VERSIONS, RELATIVE_COUNT, *range(FLAGS_1, 0x70000000), 0x70000001, 0x70000003, 0x70000005}
 # ORIGIN, SYMBOLIC, BIND_NOW, STATIC_TLS; and NOW, GLOBAL, NODELETE, INITFIRST, ORIGIN, PIE.
 KNOWN_FLAGS = {FLAGS: 0x1B, FLAGS_1: 0x80000AB}
 # How many bytes relocations write, by their kinds, and those that copy as much as a symbol has.
@@ -42,66 +41,59 @@ SYMBOL_TABLE, GLOBAL_FUNCTION, SOURCE_FILE, RESERVED, PLACED = 2, 0x12, 4, 0xFF0
 def read(data):
     """The image of these bytes."""
     kind, machine = struct.unpack_from("<HH", data, 16)
-    if data[:6] != b"\x7fELF\x02\x01" or machine not in PAGES or kind not in (PROGRAM, SHARED):
-        raise ValueError("no shared library and no program for a processor that is known here; "
-                         "an object has to be linked, as machine_code/README.md says")
     [first, sections], [size, count] = struct.unpack_from("<QQ", data, 32), struct.unpack_from("<HH", data, 54)
-    image, end = Image(machine, PAGES[machine]), first + 56 * count
-    headers = [Header(*struct.unpack_from("<IIQQQQQQ", data, at)) for at in range(first, end, 56)]
-    for kind in {it.kind for it in headers}.difference(READ, HARMLESS):
-        raise ValueError(f"a header of the kind {kind:#x}")
-    loaded, tables, closed, notes, loaders, said = [[it for it in headers if it.kind == kind] for kind in READ]
-    for header in loaded:
-        _load(image, data, header)
-    # Linux tells a program the place of those in the last segment that has any.
-    if size != 56 or image.segments[0].content[:end] != data[:end] or any(it.offset < end for it in loaded[1:]):
-        raise ValueError("the headers do not lie at the start of the first segment, and only there")
+    end = first + 56 * count
+    image = Image(data[4:6] == b"\2\1" and FORMS.get((kind, machine)), end)
+    headers = [Header(*struct.unpack_from("<IIQQQQQQ", data, place)) for place in range(first, end, 56)]
+    kinds = [header.kind for header in headers]
+    for kind in kinds:
+        if kind not in SEVERAL and (kind not in ONCE or kinds.count(kind) > 1):
+            raise ValueError(f"a header of the kind {kind:#x}, twice or not known here")
+    loaded, one = [header for header in headers if header.kind == LOAD], {header.kind: header for header in headers}
+    for _, flags, offset, address, _, in_file, in_memory, _ in loaded:
+        if flags not in KINDS or (address - offset) % image.page:
+            raise ValueError(f"a segment with the flags {flags}, or at another place of a page than in the file; "
+                             f"pages of {image.page} bytes are needed (-z max-page-size={image.page})")
+        image.add_segment(data, address, in_memory, offset, in_file, KINDS[flags])
+    # Linux tells a program the place of the headers in the last segment that has any.
+    if size != 56 or any(header.offset < end for header in loaded[1:]):
+        raise ValueError("headers of another size, or in two segments")
     # glibc and musl take the difference between their place and what PT_PHDR says for the address of a program.
-    if (said or loaders) and {it.address for it in said} != {image.segments[0].address + first}:
+    said = one.get(HEADERS)
+    if (said or LOADER in one) and (not said or said.address != image.first + first):
         raise ValueError("PT_PHDR is missing, or says another place than that of the headers")
-    for header in notes:
-        _refuse_guards(image, data, header)
-    for header in closed:
-        _close(image, header.address, header.in_memory)
-    if len(tables) > 1:
-        raise ValueError("two tables for the loader")
+    if PROPERTIES in one:
+        _refuse_guards(image, data, one[PROPERTIES])
+    if CLOSED in one:
+        # The loader makes whole pages of a segment read-only.
+        _, _, _, start, _, _, size, _ = one[CLOSED]
+        segment = image.segment_at(start)
+        if not segment or segment.kind != WRITTEN or up(segment.address + segment.size, image.page) < start + size:
+            raise ValueError("what is closed after relocations is no part of a segment that is written")
+        image.closed.append(range(start // image.page * image.page, start + size))
     _read_symbols(image, data, sections, *struct.unpack_from("<H", data, 60))
-    for header in tables:
-        _read_dynamic(image, header.address, header.in_memory, (WRITTEN,) if header.flags & 2 else FIXED)
+    if DYNAMIC in one:
+        _read_dynamic(image, one[DYNAMIC])
     return image
-
-
-def _load(image, data, header):
-    if header.flags not in KINDS or (header.address - header.offset) % image.page:
-        raise ValueError(f"a segment with the flags {header.flags}, or at another place of a page than in the file; "
-                         f"pages of {image.page} bytes are needed (-z max-page-size={image.page})")
-    image.add_segment(data, header.address, header.in_memory, header.offset, header.in_file, KINDS[header.flags])
 
 
 def _refuse_guards(image, data, header):
     """Linux reads this note in the file, and glibc in memory, where it may be one of several."""
-    note, at = image.bytes_at(header.address, header.in_memory), 16
-    if note != data[header.offset :][: header.in_file] or struct.unpack("<III4s", note[:at]) != (
-            4, len(note) - at, 5, b"GNU\0"):
+    note, place = image.content(header.address, header.in_memory), 16
+    is_only_one = note[:place] == struct.pack("<III4s", 4, len(note) - place, 5, b"GNU")
+    if note != data[header.offset :][: header.in_file] or not is_only_one:
         raise ValueError("a note of properties that is another one in memory than in the file, or is not the only one")
-    while at < len(note):
-        kind, size = struct.unpack_from("<II", note, at)
-        if kind == GUARDS[image.machine] and note[at + 8] & 1:
+    while place < len(note):
+        kind, size = struct.unpack_from("<II", note, place)
+        if kind == GUARDS[image.machine] and note[place + 8] & 1:
             raise ValueError("each function needs a mark (BTI or IBT), which these do not have")
-        at += 8 + up(size, 8)
+        place += 8 + up(size, 8)
 
 
-def _close(image, address, size):
-    """The loader makes whole pages of a segment read-only."""
-    segment = image.segment_at(address)
-    if not segment or segment.kind != WRITTEN or up(segment.address + segment.size, image.page) < address + size:
-        raise ValueError("what is closed after relocations is no part of a segment that is written")
-    image.closed.append((address // image.page * image.page, address + size))
-
-
-def _read_dynamic(image, address, size, kinds):
-    """Reads the loader's table, in a segment of these kinds, up to its end, and what it names."""
-    dynamic, content = {}, image.bytes_at(address, size // 16 * 16, kinds)
+def _read_dynamic(image, header):
+    """Reads the loader's table, in a segment with its flags, up to its end, and what it names."""
+    kinds, dynamic = (WRITTEN,) if header.flags & 2 else FIXED, {}
+    content = image.bytes_at(header.address, header.in_memory // 16 * 16, kinds)
     for tag, value in struct.iter_unpack("<QQ", content):
         if not tag:
             break
@@ -110,74 +102,65 @@ def _read_dynamic(image, address, size, kinds):
         dynamic[tag] = value
     else:
         raise ValueError("the loader's table has no end, or other flags than its segment")
-    _check_tables(image, dynamic)
     _read_relocations(image, dynamic)
-    if len(image.unchanged(address, content)) < len(content):
+    if image.bytes_at(header.address, len(content), kinds) != content:
         raise ValueError("the loader changes its own table")
     # glibc makes the addresses in it absolute.
     if kinds != FIXED:
-        image.change(address, len(content))
+        image.change(header.address, len(content))
     if HASH in dynamic or GNU_HASH in dynamic:
         for name in image.names:
             _read_exported(image, dynamic, name)
 
 
-def _check_tables(image, dynamic):
-    """The loader's tables have to be constant, and those of relocations as glibc and musl both read them."""
-    if not all(image.bytes_at(dynamic[tag], 1) for tag in TABLES if tag in dynamic):
-        raise ValueError("a table for the loader that is written, or is nowhere; patchelf makes such a file")
-    # A loader may read a table as soon as it has one of its tags, and reads whole entries.
-    for *tags, entry in (RELA, RELA_SIZE, 24), (CALLS, CALLS_SIZE, CALLS_KIND, 24), (RELR, RELR_SIZE, 8):
-        if (len(dynamic.keys() & tags) not in (0, len(tags)) or dynamic.get(tags[1], 0) % entry
-                or dynamic.get(CALLS_KIND, RELA) != RELA):
-            raise ValueError("a table of relocations without a size, without a known form, or with a part of an entry")
-    # glibc takes so many for relative ones, whatever they are.
-    kinds = [image.numbers("<I", dynamic[RELA] + 8 + at)[0] for at in range(0, dynamic.get(RELA_SIZE, 0), 24)]
-    count = dynamic.get(RELATIVE_COUNT, 0)
-    if kinds[:count].count(RELATIVE[image.machine]) != count:
-        raise ValueError(f"fewer than {count} relative relocations at the start of their table")
-
-
 def _read_relocations(image, dynamic):
     """What the loader writes: by two tables of places and kinds, and by one of bits for the words after a place."""
+    # A loader may read a table as soon as it has one of its tags.
+    for tags in {RELA, RELA_SIZE, RELA_ENTRY}, {CALLS, CALLS_SIZE, CALLS_KIND}, {RELR, RELR_SIZE, RELR_ENTRY}:
+        if dynamic.keys() & tags not in (set(), tags) or dynamic.get(CALLS_KIND, RELA) != RELA:
+            raise ValueError("a table of relocations without a size, or without a known form")
+    entries = [entry for table, size in ((RELA, RELA_SIZE), (CALLS, CALLS_SIZE)) for entry in struct.iter_unpack(
+        "<QII8x", image.content(dynamic.get(table, 0), dynamic.get(size, 0)))]
+    # glibc takes so many for relative ones, whatever they are.
+    count = dynamic.get(RELATIVE_COUNT, 0)
+    if [kind for _, kind, _ in entries[:count]] != [RELATIVE[image.machine]] * count:
+        raise ValueError(f"fewer than {count} relative relocations at the start of their table")
+    for place, kind, symbol in entries:
+        [size] = image.numbers("<Q", dynamic[SYMBOLS] + 24 * symbol + 16)
+        size = SIZES[image.machine].get(kind, size if kind == COPY[image.machine] else None)
+        if size is None:
+            raise ValueError(f"a relocation of the kind {kind}")
+        if kind:
+            image.change(place, size)
     # glibc writes addresses there for what it binds later.
     for tag, start, size in (PLTGOT, 8, 16), (TLSDESC_GOT, 0, 8):
         if tag in dynamic:
             image.change(dynamic[tag] + start, size)
-    for table, size in (RELA, RELA_SIZE), (CALLS, CALLS_SIZE):
-        for at in range(0, dynamic.get(size, 0), 24):
-            place, kind, symbol = image.numbers("<QII", dynamic[table] + at)
-            if kind == COPY[image.machine]:
-                image.change(place, *image.numbers("<Q", dynamic[SYMBOLS] + 24 * symbol + 16))
-            elif kind not in SIZES[image.machine]:
-                raise ValueError(f"a relocation of the kind {kind}")
-            elif kind:
-                image.change(place, SIZES[image.machine][kind])
     place = 0
-    for at in range(0, dynamic.get(RELR_SIZE, 0), 8):
-        [entry] = image.numbers("<Q", dynamic[RELR] + at)
-        for bit in range(1, 64) if entry & 1 else ():
-            if entry >> bit & 1:
-                image.change(place + 8 * (bit - 1), 8)
-        if not entry & 1:
-            image.change(entry, 8)
-        place = place + 8 * 63 if entry & 1 else entry + 8
+    for [entry] in struct.iter_unpack("<Q", image.content(dynamic.get(RELR, 0), dynamic.get(RELR_SIZE, 0))):
+        place, bits, count = (place, entry >> 1, 63) if entry & 1 else (entry, 1, 1)
+        for number in range(count):
+            if bits >> number & 1:
+                image.change(place + 8 * number, 8)
+        place += 8 * count
 
 
 def _read_exported(image, dynamic, name):
     """Adds a function as the loader finds it, by each table of hashes. Any symbol of this name on the
     loader's way has to be this function."""
-    start = lambda at: dynamic[STRINGS] + image.numbers("<I", dynamic[SYMBOLS] + 24 * at)[0]
-    found = [[at for at in walk(image, dynamic[tag], name.encode())
-              if image.bytes_at(start(at), len(name) + 1) == name.encode() + b"\0"]
-             for tag, walk in ((HASH, _by_hash), (GNU_HASH, _by_gnu_hash)) if tag in dynamic]
-    if not any(found):
+    def is_named(symbol):
+        [start] = image.numbers("<I", dynamic[SYMBOLS] + 24 * symbol)
+        return image.name_of(dynamic[STRINGS] + start) == name
+
+    symbols = [[*filter(is_named, walk(image, dynamic[tag], name.encode()))]
+               for tag, walk in ((HASH, _by_hash), (GNU_HASH, _by_gnu_hash)) if tag in dynamic]
+    if not any(symbols):
         return
-    if len(found[0]) != 1 or found[0] != found[-1]:
+    if len(symbols[0]) != 1 or symbols[0] != symbols[-1]:
         raise ValueError(f"the loader does not find {name} in each of its tables, or finds another symbol, too")
-    [at] = found[0]
-    _, info, other, index, place, _ = image.numbers("<IBBHQQ", dynamic[SYMBOLS] + 24 * at)
-    is_plain = VERSIONS not in dynamic or image.numbers("<H", dynamic[VERSIONS] + 2 * at) == (1,)
+    [symbol] = symbols[0]
+    _, info, other, index, place, _ = image.numbers("<IBBHQQ", dynamic[SYMBOLS] + 24 * symbol)
+    is_plain = VERSIONS not in dynamic or image.numbers("<H", dynamic[VERSIONS] + 2 * symbol) == (1,)
     if info != GLOBAL_FUNCTION or other not in (0, 3) or not 0 < index < RESERVED or not is_plain:
         raise ValueError(f"{name} is no plain function for the loader: another kind, no section, or a version "
                          "(by a version script or --default-symver)")
@@ -186,18 +169,18 @@ def _read_exported(image, dynamic, name):
 
 def _by_hash(image, table, name):
     """The symbols that the loader compares with a name, by DT_HASH."""
-    number, seen = 0, set()
+    number, seen = 0, {0}
     for byte in name:
         number = number * 16 + byte
         number = (number ^ number >> 24 & 0xF0) & 0xFFFFFFF
     buckets, _ = image.numbers("<II", table)
-    [at] = image.numbers("<I", table + 8 + 4 * (number % buckets))
-    while at:
-        if at in seen:
-            raise ValueError("a table of names that has no end")
-        yield at
-        seen.add(at)
-        [at] = image.numbers("<I", table + 8 + 4 * (buckets + at))
+    [symbol] = image.numbers("<I", table + 8 + 4 * (number % buckets))
+    while symbol not in seen:
+        yield symbol
+        seen.add(symbol)
+        [symbol] = image.numbers("<I", table + 8 + 4 * (buckets + symbol))
+    if symbol:
+        raise ValueError("a table of names that has no end")
 
 
 def _by_gnu_hash(image, table, name):
@@ -207,21 +190,21 @@ def _by_gnu_hash(image, table, name):
         number = (number * 33 + byte) & 0xFFFFFFFF
     buckets, first, words, shift = image.numbers("<IIII", table)
     starts = table + 16 + 8 * words
-    [at] = image.numbers("<I", starts + 4 * (number % buckets))
-    if words & words - 1 or shift > 31 or at and at < first:
+    [symbol] = image.numbers("<I", starts + 4 * (number % buckets))
+    if words & words - 1 or shift > 31 or symbol and symbol < first:
         raise ValueError("a table of names that begins before itself, or has no known form")
     [bits] = image.numbers("<Q", table + 16 + 8 * (number // 64 & words - 1))
-    is_last = not (at and bits >> number % 64 & bits >> (number >> shift) % 64 & 1)
+    is_last = not (symbol and bits >> number % 64 & bits >> (number >> shift) % 64 & 1)
     while not is_last:
-        [entry] = image.numbers("<I", starts + 4 * (buckets + at - first))
+        [entry] = image.numbers("<I", starts + 4 * (buckets + symbol - first))
         if (entry ^ number) >> 1 == 0:
-            yield at
-        is_last, at = entry & 1, at + 1
+            yield symbol
+        is_last, symbol = entry & 1, symbol + 1
 
 
 def _read_symbols(image, data, start, count):
     """The names of hidden functions, which no loader reads."""
-    headers = [struct.unpack_from("<IIQQQQIIQQ", data, start + 64 * at) for at in range(count)]
+    headers = [struct.unpack_from("<IIQQQQIIQQ", data, start + 64 * number) for number in range(count)]
     for _, _, _, _, offset, size, link, *_ in (header for header in headers if header[1] == SYMBOL_TABLE):
         strings = data[headers[link][4] :][: headers[link][5]]
         for name, info, _, index, place, _ in struct.iter_unpack("<IBBHQQ", data[offset : offset + size]):

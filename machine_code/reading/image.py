@@ -7,8 +7,6 @@ one is no danger; but a function that the loader finds by a name has to be the o
 is not read.
 """
 
-import bisect
-import functools
 import struct
 from collections import namedtuple
 
@@ -16,7 +14,7 @@ from contracts.names import FUNCTIONS
 
 X86_64, AARCH64 = 62, 183  # processors, by their numbers in ELF
 ALIGNMENT = {X86_64: 1, AARCH64: 4}  # of code
-MOST = 1 << 14  # Code from a place on is read up to the next symbol, or so many bytes.
+MOST = 1 << 14  # Code from a place on is read up to the next symbol, or so many bytes; and so is a name.
 PREFIX = "const_hex_"
 HEADER = {PREFIX + name for name in FUNCTIONS}
 # What a segment is. Code can be read, too.
@@ -31,13 +29,19 @@ def up(address, page):
 
 
 class Image:
-    """A file for a processor. `page` is the greatest page that a system may have, in which no two segments may lie."""
+    """A file, which begins with so many bytes of headers. Its form is a processor, and the greatest page that a system
+    may have, in which no two segments may lie."""
 
-    def __init__(self, machine, page):
+    def __init__(self, form, headers):
+        if not form:
+            raise ValueError("no library and no program for a processor that is known here; an object has to be "
+                             "linked, as machine_code/README.md says")
+        [self.machine, self.page], self.headers = form, headers
         # Where the file begins in memory, and how large it is there.
-        self.machine, self.page, self.segments, self.first, self.size = machine, page, [], 0, 0
-        # The places of each name, and the functions of the header that the loader finds.
-        self.places, self.exported = {}, set()
+        self.segments, self.first, self.size = [], 0, 0
+        # The places of functions of the library, and of what is named after one; all places with a name; and the
+        # functions of the header that the loader finds.
+        self.symbols, self.starts, self.exported = {}, set(), set()
         # The places that the loader writes; and what it makes read-only afterwards.
         self.changed, self.closed = set(), []
 
@@ -46,21 +50,23 @@ class Image:
             raise ValueError(f"two segments that share a page of {self.page} bytes")
         if not in_file <= size < 1 << 62 or len(data) < offset + in_file:
             raise ValueError("a segment that is larger in the file than in memory, or not in it")
+        # A loader takes the headers in memory for those in the file, and counts from there.
+        if not self.segments and (offset or in_file < self.headers):
+            raise ValueError("the headers do not lie at the start of the first segment")
         self.first = self.first if self.segments else address // self.page * self.page
         self.size = address + size - self.first
         self.segments.append(Segment(address, size, data[offset : offset + in_file], kind))
 
-    def add_symbol(self, name, place, is_known=True):
-        """Adds a symbol, if it is of a kind that has a place."""
-        if is_known:
-            self.places.setdefault(name, set()).add(place)
-        elif name.startswith(PREFIX):
-            raise ValueError(f"{name} is a symbol of another kind")
+    def add_symbol(self, name, place, is_plain=True):
+        """Adds a symbol. One of the library has to be of a kind that has a place, and to have no other."""
+        self.starts |= {place} if is_plain else set()
+        if name.startswith(PREFIX) and not (is_plain and self.symbols.setdefault(name, place) == place):
+            raise ValueError(f"{name} is a symbol of another kind, or has two places")
 
     @property
     def names(self):
         """What a loader may be asked for: the functions of the header, and what is proved in this file by its name."""
-        return sorted(HEADER | {name for name in self.places if name.startswith(PREFIX)})
+        return sorted(HEADER | self.symbols.keys())
 
     def add_exported(self, name, place):
         """The loader finds a name."""
@@ -74,72 +80,50 @@ class Image:
             raise ValueError(f"the loader writes to {place:#x}, where nothing is, or what must not be written")
         self.changed |= {*range(place, place + size)}
 
-    def unchanged(self, address, content):
-        """The bytes at an address up to those that the loader writes."""
-        return next((content[:at] for at in range(len(content)) if address + at in self.changed), content)
-
-    @functools.cached_property
-    def symbols(self):
-        """The only place of each function of the library, and of what is named after one."""
-        found = {name: places for name, places in self.places.items() if name.startswith(PREFIX)}
-        for name, places in found.items():
-            if len(places) > 1:
-                raise ValueError(f"{name} has the places {sorted(map(hex, places))}")
-        return {name: place for name, [place] in found.items()}
-
-    @functools.cached_property
-    def starts(self):
-        return sorted({place for places in self.places.values() for place in places})
-
     def segment_at(self, address):
-        return next((it for it in self.segments if it.address <= address < it.address + it.size), None)
+        return next((part for part in self.segments if part.address <= address < part.address + part.size), None)
 
     def bytes_at(self, address, size, kinds=FIXED):
-        """So many bytes of the file at an address, in a segment of these kinds, or fewer."""
+        """So many bytes of the file at an address, in a segment of these kinds; or fewer, up to where it ends, or the
+        loader writes."""
         segment = self.segment_at(address)
-        start = address - segment.address if segment else 0
-        return segment.content[start : start + size] if segment and segment.kind in kinds else b""
+        start = address - segment.address if segment and segment.kind in kinds else 0
+        content = segment.content[start : start + size] if segment and segment.kind in kinds else b""
+        return next((content[:end] for end in range(len(content)) if address + end in self.changed), content)
 
     def numbers(self, form, address, kinds=FIXED):
         """Numbers that the loader reads at an address, where it has written nothing."""
-        content = self.unchanged(address, self.bytes_at(address, struct.calcsize(form), kinds))
+        content = self.bytes_at(address, struct.calcsize(form), kinds)
         if len(content) < struct.calcsize(form):
             raise ValueError(f"what the loader reads at {address:#x} is written, or nowhere")
         return struct.unpack(form, content)
 
+    def content(self, address, size, kinds=FIXED):
+        """So many bytes that the loader reads at an address."""
+        return self.numbers(f"{size}s", address, kinds)[0]
+
+    def name_of(self, address):
+        """The name that the loader reads at an address, up to a zero. Without one, it asks for more than is there."""
+        return self.content(address, self.bytes_at(address, MOST).find(0) % MOST).decode("latin-1")
+
     def read(self, offset, count):
         """The constants at an offset, which may be fewer."""
-        return self.unchanged(self.first + offset, self.bytes_at(self.first + offset, count))
+        return self.bytes_at(self.first + offset, count)
 
     def is_kept(self, address):
         """Whether a byte may change, and is 0 at the start."""
         segment = self.segment_at(address)
         return bool(segment and segment.kind == WRITTEN and not any(self.bytes_at(address, 1, (WRITTEN,)))
-                    and address not in self.changed
-                    and not any(start <= address < end for start, end in self.closed))
+                    and address not in self.changed and not any(address in part for part in self.closed))
 
     def code_at(self, address):
         """The place, and the code from there on, if it is code."""
-        after = bisect.bisect(self.starts, address)
-        end = min([address + MOST, *self.starts[after : after + 1]])
-        found = self.unchanged(address, self.bytes_at(address, end - address, (CODE,)))
-        return (address, found) if found and address % ALIGNMENT[self.machine] == 0 else None
+        end = min([address + MOST, *(start for start in self.starts if start > address)])
+        code = self.bytes_at(address, end - address, (CODE,))
+        return (address, code) if code and address % ALIGNMENT[self.machine] == 0 else None
 
     def name_at(self, address):
         """Where an address is, for messages."""
-        names = {place: name for name, place in self.symbols.items() if place <= address}
-        start = max(names, default=0)
-        return f"{names.get(start, 'the file')}+{address - start:#x}"
-
-
-def whole(read):
-    """A reader of bytes, which refuses those that end too early, or say that something lies where nothing is."""
-
-    @functools.wraps(read)
-    def wrapped(*given):
-        try:
-            return read(*given)
-        except (struct.error, LookupError, ArithmeticError, UnicodeDecodeError, MemoryError) as error:
-            raise ValueError(f"a file that is cut or damaged: {error!r}")
-
-    return wrapped
+        names = [(place, name) for name, place in self.symbols.items() if place <= address]
+        start, name = max(names, default=(0, "the file"))
+        return f"{name}+{address - start:#x}"

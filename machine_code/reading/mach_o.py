@@ -5,12 +5,13 @@ import struct
 
 from reading.image import AARCH64, CODE, CONSTANTS, WRITTEN, X86_64, Image
 
-MACHINES, PAGES = {0x01000007: X86_64, 0x0100000C: AARCH64}, {X86_64: 1 << 12, AARCH64: 1 << 14}
-PROGRAM, LIBRARY = 2, 6
+# By a processor, and whether it is a program or a library.
+FORMS = {(machine, kind): form for kind in (2, 6)
+         for machine, form in ((0x01000007, (X86_64, 1 << 12)), (0x0100000C, (AARCH64, 1 << 14)))}
 # Commands that are read, each once but for segments; and those that are harmless: DYSYMTAB, LOAD_DYLIB, ID_DYLIB,
 # LOAD_DYLINKER, UUID, CODE_SIGNATURE, SPLIT_INFO, VERSION_MIN, FUNCTION_STARTS, DATA_IN_CODE, SOURCE_VERSION,
 # BUILD_VERSION, LOAD_WEAK_DYLIB, RPATH, MAIN.
-SEGMENT, SYMBOLS, INFO, TRIE, FIXUPS = 0x19, 2, (0x22, 0x80000022), 0x80000033, 0x80000034
+SEGMENT, SYMBOLS, INFO, TRIE, FIXUPS = 0x19, 2, 0x80000022, 0x80000033, 0x80000034
 HARMLESS = (0xB, 0xC, 0xD, 0xE, 0x1B, 0x1D, 0x1E, 0x24, 0x26, 0x29, 0x2A, 0x32, 0x80000018, 0x8000001C, 0x80000028)
 # What a segment is, by its protection and its flags. PAGEZERO is nothing.
 CLOSED = "closed after relocations"
@@ -26,7 +27,7 @@ REBASES = [NOTHING, NOTHING, PLACE, MOVE, (0, lambda low: (0, 0, 8 * low)), (0, 
 BINDS = [NOTHING, NOTHING, NUMBER, NOTHING, NAME, NOTHING, NUMBER, PLACE, MOVE, (0, lambda low: (1, 0, 0)), THEN_MOVE,
          (0, lambda low: (1, 0, 8 * low)), TIMES]
 # Chains: no first link in a page, and the forms of links that have the distance to the next one at the same bits.
-NO_LINK, FORMS = 0xFFFF, (2, 6)
+NO_LINK, LINKS = 0xFFFF, (2, 6)
 DEBUG, TYPE, IN_SECTION, RESOLVED = 0xE0, 0xE, 0xE, 0x100  # of symbols
 # Kinds of sections: variables of threads, which dyld writes, and others that are harmless: up to GB_ZEROFILL,
 # 16BYTE_LITERALS, DTRACE_DOF, and from THREAD_LOCAL_REGULAR to INIT_FUNC_OFFSETS. In one it finds what replaces others.
@@ -34,52 +35,54 @@ VARIABLES, HARMLESS_SECTIONS, REPLACING = 0x13, {*range(13), 14, 15, *range(0x11
 
 
 def read(data):
-    machine, _, kind, count = struct.unpack_from("<IIII", data, 4)
-    if machine not in MACHINES or kind not in (PROGRAM, LIBRARY):
-        raise ValueError("no dylib and no program for a processor that is known here")
-    image, at, commands, starts = Image(MACHINES[machine], PAGES[MACHINES[machine]]), 32, {}, []
+    machine, _, kind, count, size = struct.unpack_from("<IIIII", data, 4)
+    image, place, commands, starts, tables = Image(FORMS.get((machine, kind)), 32 + size), 32, {}, [], []
     for _ in range(count):
-        command, size = struct.unpack_from("<II", data, at)
+        command, size = struct.unpack_from("<II", data, place)
         if command == SEGMENT:
-            starts.append(_add_segment(image, data, at))
-        elif command in commands or command not in (SYMBOLS, *INFO, TRIE, FIXUPS, *HARMLESS):
+            starts.append(_add_segment(image, data, place))
+            # dyld finds its tables in the last segment of this name.
+            if data.startswith(b"__LINKEDIT\0", place + 8):
+                tables.append(starts[-1] - struct.unpack_from("<Q", data, place + 40)[0])
+        elif command in commands or command not in (SYMBOLS, INFO, TRIE, FIXUPS, *HARMLESS):
             raise ValueError(f"the command {command:#x}, twice or not known here")
         elif command not in HARMLESS:
-            commands[command] = struct.unpack_from(f"<{size // 4 - 2}I", data, at + 8)
-        at += size
-    if image.segments[0].content[:at] != data[:at]:
-        raise ValueError("the first segment does not begin with the file")
+            commands[command] = struct.unpack_from(f"<{size // 4 - 2}I", data, place + 8)
+        place += size
     # With another set, dyld reads DYSYMTAB, or one of two trees of names.
-    if commands.keys() - {SYMBOLS} not in ({INFO[0]}, {INFO[1]}, {TRIE, FIXUPS}):
+    if commands.keys() - {SYMBOLS} not in ({INFO}, {TRIE, FIXUPS}):
         raise ValueError("tables for dyld that are neither INFO, nor a tree of names and chains")
-    tables = next((commands[tag] for tag in INFO if tag in commands), (0,) * 10)
+    table = lambda start, size: image.content(tables[-1] + start, size)
+    info = commands.get(INFO, (0,) * 10)
     for number, opcodes in enumerate((REBASES, BINDS, BINDS, BINDS)):
-        first, size = tables[2 * number :][:2]
-        _read_opcodes(image, starts, data[first : first + size], opcodes)
+        _read_opcodes(image, starts, table(*info[2 * number :][:2]), opcodes)
     if FIXUPS in commands:
-        first, size = commands[FIXUPS]
-        _read_chains(image, data[first : first + size])
+        _read_chains(image, table(*commands[FIXUPS]))
     first, count, strings, _ = commands.get(SYMBOLS, (0, 0, 0, 0))
-    for at in range(first, first + 16 * count, 16):
-        name, kind, _, flags, place = struct.unpack_from("<IBBHQ", data, at)
+    for symbol in range(first, first + 16 * count, 16):
+        name, kind, _, flags, place = struct.unpack_from("<IBBHQ", data, symbol)
         if not kind & DEBUG and kind & TYPE:
             name = data[strings + name : data.index(b"\0", strings + name)].decode()
             image.add_symbol(name.removeprefix("_"), place, kind & TYPE == IN_SECTION and not flags & RESOLVED)
-    first, size = commands.get(TRIE, tables[8:])
-    for name in image.names if size else ():
-        _read_exported(image, data[first : first + size], name)
+    tree = table(*commands.get(TRIE, info[8:]))
+    for name in image.names if tree else ():
+        _read_exported(image, tree, name)
     return image
 
 
-def _add_segment(image, data, at):
+def _add_segment(image, data, command):
     """Adds a segment, if it is in memory, and gives where it begins."""
-    address, in_memory, offset, in_file, _, protection, count, flags = struct.unpack_from("<QQQQIIII", data, at + 24)
+    address, in_memory, offset, in_file, _, protection, count, flags = struct.unpack_from(
+        "<QQQQIIII", data, command + 24)
     kind = KINDS.get((protection, flags), "unknown")
     if kind == "unknown" or address % image.page or offset % image.page or kind == WRITTEN and in_file % image.page:
         raise ValueError(f"a segment that is {protection}, {flags}, or is no whole pages in the file or in memory")
-    if protection:
+    # dyld counts addresses from the segment of this name.
+    if kind and data.startswith(b"__TEXT\0", command + 8) == bool(image.segments):
+        raise ValueError("the first segment, and no other one, has to be __TEXT")
+    if kind:
         image.add_segment(data, address, in_memory, offset, in_file, kind)
-    for section in range(at + 72, at + 72 + 80 * count, 80):
+    for section in range(command + 72, command + 72 + 80 * count, 80):
         if data[section + 64] not in HARMLESS_SECTIONS or data.startswith(REPLACING, section):
             raise ValueError("a section of a kind that is not known here, or with functions that replace others")
         if data[section + 64] == VARIABLES:
@@ -87,25 +90,25 @@ def _add_segment(image, data, at):
     return address
 
 
-def _number(data, at):
+def _number(data, place):
     """A number of 7 bits in each byte, and the place after it."""
     value = shift = 0
     while True:
-        value, shift, at = value | (data[at] & 127) << shift, shift + 7, at + 1
-        if not data[at - 1] & 128:
-            return value, at
+        value, shift, place = value | (data[place] & 127) << shift, shift + 7, place + 1
+        if not data[place - 1] & 128:
+            return value, place
 
 
 def _read_opcodes(image, starts, table, opcodes):
     """What the loader writes by a table of opcodes."""
-    at = place = 0
-    while at < len(table):
-        opcode, low, at, numbers = opcodes[table[at] >> 4], table[at] & 15, at + 1, []
+    index = place = 0
+    while index < len(table):
+        opcode, low, index, numbers = opcodes[table[index] >> 4], table[index] & 15, index + 1, []
         for _ in range(opcode[0]):
-            number, at = _number(table, at)
+            number, index = _number(table, index)
             numbers.append(number)
         if opcode is NAME:
-            at = table.index(b"\0", at) + 1
+            index = table.index(b"\0", index) + 1
         elif opcode is PLACE:
             place = starts[low] + numbers[0]
         else:
@@ -124,34 +127,36 @@ def _read_chains(image, table):
     [count] = struct.unpack_from("<I", table, start)
     for offset in filter(None, struct.unpack_from(f"<{count}I", table, start + 4)):
         _, page, form, first, _, pages = struct.unpack_from("<IHHQIH", table, start + offset)
-        for at, link in enumerate(struct.unpack_from(f"<{pages}H", table, start + offset + 22)):
-            if form not in FORMS or link >> 15 and link != NO_LINK:
+        for number, link in enumerate(struct.unpack_from(f"<{pages}H", table, start + offset + 22)):
+            if form not in LINKS or link >> 15 and link != NO_LINK:
                 raise ValueError("chains of relocations of a form that is not known here")
-            place, distance = image.first + first + at * page + link, link != NO_LINK
+            place, distance = image.first + first + number * page + link, link != NO_LINK
             while distance:
+                # A link that was written before leads elsewhere.
+                [link] = image.numbers("<Q", place, FIXED_UP)
                 image.change(place, 8, FIXED_UP)
-                link = int.from_bytes(image.bytes_at(place, 8, FIXED_UP), "little")
                 distance = 4 * (link >> 51 & 0xFFF)
                 place += distance
 
 
 def _read_exported(image, tree, name):
     """Adds a function as the loader finds it, which takes the first branch of each node that fits."""
-    at, rest = 0, b"_" + name.encode()
+    place, rest = 0, b"_" + name.encode()
     while True:
-        size, at = _number(tree, at)
+        size, place = _number(tree, place)
         if size and not rest:
-            flags, at = _number(tree, at)
+            flags, place = _number(tree, place)
             if flags:
                 raise ValueError(f"{name} is no plain function for the loader")
-            return image.add_exported(name, image.first + _number(tree, at)[0])
-        at, node = at + size + 1, 0
-        for _ in range(tree[at - 1]):
-            end = tree.index(b"\0", at)
-            to, after = _number(tree, end + 1)
-            if not node and rest.startswith(tree[at:end]):
-                node, rest = to, rest[end - at :]
-            at = after
+            return image.add_exported(name, image.first + _number(tree, place)[0])
+        place, node = place + size + 1, None
+        for _ in range(tree[place - 1]):
+            end = tree.index(b"\0", place)
+            target, after = _number(tree, end + 1)
+            if node is None and rest.startswith(tree[place:end]):
+                node, rest = target, rest[end - place :]
+            place = after
+        # The first node is none that a branch leads to.
         if not node:
             return None
-        at = node
+        place = node

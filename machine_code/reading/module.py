@@ -10,40 +10,22 @@ from collections import namedtuple
 
 SIZES = {"i32": 4, "i64": 8, "v128": 16}
 SPACE, FAIL = 1 << 32, "const_hex_decoder_fail"
-# What a module may have beside functions, data and globals.
-OTHERS = (")", "(module", "(type", '(export "memory" (memory 0))', "(memory (;0;) 1 1)")
-
-
+# What a module may have beside functions, data, globals and exports.
+OTHERS = (")", "(module", "(type", "(memory (;0;) 1 1)")
 Data = namedtuple("Data", "address content")
-
-
-class Function:
-    """A function with this head. Its content is a line for each instruction."""
-
-    def __init__(self, name, address, head, lines):
-        self.name, self.address, self.content = name, address, lines
-        self.parameters, self.results, self.locals = (
-            [SIZES[type_] for part in re.findall(rf"\({kind}([^)]*)\)", head) for type_ in part.split()]
-            for kind in ("param", "result", "local")
-        )
+# The sizes of what it takes, gives and keeps, and a line for each instruction.
+Function = namedtuple("Function", "name address parameters results locals content")
 
 
 class Module:
     """`globals` are their values at the start. Number 0 is the stack pointer, below which the stack lies.
     `mutable` has the numbers of those that may change, and `places` the addresses that it exports."""
 
-    def __init__(self, content):
-        self.content, self.machine, self.functions, self.data = content, None, [], []
+    def __init__(self):
+        self.machine, self.functions, self.data = None, [], []
+        # Where the data lie, which have so many bytes.
+        self.first = self.size = 0
         self.symbols, self.exported, self.globals, self.mutable, self.places = {}, set(), [], set(), {}
-
-    @property
-    def first(self):
-        """Where the data lie, which have so many bytes."""
-        return self.data[0].address
-
-    @property
-    def size(self):
-        return len(self.data[0].content) if self.data else 0
 
     def read(self, offset, count):
         return self.data[0].content[offset : offset + count]
@@ -53,28 +35,20 @@ class Module:
 
     def code_at(self, address):
         """The function with an address."""
-        return next((it for it in self.functions if it.address == address // SPACE * SPACE), None)
+        return next((function for function in self.functions if function.address == address // SPACE * SPACE), None)
 
     def name_at(self, address):
-        function = self.code_at(address)
-        return f"{function.name}+{address - function.address:#x}" if function else hex(address)
-
-    def function_at(self, address):
-        return next(function for function in self.functions if function.address == address)
+        return f"function {address // SPACE - 1}+{address % SPACE:#x}"
 
 
-def parse(content, exported=""):
-    """The module with these bytes, which exports its memory by a name."""
-    command = ["wasm2wat", "--no-debug-names", "-"]
-    made = subprocess.run(command, input=content, capture_output=True)
+def read(data):
+    """The module with these bytes."""
+    made = subprocess.run(["wasm2wat", "--no-debug-names", "-"], input=data, capture_output=True)
     if made.returncode:
         raise ValueError(f"no module: {made.stderr.decode().strip()}")
-    text = made.stdout.decode()
-    if exported and f'(export "{exported}" (memory 0))' not in text:
-        raise ValueError("the memory is not exported")
-    module = Module(content)
+    module = Module()
     # Each part begins in a line with two spaces, and the instructions of a function follow.
-    for part in re.split(r"\n  (?=\()", text.rstrip().removesuffix(")")):
+    for part in re.split(r"\n  (?=\()", made.stdout.decode().rstrip().removesuffix(")")):
         _add(module, part if part.startswith("(data") else re.sub(r" *;;.*", "", part))
     # Local functions have no names. This one is known by its type.
     module.symbols |= {FAIL: function.address for function in module.functions
@@ -84,35 +58,31 @@ def parse(content, exported=""):
 
 def _add(module, part):
     if part.startswith("(func"):
-        _add_function(module, part)
-    elif found := re.fullmatch(r'\(data \(;\d+;\) \(i32\.const (\d+)\) "((\\[0-9a-f]{2}|[^\\])*)"\)', part):
-        _add_data(module, int(found[1]), found[2])
-    elif found := re.search(r"^\(global .*\((i\d\d)\.const (-?\d+)\)\)$", part):
+        module.functions.append(_function(len(module.functions), part))
+    elif fields := re.fullmatch(r'\(data \(;\d+;\) \(i32\.const (\d+)\) "((\\[0-9a-f]{2}|[^\\])*)"\)', part):
+        content = re.sub(rb"\\(..)", lambda code: bytes.fromhex(code[1].decode()), fields[2].encode("ascii"))
+        module.data.append(Data(int(fields[1]), content))
+        module.first, module.size = int(fields[1]), len(content)
+    elif fields := re.search(r"^\(global .*\((i\d\d)\.const (-?\d+)\)\)$", part):
         module.mutable |= {len(module.globals)} if "(mut " in part else set()
-        module.globals.append(int(found[2]) % (1 << 8 * SIZES[found[1]]))
-    elif found := re.fullmatch(r'\(export "(\w+)" \(func (\d+)\)\)', part):
-        module.symbols[found[1]] = module.functions[int(found[2])].address
-        module.exported.add(found[1])
-    elif found := re.fullmatch(r'\(export "(__\w+)" \(global (\d+)\)\)', part):
-        if int(found[2]) in module.mutable:
-            raise ValueError(f"{found[1]}, which the engine may change")
-        module.places[found[1]] = module.globals[int(found[2])]
+        module.globals.append(int(fields[2]) % (1 << 8 * SIZES[fields[1]]))
+    elif fields := re.fullmatch(r'\(export "(\w+)" \(func (\d+)\)\)', part):
+        module.symbols[fields[1]] = module.functions[int(fields[2])].address
+        module.exported.add(fields[1])
+    elif fields := re.fullmatch(r'\(export "(__\w+)" \(global (\d+)\)\)', part):
+        if int(fields[2]) in module.mutable:
+            raise ValueError(f"{fields[1]}, which the engine may change")
+        module.places[fields[1]] = module.globals[int(fields[2])]
+    elif part == '(export "memory" (memory 0))':
+        module.exported.add("memory")
     elif not part.startswith(OTHERS):
         raise ValueError(f"a part of a module that is not known here: {part[:60]}")
 
 
-def _add_function(module, part):
-    lines = re.sub(r"\(;.*?;\)", "", part.removesuffix(")")).split("\n")
-    lines = [line.strip() for line in lines]
+def _function(number, part):
+    lines = [line.strip() for line in re.sub(r"\(;.*?;\)", "", part.removesuffix(")")).split("\n")]
     heads = 1 + (len(lines) > 1 and lines[1].startswith("(local"))
-    number = len(module.functions)
+    sizes = [[SIZES[type_] for types in re.findall(rf"\({kind}([^)]*)\)", " ".join(lines[:heads]))
+              for type_ in types.split()] for kind in ("param", "result", "local")]
     # The end of a function returns.
-    instructions = [*lines[heads:], "return"]
-    function = Function(f"function {number}", SPACE * (number + 1), " ".join(lines[:heads]), instructions)
-    module.functions.append(function)
-
-
-def _add_data(module, place, text):
-    characters = re.findall(r"\\([0-9a-f]{2})|([^\\])", text)
-    content = bytes(int(code, 16) if code else ord(character) for code, character in characters)
-    module.data.append(Data(place, content))
+    return Function(f"function {number}", SPACE * (number + 1), *sizes, [*lines[heads:], "return"])

@@ -79,10 +79,10 @@ def shared(*options, changes=(), more="", compiler=X86_64, script=""):
         texts = {name: (old, new) for name, old, new in changes}
         objects = [member(name, compiler, *texts.get(name, ())) for name in MEMBERS[compiler]]
         objects += [assembled(more.replace("; ", "\n"), compiler)] if more else []
-        for at, content in enumerate(objects):
-            pathlib.Path(folder, f"{at}.o").write_bytes(content)
+        for number, content in enumerate(objects):
+            pathlib.Path(folder, f"{number}.o").write_bytes(content)
         command = [compiler, "-shared", "-nostdlib", "-Wl,-z,relro,-z,now", "-o", "library.so",
-                   *(f"{at}.o" for at in range(len(objects))), *options]
+                   *(f"{number}.o" for number in range(len(objects))), *options]
         subprocess.run(command, check=True, capture_output=True, input=script.encode(), cwd=folder)
         return pathlib.Path(folder, "library.so").read_bytes()
 
@@ -102,18 +102,23 @@ class Elf(File):
     def segments(self):
         """Their headers: place, kind, flags, offset, address, .., size in the file, and in memory."""
         [first], [count] = self.numbers("<Q", 32), self.numbers("<H", 56)
-        return [(at, *self.numbers("<IIQQQQQQ", at)) for at in range(first, first + 56 * count, 56)]
+        return [(place, *self.numbers("<IIQQQQQQ", place)) for place in range(first, first + 56 * count, 56)]
+
+    def header(self, kind):
+        """The header of the first segment of a kind."""
+        return next(row for row in self.segments if row[1] == kind)
 
     def offset(self, address):
         """Where a byte of memory lies in the file."""
-        return next(it[3] + address - it[4] for it in self.segments if it[1] == 1 and it[4] <= address < it[4] + it[6])
+        return next(row[3] + address - row[4] for row in self.segments
+                    if row[1] == 1 and row[4] <= address < row[4] + row[6])
 
     def tag(self, wanted):
         """Where the loader's table has the value of a tag."""
-        [at] = [it[3] for it in self.segments if it[1] == 2]
-        while self.numbers("<Q", at)[0] != wanted:
-            at += 16
-        return at + 8
+        place = self.header(2)[3]
+        while self.numbers("<Q", place)[0] != wanted:
+            place += 16
+        return place + 8
 
     def table(self, tag):
         """Where a table of the loader begins in the file."""
@@ -122,12 +127,17 @@ class Elf(File):
     def symbols(self, name, kinds=(2, 11)):
         """The entries of a name: that of all names is a table of kind 2, and the loader's of kind 11."""
         [first], [count] = self.numbers("<Q", 40), self.numbers("<H", 60)
-        sections = [self.numbers("<IIQQQQIIQQ", at) for at in range(first, first + 64 * count, 64)]
-        return [at for it in sections if it[1] in kinds for at in range(it[4], it[4] + it[5], 24)
-                if self.startswith(name.encode() + b"\0", sections[it[6]][4] + self.numbers("<I", at)[0])]
+        sections = [self.numbers("<IIQQQQIIQQ", place) for place in range(first, first + 64 * count, 64)]
+        return [place for row in sections if row[1] in kinds for place in range(row[4], row[4] + row[5], 24)
+                if self.startswith(name.encode() + b"\0", sections[row[6]][4] + self.numbers("<I", place)[0])]
 
     def value(self, name):
         return self.numbers("<Q", self.symbols(name)[0] + 8)[0]
+
+
+def put(form, place, *values):
+    """A change of what lies at a place of a file. Functions of the file may say where, and to what."""
+    return lambda file: file.put(form, *(value(file) if callable(value) else value for value in (place, *values)))
 
 
 def add_tests(case, check, rows):

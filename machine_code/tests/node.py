@@ -169,7 +169,7 @@ class Node:
         state.memory, state.vectors, state.facts, state.may_leak = [*before], {}, [], False
         state.general = {"global 0": word(self.code.object.globals[0])}
         state.address = self.code.object.symbols[name]
-        state.begin(self.code.object.function_at(state.address), [], z3.BitVec("p_return", 64))
+        state.begin(self.code.object.code_at(state.address), [], z3.BitVec("p_return", 64))
         while after := [way for way in refused_or(step, self.code, state) if way.is_right()]:
             state, = after
         require(state.general["global 0"].eq(word(SIZE)), "another global")

@@ -10,21 +10,25 @@ import tempfile
 import unittest
 
 from reading import image, library
-from tests.library import ASM, MODULE, RUST, File, add_tests, assembled_module, needs_module
+from tests.library import ASM, MODULE, RUST, File, add_tests, assembled_module, needs_module, put
 
 MINGW, LLD = "x86_64-w64-mingw32-gcc", next(map(str, pathlib.Path("/usr/lib").glob("llvm-*/bin/ld64.lld")), "ld64.lld")
 NAMES = sorted(image.HEADER)
+FILL, CONSTANT_OF_FILL = "const_hex_1_0_0_fill_v2", "const_hex_1_0_0_constant_4_v2"
+NO_CONSTANT, NO_CODE, NO_CHOICE = "no constant", "no code", "no byte that is kept"
+NOWHERE, NO_FORM, PLAIN = "is written, or nowhere", "no library and no program", "is no plain function"
+OTHER_KIND, MUST_NOT = "is a symbol of another kind, or has two places", "what must not be written"
 
 
 def read(data, code, constant=None, kept=None):
-    """What is wrong with a file, or with code, a constant, and the byte that is kept in it, which have these names."""
+    """What is wrong with a file, or with code and a constant, which have these names, or with the byte that is kept."""
     try:
-        found = library.whole(data)
-        if not found.code_at(found.symbols[code]):
+        file = library.whole(data)
+        if not file.code_at(file.symbols[code]):
             return NO_CODE
-        if constant and len(found.read(found.symbols[constant] - found.first, 16)) < 16:
+        if constant and len(file.read(file.symbols[constant] - file.first, 16)) < 16:
             return NO_CONSTANT
-        return NO_CHOICE if not all(map(found.is_kept, found.places.get(kept, ()))) else "accepted"
+        return NO_CHOICE if kept and not file.is_kept(kept) else "accepted"
     except ValueError as error:
         return str(error)
 
@@ -38,25 +42,21 @@ class Pe(File):
 
     def section(self, name):
         [count], [size] = self.numbers("<H", self.head + 6), self.numbers("<H", self.head + 20)
-        return next(at for at in range(self.head + 24 + size, self.head + 24 + size + 40 * count, 40)
-                    if self[at : at + 8].rstrip(b"\0") == name.encode())
+        return next(place for place in range(self.head + 24 + size, self.head + 24 + size + 40 * count, 40)
+                    if self[place : place + 8].rstrip(b"\0") == name.encode())
 
     def table(self, number):
         return self.head + 136 + 8 * number
 
     def offset(self, address):
         sections = [self.numbers("<8sIIII", self.section(name)) for name in (".rdata", ".edata", ".idata", ".reloc")]
-        return next(at + address - start for _, size, start, _, at in sections if start <= address < start + size)
+        return next(address - start + place for _, size, start, _, place in sections if start <= address < start + size)
 
     def symbol(self, name):
         """The entry of a name, which is a long one."""
         first, count = self.numbers("<II", self.head + 12)
         start = self.index(b"\0" + name.encode() + b"\0", first + 18 * count) + 1 - first - 18 * count
-        return next(at for at in range(first, first + 18 * count, 18) if self.numbers("<II", at) == (0, start))
-
-    def at(self, number, more=0):
-        """Where a table of the loader lies in the file."""
-        return self.offset(self.numbers("<I", self.table(number))[0]) + more
+        return next(place for place in range(first, first + 18 * count, 18) if self.numbers("<II", place) == (0, start))
 
 
 def linked_for_windows(kernel=""):
@@ -72,140 +72,137 @@ def linked_for_windows(kernel=""):
         return pathlib.Path(folder, "library.dll").read_bytes()
 
 
-def section(name, at, change, form="<I"):
-    return lambda file: file.put(form, file.section(name) + at, *change(*file.numbers(form, file.section(name) + at)))
+def head(form, offset, *values):
+    return put(form, lambda file: file.head + offset, *values)
+
+
+def section(name, offset, change):
+    """A change of a field of a section."""
+    place = lambda file: file.section(name) + offset
+    return put("<I", place, lambda file: change(*file.numbers("<I", place(file))))
+
+
+def content(number, more=0):
+    """Where a table of the loader lies in the file."""
+    return lambda file: file.offset(file.numbers("<I", file.table(number))[0]) + more
+
+
+def number_at(place):
+    return lambda file: file.numbers("<I", place(file))[0]
+
+
+def names(more=0):
+    """Where the file has the addresses of the names of exported functions."""
+    return lambda file: file.offset(number_at(content(0, 32))(file)) + more
 
 
 def place_of(file, name):
-    """Where a section begins, a symbol lies, or without a name the table for threads."""
-    if not name:
-        return file.numbers("<I", file.table(9))[0]
+    """Where a section begins, a symbol lies, or what a function says."""
+    if callable(name):
+        return name(file)
     return file.numbers("<I", file.section(name) + 12)[0] if name[0] == "." else library.read(bytes(file)).symbols[name]
 
 
 def base_relocation(name, more=0, kind=10):
-    """The first relocation writes to a section, or where a symbol lies."""
-
-    def changed(file):
-        place = place_of(file, name) + more
-        file.put("<I", file.at(5), place & ~4095)
-        file.put("<H", file.at(5, 8), kind << 12 | place & 4095)
-
-    return changed
+    """The first relocation writes to a place."""
+    place = lambda file: place_of(file, name) + more
+    return lambda file: (put("<H", content(5, 8), lambda file: kind << 12 | place(file) & 4095)(file),
+                         put("<I", content(5), lambda file: place(file) & ~4095)(file))
 
 
 def imported(name, zeros=0, names=None):
-    """The address of what is imported is written where a symbol lies, perhaps over zeros, or without names."""
+    """The address of what is imported is written to a place, perhaps over zeros, or without names."""
 
     def changed(file):
         place = place_of(file, name)
-        file.put("<I", file.at(1, 16), place)
+        put("<I", content(1, 16), place)(file)
         file.put(f"<{zeros}s", file.offset(place), b"")
-        file.put("<I", file.at(1), *(file.numbers("<I", file.at(1)) if names is None else (names,)))
+        put("<I", content(1), number_at(content(1)) if names is None else names)(file)
 
     return changed
 
 
-def threads(file):
-    """The number of a thread is written over a constant."""
-    file.put("<Q", file.at(9, 16), file.numbers("<Q", file.head + 48)[0] + place_of(file, CONSTANT_OF_FILL))
-
-
-def names_of_exports(change):
-    def changed(file):
-        [names] = file.numbers("<I", file.at(0, 32))
-        change(file, file.offset(names))
-
-    return changed
-
-
-def relocated(file, names):
-    """The loader writes over a name."""
-    base_relocation(".edata", file.numbers("<I", names)[0] + 12 - place_of(file, ".edata"))(file)
-
-
-def exported(place):
-    """The first function that is exported lies at another place."""
-    return lambda file: file.put("<I", file.offset(file.numbers("<I", file.at(0, 28))[0]), place(file))
-
-
-def swapped(file, names):
-    file.put("<II", names, *reversed(file.numbers("<II", names)))
-
-
-def twice(file, names):
-    file.put("<I", names, *file.numbers("<I", names + 4))
-
-
-FILL, CONSTANT_OF_FILL, FLAGS = "const_hex_1_0_0_fill_v2", "const_hex_1_0_0_constant_4_v2", 36
-NO_CONSTANT, NO_CODE, NO_CHOICE = "no constant", "no code", "no byte that is kept"
+# Where the first exported function lies, and what says where the loader writes a number for threads.
+EXPORTED = lambda file: file.offset(number_at(content(0, 28))(file))
+THREADS = lambda file: file.numbers("<I", file.table(9))[0] + 16
 PES = [
     ("nothing", lambda file: None, "accepted"),
-    ("constants that can be written", section(".rdata", FLAGS, lambda old: (old | 1 << 31,)), NO_CONSTANT),
-    ("constants that others have", section(".rdata", FLAGS, lambda old: (old | 1 << 28,)), NO_CONSTANT),
-    ("constants that are not in the file", section(".rdata", FLAGS, lambda old: (old | 0x80,)), NO_CONSTANT),
-    ("code that can be written", section(".text", FLAGS, lambda old: (old | 1 << 31,)), NO_CODE),
-    ("code that is discarded", section(".text", FLAGS, lambda old: (old | 1 << 25,)), NO_CODE),
-    ("code from nowhere in the file", section(".text", 20, lambda old: (0,)), NO_CODE),
-    ("code in a part of the file", section(".text", 20, lambda old: (old + 16,)), "begins in a page"),
-    ("code in a page", section(".text", 12, lambda old: (old + 16,)), "begins in a page"),
-    ("sections in a page", lambda file: file.put("<I", file.head + 56, 512), "begins in a page"),
-    ("parts of the file that are small", lambda file: file.put("<I", file.head + 60, 16), "begins in a page"),
-    ("sections that meet", section(".rdata", 12, lambda old: (4096,)), "share a page"),
-    ("a configuration", lambda file: file.put("<II", file.table(10), 4096, 320), "a table for the loader"),
-    ("imports that are delayed", lambda file: file.put("<II", file.table(13), 4096, 32), "a table for the loader"),
+    ("constants that can be written", section(".rdata", 36, lambda flags: flags | 1 << 31), NO_CONSTANT),
+    ("constants that are not in the file", section(".rdata", 36, lambda flags: flags | 0x80), NO_CONSTANT),
+    ("code that can be written", section(".text", 36, lambda flags: flags | 1 << 31), NO_CODE),
+    ("code from nowhere in the file", section(".text", 20, lambda old: 0), NO_CODE),
+    ("code in a part of the file", section(".text", 20, lambda old: old + 16), "begins in a page"),
+    ("code in a page", section(".text", 12, lambda old: old + 16), "begins in a page"),
+    # The loader reads the whole part, so a byte that seems to be 0 is another one.
+    ("a section that ends in a part of the file", section(".data", 16, lambda old: 16), "ends in a part"),
+    ("sections over the headers", head("<I", 84, 4097), "share a page"),
+    ("sections in a page", head("<I", 56, 512), "begins in a page"),
+    ("parts of the file that are small", head("<I", 60, 16), "begins in a page"),
+    ("sections that meet", section(".rdata", 12, lambda old: 4096), "share a page"),
+    ("a configuration", put("<II", lambda file: file.table(10), 4096, 320), "a table for the loader"),
+    ("fewer tables than are read", head("<I", 132, 8), "a table for the loader"),
     ("a relocation of constants", base_relocation(CONSTANT_OF_FILL), NO_CONSTANT),
-    ("a relocation of code", base_relocation(FILL), NO_CODE),
     ("a relocation of an unknown kind", base_relocation(".rdata", 0, 3), "a relocation of the kind 3"),
-    ("a relocation of the relocations", base_relocation(".reloc"), "is written, or nowhere"),
-    ("a relocation of imports", base_relocation(".idata"), "is written, or nowhere"),
-    ("a relocation of exports", base_relocation(".edata", 16), "is written, or nowhere"),
-    ("relocations without an end", lambda file: file.put("<I", file.at(5, 4), 0), "cut or damaged|without an end"),
-    ("imports over constants", imported(CONSTANT_OF_FILL), NO_CONSTANT),
-    ("a number for threads over a constant", threads, NO_CONSTANT),
-    ("a number for threads at an unknown place", base_relocation(None, 20), "at an unknown place"),
-    ("no imports", lambda file: file.put("<II", file.table(1), 0, 0), "accepted"),
+    ("a relocation of the relocations", base_relocation(".reloc"), NOWHERE),
+    ("a relocation of the headers", base_relocation(lambda file: 256), MUST_NOT),
+    ("a relocation of exports", base_relocation(".edata", 16), NOWHERE),
+    ("relocations without an end", put("<I", content(5, 4), 0), "cut or damaged"),
+    ("a number for threads over a constant", put("<Q", content(9, 16), lambda file: (
+        file.numbers("<Q", file.head + 48)[0] + place_of(file, CONSTANT_OF_FILL))), NO_CONSTANT),
+    ("a number for threads at an unknown place", base_relocation(THREADS, 4), "twice"),
+    ("a number for threads where an import says", imported(THREADS), "twice"),
+    ("a number for threads that is not relocated",
+     lambda file: imported(THREADS)(file) or file.put("<II", file.table(5), 0, 0), "twice"),
+    ("no imports", put("<II", lambda file: file.table(1), 0, 0), "accepted"),
     ("imports over zeros", imported(CONSTANT_OF_FILL, zeros=16), NO_CONSTANT),
     ("imports without names", imported(CONSTANT_OF_FILL, names=0), NO_CONSTANT),
-    ("functions beyond their table", lambda file: file.put("<I", file.at(0, 20), 0), "no plain function"),
-    ("an absolute name", lambda file: file.put("<h", file.symbol(FILL) + 12, -1), "a symbol of another kind"),
-    ("a name of another kind", lambda file: file.put("<B", file.symbol(FILL) + 16, 104), "a symbol of another kind"),
-    ("another form of programs", lambda file: file.put("<2s", file.head, b"NE"), "no DLL and no program"),
-    ("another processor", lambda file: file.put("<H", file.head + 4, 0x14C), "no DLL and no program"),
-    ("names that are not sorted", names_of_exports(swapped), "not sorted"),
-    ("a name that is relocated", names_of_exports(relocated), "is written, or nowhere"),
-    ("a name twice", names_of_exports(twice), "not sorted"),
-    ("a name that is missing", lambda file: file.put("<I", file.at(0, 24), 9), "does not find const_hex_version"),
-    ("a function of another file", exported(lambda file: file.numbers("<I", file.table(0))[0] + 40),
-     "no plain function"),
-    ("another function by a name", exported(lambda file: 4096), "has the places"),
-    ("a file of 32 bits", lambda file: file.put("<H", file.head + 24, 0x10B), "no DLL and no program of 64 bits"),
+    ("functions beyond their table", put("<I", content(0, 20), 0), PLAIN),
+    ("an absolute name", put("<h", lambda file: file.symbol(FILL) + 12, -1), OTHER_KIND),
+    ("a name of another kind", put("<B", lambda file: file.symbol(FILL) + 16, 104), OTHER_KIND),
+    ("another form of programs", head("<2s", 0, b"NE"), NO_FORM),
+    ("another processor", head("<H", 4, 0x14C), NO_FORM),
+    ("a file of 32 bits", head("<H", 24, 0x10B), NO_FORM),
+    ("names that are not sorted", put("<II", names(), number_at(names(4)), number_at(names())), "not sorted"),
+    ("a name twice", put("<I", names(), number_at(names(4))), "not sorted"),
+    ("a name that is relocated", base_relocation(number_at(names()), 12), NOWHERE),
+    ("a name that is missing", put("<I", content(0, 24), 9), "does not find const_hex_version"),
+    ("a function of another file", put("<I", EXPORTED, lambda file: file.numbers("<I", file.table(0))[0] + 40), PLAIN),
+    ("another function by a name", put("<I", EXPORTED, 4096), OTHER_KIND),
 ]
 
 
 class MachO(File):
     def commands(self, wanted):
-        at, found = 32, []
+        place, commands = 32, []
         for _ in range(self.numbers("<I", 16)[0]):
-            command, size = self.numbers("<II", at)
-            found += [at] if command == wanted else []
-            at += size
-        return found
+            command, size = self.numbers("<II", place)
+            commands += [place] if command == wanted else []
+            place += size
+        return commands
 
     def segment(self, name):
-        return next(at for at in self.commands(0x19) if self[at + 8 : at + 24].rstrip(b"\0") == name.encode())
+        return next(place for place in self.commands(0x19) if self.startswith(name.encode() + b"\0", place + 8))
 
     def symbol(self, name):
-        [at] = self.commands(2)
-        first, count, strings, _ = self.numbers("<IIII", at + 8)
-        return next(at for at in range(first, first + 16 * count, 16)
-                    if self.startswith(name.encode() + b"\0", strings + self.numbers("<I", at)[0]))
+        [place] = self.commands(2)
+        first, count, strings, _ = self.numbers("<IIII", place + 8)
+        return next(symbol for symbol in range(first, first + 16 * count, 16)
+                    if self.startswith(name.encode() + b"\0", strings + self.numbers("<I", symbol)[0]))
+
+    def value(self, name):
+        return self.numbers("<Q", self.symbol(name) + 8)[0]
+
+    def append(self, content):
+        """More of the last segment, with its place and size."""
+        place, start = len(self), self.segment("__LINKEDIT")
+        self += content
+        self.put("<Q", start + 32, len(self))
+        self.put("<Q", start + 48, len(self) - self.numbers("<Q", start + 40)[0])
+        return place, len(content)
 
     def add(self, command, content):
         """What stands after all is named by a command, in the place of LC_FUNCTION_STARTS."""
-        [at] = self.commands(0x26)
-        self.put("<IIII", at, command, 16, len(self), len(content))
-        self += content
+        self.put("<IIII", *self.commands(0x26), command, 16, *self.append(content))
 
 
 def linked_for_macos(processor):
@@ -223,34 +220,35 @@ def linked_for_macos(processor):
         return pathlib.Path(folder, "library.dylib").read_bytes()
 
 
-def segment(name, at, *values, form="<II"):
-    return lambda file: file.put(form, file.segment(name) + at, *values)
+def segment(name, offset, form, *values):
+    return put(form, lambda file: file.segment(name) + offset, *values)
 
 
-def opcodes(number, *table, to="choice"):
+def symbol(form, offset, new):
+    return put(form, lambda file: file.symbol(VERSION) + offset, new)
+
+
+def opcodes(number, *numbers, to="choice"):
     """One of the tables of opcodes, by its number, in which the first opcode is for a segment and a place in it."""
 
     def changed(file):
-        names = [file[at + 8 : at + 24].rstrip(b"\0").decode() for at in file.commands(0x19)]
+        names = [file[place + 8 : place + 24].rstrip(b"\0").decode() for place in file.commands(0x19)]
         name = "__DATA" if to == "choice" else "__TEXT"
-        [place], [start] = file.numbers("<Q", file.symbol(to) + 8), file.numbers("<Q", file.segment(name) + 24)
-        offset, index, [at] = place // 8 * 8 - start, names.index(name), file.commands(0x80000022)
-        content = bytes([(0x70 if number else 0x20) | index, offset & 127 | 128, offset >> 7, *table])
-        file.put("<II", at + 8 + 8 * number, len(file), len(content))
-        file += content
+        offset = file.value(to) // 8 * 8 - file.numbers("<Q", file.segment(name) + 24)[0]
+        first = (0x70 if number else 0x20) | names.index(name), offset & 127 | 128, offset >> 7
+        file.put("<II", file.commands(0x80000022)[0] + 8 + 8 * number, *file.append(bytes([*first, *numbers])))
 
     return changed
 
 
-def chain(place, form=6, flag=0):
-    """A chain with one link, at a place of a segment."""
+def chain(place, form=6, flag=0, again=0):
+    """A chain with one link, at a place of a segment, perhaps twice."""
 
     def changed(file):
-        [first], [value] = file.numbers("<Q", file.segment("__DATA") + 24), file.numbers("<Q", file.symbol(place) + 8)
-        page = value // 4096 * 4096
-        starts = struct.pack("<IIIIIHHQIHH", 3, 0, 16, 0, 24, 4096, form, page, 0, 1, value % 4096 // 8 * 8 | flag)
-        [at] = file.commands(0x80000022)
-        file.put("<IIIIII", at, 0x80000033, 16, *file.numbers("<II", at + 40), 0x2A, 32)
+        value, [info] = file.value(place), file.commands(0x80000022)
+        starts = struct.pack("<IIIIIHHQIHH", 3, 0, 16, again, 24, 4096, form, value // 4096 * 4096, 0, 1,
+                             value % 4096 // 8 * 8 | flag)
+        file.put("<IIIIII", info, 0x80000033, 16, *file.numbers("<II", info + 40), 0x2A, 32)
         file.add(0x80000034, struct.pack("<IIIIIII", 0, 28, 0, 0, 0, 0, 0) + starts)
 
     return changed
@@ -260,97 +258,85 @@ def tree(change):
     """The tree of names has one branch for each, as an edge and what stands in its node, of which some are changed."""
 
     def changed(file):
-        [at] = file.commands(0x80000022)
-        names = {f"_{name}": file.numbers("<Q", file.symbol(f"_{name}") + 8)[0] for name in NAMES}
         # dyld takes the first edge that fits, so a name stands before its beginning.
         edges = [(name, bytes([4, 0, place & 127 | 128, place >> 7 & 127 | 128, place >> 14]))
-                 for name, place in sorted(names.items(), reverse=True)]
+                 for name, place in ((f"_{name}", file.value(f"_{name}")) for name in reversed(NAMES))]
         change(edges)
         content, nodes = bytes([0, len(edges)]), sum(len(name) + 3 for name, _ in edges) + 2
         for name, node in edges:
-            content += name.encode() + bytes([0, nodes & 127 | 128, nodes >> 7])
-            nodes += len(node) + 1
-        content += b"".join(node + b"\0" for _, node in edges)
-        file.put("<II", at + 40, len(file), len(content))
-        file += content
+            content += name.encode() + (bytes([0, nodes & 127 | 128, nodes >> 7]) if node else b"\0\x80\0")
+            nodes += len(node) + bool(node)
+        content += b"".join(node + b"\0" for _, node in edges if node)
+        file.put("<II", file.commands(0x80000022)[0] + 40, *file.append(content))
 
     return changed
 
 
-def to_nothing(edges):
+def first_node(change):
+    """Another node at the end of the first branch."""
+    return tree(lambda edges: edges.__setitem__(0, (edges[0][0], change(*(node for _, node in edges[:2])))))
+
+
+def to_nothing(node):
     """The first branch that fits has none of the rest, which another one has."""
-    edges.append(("ersion", edges[0][1]))
-    edges.insert(0, ("_const_hex_v", b"\0"))
+    return tree(lambda edges: edges.append(("ersion", edges[0][1])) or edges.insert(0, ("_const_hex_v", node)))
 
 
-def with_flags(flags):
-    return lambda edges: edges.__setitem__(0, (edges[0][0], edges[0][1][:1] + bytes([flags]) + edges[0][1][2:]))
-
-
+VERSION, TABLES, NOT_FOUND = "_const_hex_version", "neither INFO, nor", "does not find const_hex_version"
+REPLACE, PAGES, FUNCTION_STARTS = "that replace others", "no whole pages", lambda file: file.commands(0x26)[0]
+# For x86-64, if nothing else is said.
 MACH_OS = [
-    ("nothing", "x86_64", lambda file: None, "accepted"),
-    ("nothing", "arm64", lambda file: None, "accepted"),
-    ("a program", "x86_64", lambda file: file.put("<I", 12, 2), "accepted"),
-    ("another processor", "x86_64", lambda file: file.put("<I", 4, 7), "no dylib and no program"),
-    ("an unknown command", "x86_64", lambda file: file.put("<I", file.commands(0x26)[0], 0x2C), "the command 0x2c"),
-    # Of two tables of symbols, linkers take the first.
-    ("a second table of symbols", "x86_64", lambda file: file.put("<I", file.commands(0x26)[0], 2),
-     "the command 0x2,"),
-    ("a second tree of names", "x86_64", lambda file: file.add(0x80000033, bytes(8)), "neither INFO, nor"),
-    ("no tables", "x86_64", lambda file: file.put("<I", file.commands(0x80000022)[0], 0x2A), "neither INFO, nor"),
-    ("functions that replace others", "x86_64", segment("__DATA", 136, 13, form="<B"), "that replace others"),
-    ("a name of those that replace others", "x86_64", segment("__DATA", 72, b"__interpose", form="<16s"),
-     "that replace others"),
-    ("a choice in a variable of threads", "x86_64", segment("__DATA", 216, 0x13, form="<B"), NO_CHOICE),
-    ("code that can be written", "x86_64", segment("__TEXT", 56, 7, 7), "a segment that is 7"),
-    ("constants that cannot be read", "x86_64", segment("__TEXT", 56, 4, 4), "a segment that is 4"),
-    ("code that is encrypted", "x86_64", segment("__TEXT", 68, 8, form="<I"), "a segment that is 5, 8"),
-    ("a choice that is closed", "x86_64", segment("__DATA", 68, 16, form="<I"), NO_CHOICE),
-    ("a segment in a page", "x86_64", segment("__DATA", 24, 0x4010, form="<Q"), "no whole pages"),
-    ("a segment in a page of the file", "x86_64", segment("__DATA", 40, 0x4010, form="<Q"), "no whole pages"),
-    ("a segment that ends in a page", "x86_64", segment("__DATA", 48, 16, form="<Q"), "no whole pages"),
-    ("pages of 16 KB", "arm64", segment("__DATA", 24, 0x5000, form="<Q"), "no whole pages"),
-    ("code from elsewhere in the file", "x86_64", segment("__TEXT", 40, 4096, form="<Q"), "does not begin with"),
-    ("relocations of the choice", "x86_64", opcodes(0, 0x51), NO_CHOICE),
-    ("many relocations", "x86_64", opcodes(0, 0x60, 2), NO_CHOICE),
-    ("relocations with a distance", "x86_64", opcodes(0, 0x70, 8), NO_CHOICE),
-    ("relocations with gaps", "x86_64", opcodes(0, 0x80, 2, 8), NO_CHOICE),
-    ("a move before a relocation", "x86_64", opcodes(0, 0x30, 8, 0x41, 0x51), "accepted"),
-    ("relocations without an end", "x86_64", opcodes(0, 0x60, 255, 255, 255, 127), "without an end"),
-    ("a relocation of code", "x86_64", opcodes(0, 0x51, to="_const_hex_version"), "what must not be written"),
-    ("a binding of the choice", "x86_64", opcodes(1, 0x11, 0x20, 1, 0x40, 95, 0, 0x51, 0x60, 1, 0x90),
-     NO_CHOICE),
-    ("a binding with a distance", "x86_64", opcodes(2, 0xA0, 8), NO_CHOICE),
-    ("a binding with words", "x86_64", opcodes(3, 0xB1), NO_CHOICE),
-    ("bindings with gaps", "x86_64", opcodes(1, 0xC0, 2, 8), NO_CHOICE),
-    ("a binding of code", "x86_64", opcodes(1, 0x90, to="_const_hex_version"), "what must not be written"),
-    ("a chain over the choice", "x86_64", chain("choice"), NO_CHOICE),
-    ("a chain over code", "x86_64", chain("_const_hex_version"), "what must not be written"),
-    ("a chain of an unknown form", "x86_64", chain("choice", 1), "of a form that is not known"),
-    ("a page without a chain", "x86_64", chain("choice", flag=0xFFFF), "accepted"),
-    ("many chains in a page", "x86_64", chain("choice", flag=0x8000), "of a form that is not known"),
-    ("a tree of names", "x86_64", tree(lambda edges: None), "accepted"),
-    ("a branch to nothing", "x86_64", tree(to_nothing), "does not find const_hex_version"),
-    ("a branch without a function", "x86_64", tree(lambda edges: edges.__setitem__(0, (edges[0][0], b"\0"))),
-     "does not find const_hex_version"),
-    ("a branch that is missing", "x86_64", tree(lambda edges: edges.pop(0)), "does not find const_hex_version"),
-    ("a function of another library", "x86_64", tree(with_flags(8)), "is no plain function"),
-    ("a function that others may replace", "x86_64", tree(with_flags(4)), "is no plain function"),
-    ("a function that dyld picks", "x86_64", tree(with_flags(16)), "is no plain function"),
-    ("another function in the tree", "x86_64", tree(lambda edges: edges.__setitem__(0, (edges[0][0], edges[1][1]))),
-     "has the places"),
-    ("a name for a debugger", "x86_64", lambda file: file.put("<B", file.symbol("_const_hex_version") + 4, 0x24),
-     "accepted"),
-    ("a name from elsewhere", "x86_64", lambda file: file.put("<B", file.symbol("_const_hex_version") + 4, 1),
-     "accepted"),
-    ("a name that is picked", "x86_64", lambda file: file.put("<H", file.symbol("_const_hex_version") + 6, 0x100),
-     "a symbol of another kind"),
-    ("an absolute name", "x86_64", lambda file: file.put("<B", file.symbol("_const_hex_version") + 4, 3),
-     "a symbol of another kind"),
-    ("another function by a name", "x86_64", lambda file: file.put(
-        "<Q", file.symbol("_const_hex_version") + 8, *file.numbers("<Q", file.symbol("_const_hex_check") + 8)),
-     "has the places"),
-    ("an object", "x86_64", lambda file: file.put("<I", 12, 1), "no dylib and no program"),
+    ("nothing", lambda file: None, "accepted"),
+    ("nothing for arm64", lambda file: None, "accepted", "arm64"),
+    ("a program", put("<I", 12, 2), "accepted"),
+    ("an object", put("<I", 12, 1), NO_FORM),
+    ("another processor", put("<I", 4, 7), NO_FORM),
+    ("an unknown command", put("<I", FUNCTION_STARTS, 0x2C), "the command 0x2c"),
+    ("a second table of symbols", put("<I", FUNCTION_STARTS, 2), "the command 0x2,"),
+    ("a second tree of names", lambda file: file.add(0x80000033, bytes(8)), TABLES),
+    ("tables for dyld that are written", lambda file: file.append(bytes(-len(file) % 4096)) and segment(
+        "__LINKEDIT", 56, "<II", 3, 3)(file), NOWHERE),
+    ("functions that replace others", segment("__DATA", 136, "<B", 13), REPLACE),
+    ("a name of those that replace others", segment("__DATA", 72, "<16s", b"__interpose"), REPLACE),
+    ("a choice in a variable of threads", segment("__DATA", 216, "<B", 0x13), NO_CHOICE),
+    ("code that can be written", segment("__TEXT", 56, "<II", 7, 7), "a segment that is 7"),
+    ("code that is encrypted", segment("__TEXT", 68, "<I", 8), "a segment that is 5, 8"),
+    ("a segment by the name of the first one", segment("__DATA", 8, "<16s", b"__TEXT"), "has to be __TEXT"),
+    ("a choice that is closed", segment("__DATA", 68, "<I", 16), NO_CHOICE),
+    ("a segment in a page", segment("__DATA", 24, "<Q", 0x4010), PAGES),
+    ("a segment in a page of the file", segment("__DATA", 40, "<Q", 0x4010), PAGES),
+    ("a segment that ends in a page", segment("__DATA", 48, "<Q", 16), PAGES),
+    ("pages of 16 KB", segment("__DATA", 24, "<Q", 0x5000), PAGES, "arm64"),
+    ("code from elsewhere in the file", segment("__TEXT", 40, "<Q", 4096), "start of the first"),
+    ("relocations of the choice", opcodes(0, 0x51), NO_CHOICE),
+    ("many relocations", opcodes(0, 0x60, 2), NO_CHOICE),
+    ("relocations with a distance", opcodes(0, 0x70, 8), NO_CHOICE),
+    ("relocations with gaps", opcodes(0, 0x80, 2, 8), NO_CHOICE),
+    ("a move before a relocation", opcodes(0, 0x30, 8, 0x41, 0x51), "accepted"),
+    ("relocations without an end", opcodes(0, 0x60, 255, 255, 255, 127), "without an end"),
+    ("a relocation of code", opcodes(0, 0x51, to=VERSION), MUST_NOT),
+    ("a binding of the choice", opcodes(1, 0x11, 0x20, 1, 0x40, 95, 0, 0x51, 0x60, 1, 0x90), NO_CHOICE),
+    ("a binding with a distance", opcodes(2, 0xA0, 8), NO_CHOICE),
+    ("a binding with words", opcodes(3, 0xB1), NO_CHOICE),
+    ("bindings with gaps", opcodes(1, 0xC0, 2, 8), NO_CHOICE),
+    ("a chain over the choice", chain("choice"), NO_CHOICE),
+    ("a chain over code", chain(VERSION), NOWHERE),
+    ("a chain of an unknown form", chain("choice", 1), "of a form that is not known"),
+    ("a link that is written before", chain("choice", again=16), NOWHERE),
+    ("a page without a chain", chain("choice", flag=0xFFFF), "accepted"),
+    ("many chains in a page", chain("choice", flag=0x8000), "of a form that is not known"),
+    ("a tree of names", tree(lambda edges: None), "accepted"),
+    ("a branch to nothing", to_nothing(b"\0"), NOT_FOUND),
+    ("a branch to the first node", to_nothing(b""), NOT_FOUND),
+    ("a branch without a function", first_node(lambda node, other: b"\0"), NOT_FOUND),
+    ("a branch that is missing", tree(lambda edges: edges.pop(0)), NOT_FOUND),
+    ("a function of another library", first_node(lambda node, other: node[:1] + b"\x08" + node[2:]), PLAIN),
+    ("another function in the tree", first_node(lambda node, other: other), OTHER_KIND),
+    ("a name for a debugger", symbol("<B", 4, 0x24), "accepted"),
+    ("a name from elsewhere", symbol("<B", 4, 1), "accepted"),
+    ("a name that is picked", symbol("<H", 6, 0x100), OTHER_KIND),
+    ("an absolute name", symbol("<B", 4, 3), OTHER_KIND),
+    ("another function by a name", symbol("<Q", 8, lambda file: file.value("_const_hex_check")), OTHER_KIND),
 ]
 # What a module has beside the package's functions.
 MODULES = [
@@ -361,10 +347,10 @@ MODULES = [
     ("a table of functions", "(table 1 funcref) (elem (i32.const 0) 0)", "not known here: (table"),
     ("a second name for the memory", '(export "more" (memory 0))', "not known here: (export"),
     ("data that are written later", '(data "more")', "not known here: (data"),
-    ("an exported function of another name", ("const_hex_encode", "const_hex_encodf"), "the export 'const_hex_encod"),
     ("another function by a name", ('"const_hex_decoder_finish" (func 8)', '"const_hex_decoder_finisi" (func 8)'),
      "the export 'const_hex_decoder_finis"),
     ("an import", ("(module\n", '(module (import "js" "table" (table 1 funcref))\n'), "not known here: (import"),
+    ("no memory", ('(export "memory" (memory 0))', ""), "the export 'memory'"),
     ("a memory that grows", ("(memory (;0;) 1 1)", "(memory (;0;) 1 2)"), "not known here: (memory"),
 ]
 
@@ -381,8 +367,8 @@ class TestPe(unittest.TestCase):
         self.assertRegex(read(bytes(file), FILL, CONSTANT_OF_FILL), wanted)
 
     def test_another_function_by_the_name_of_a_kernel(self):
-        with self.assertRaisesRegex(ValueError, f"{FILL} has the places"):
-            library.whole(linked_for_windows(FILL)).symbols
+        with self.assertRaisesRegex(ValueError, f"{FILL} {OTHER_KIND}"):
+            library.whole(linked_for_windows(FILL))
 
 
 @unittest.skipUnless(shutil.which(LLD) and shutil.which("clang"), "clang or ld64.lld is missing")
@@ -391,21 +377,27 @@ class TestMachO(unittest.TestCase):
     def setUpClass(cls):
         cls.right = {processor: linked_for_macos(processor) for processor in ("x86_64", "arm64")}
 
-    def refuse(self, processor, change, wanted):
+    def refuse(self, change, wanted, processor="x86_64"):
         file = MachO(self.right[processor])
+        choice = file.value("choice") if processor == "x86_64" else None
         change(file)
-        self.assertRegex(read(bytes(file), "const_hex_version", kept="choice"), wanted)
+        self.assertRegex(read(bytes(file), "const_hex_version", kept=choice), wanted)
 
 
 class TestModules(unittest.TestCase):
+    @needs_module
+    def test_a_module_that_is_cut(self):
+        with self.assertRaisesRegex(ValueError, "no module"):
+            library.whole(library.MODULE)
+
     @needs_module
     def refuse(self, change, wanted):
         command = ["wasm2wat", "--no-debug-names", MODULE]
         text = subprocess.run(command, check=True, capture_output=True, text=True).stdout
         old, new = change if type(change) is tuple else (")\n", f"{change})\n")
-        at = text.rindex(old)
+        start = text.rindex(old)
         with self.assertRaisesRegex(ValueError, re.escape(wanted)):
-            library.whole(assembled_module(text[:at] + new + text[at + len(old) :]))
+            library.whole(assembled_module(text[:start] + new + text[start + len(old) :]))
 
 
 add_tests(TestPe, TestPe.refuse, PES)

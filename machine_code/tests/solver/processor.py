@@ -61,7 +61,7 @@ class Processor:
         found = library.read(content)
         symbol = next(symbol for symbol in found.symbols if re.fullmatch(function, symbol))
         self.code = Code(content, PROCESSORS, symbol, {})
-        for start in found.starts:
+        for start in sorted(found.starts):
             self.code.instructions[start]  # which reads them
         self.meanings = self.code.processor
         name = self.meanings.__name__.rpartition(".")[2]
