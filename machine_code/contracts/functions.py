@@ -95,8 +95,8 @@ class Function:
 
     is_called = is_local = may_leak = is_unrolled = False
     is_in_module = True
-    # Whether it may use what is kept between calls, which is no secret then.
-    is_keeping = False
+    # Whether it may use what is kept between calls, which is no secret then; and whether every input is valid.
+    is_keeping = is_any_valid = False
     is_digit = staticmethod(is_digit)
     regions = empty = requires = ()
     name = "every call"
@@ -149,7 +149,8 @@ class Function:
 
     def valid(self, state):
         """What a valid input is, for constant time: the digits of the text are digits."""
-        return [is_digit(name) for offset, name in state.input.values() if state.holds(z3.UGE(offset, state.body))]
+        return [is_digit(name) for offset, name in state.input.values()
+                if not self.is_any_valid and state.holds(z3.UGE(offset, state.body))]
 
 
 def by_prefix(state, start=word(0), length=N, least=2):

@@ -53,12 +53,10 @@ def split(term):
 
 def chosen(table, index):
     """The entry that the lowest bits of an index choose, of a table whose length is a power of two up to 256."""
-    if len(table) == 1:
-        return table[0]
-    half = len(table) // 2
-    one, other = chosen(table[:half], index), chosen(table[half:], index)
-    bit = half.bit_length() - 1
-    return one if one.eq(other) else z3.If(z3.Extract(bit, bit, index) == 1, other, one)
+    for bit in range(len(table).bit_length() - 1):
+        is_set = z3.Extract(bit, bit, index) == 1
+        table = [one if one.eq(other) else z3.If(is_set, other, one) for one, other in zip(table[::2], table[1::2])]
+    return table[0]
 
 
 class Region:
@@ -293,8 +291,8 @@ class State:
 
     def must_equal(self, value, wanted, message):
         """That two values are the same, where bytes of the input are the same that have the same offset."""
-        about = names(value == wanted)
-        used = [(offset, name) for offset, name in self.input.values() if name.decl().name() in about]
+        about = {*names(value == wanted)}
+        used = [(offset, name) for offset, name in self.input.values() if about.issuperset(names(name))]
         same = [fact for (first, one), (second, other) in itertools.combinations(used, 2)
                 if self.holds(first == second) for fact in facts_of(one == other)]
         require(holds(self.facts + same, value == wanted, self.near), message)
@@ -314,18 +312,19 @@ class State:
         wanted = self.contract.is_digit(character) == is_digit
         return is_impossible([*relevant(self.facts, wanted, 0), z3.Not(wanted)])
 
-    def with_digits(self, offset, count, are_named=True):
+    def with_digits(self, offset, count):
         """This state where a part of the input has digits alone, or None if it can't: what is known to be no digit lies
-        elsewhere, and what is known to lie in the part is a digit, which is left out where no names are asked for."""
+        elsewhere, and what is known to lie in the part is a digit."""
         other, offset, count = self.copy(), simple(offset), simple(count)
         other.reads.append((offset, count))
         other.digits[offset, count] = True
         for index, character in self.input.values():
+            is_inside = z3.ULT(index - offset, count)
             if other and self.is_known(character, False):
-                other = other.when(z3.Not(z3.ULT(index - offset, count)))
-        digits = [self.contract.is_digit(character) for index, character in self.input.values() if are_named and other
-                  and not self.is_known(character, True) and other.holds(z3.ULT(index - offset, count))]
-        return other and other.when(z3.And(*digits))
+                other = other.when(z3.Not(is_inside))
+            elif other and not self.is_known(character, True) and other.holds(is_inside):
+                other = other.when(self.contract.is_digit(character))
+        return other
 
     def with_no_digit(self, offset):
         """This state where a character of the input is no digit, or None if it can't be: it lies in no part that has

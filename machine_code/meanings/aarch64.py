@@ -162,10 +162,6 @@ def general(function, flags=None, is_kept=True):
     return handler
 
 
-def adrp(s, i):
-    s.put(i.operands[0], s.code.placed(i.operands[1].value))
-
-
 def upper_product(s, i):
     to, *others = i.operands
     s.put(to, simple(z3.Extract(127, 64, s.product(*s.numbers(others, 8)))))
@@ -349,10 +345,11 @@ HANDLERS = {
     "cmn": general(ADD, sum_flags, is_kept=False),
     "sub": either(general(SUBTRACT), by_units(SUBTRACT)), "subs": general(SUBTRACT, comparison_flags),
     "cmp": general(SUBTRACT, comparison_flags, is_kept=False), "and": either(general(AND), by_units(AND)),
-    "tst": general(AND, logic_flags(AND), is_kept=False), "orr": either(general(OR), by_units(OR)), "eor": general(XOR),
-    "mvn": general(lambda a: ~a), "msub": general(lambda a, b, c: c - a * b), "umulh": upper_product,
-    "movk": move_part, "bfxil": insert_bits, "lsl": shift, "lsr": shift, "adrp": adrp, "csel": select(lambda b: b),
-    "csinv": select(lambda b: ~b), "cset": set_if, "b": jump, "bl": jump, "ret": ret, "cbz": jump_if_zero,
+    "tst": general(AND, logic_flags(AND), is_kept=False), "orr": either(general(OR), by_units(OR)),
+    "eor": general(XOR), "mvn": general(lambda a: ~a), "msub": general(lambda a, b, c: c - a * b),
+    "umulh": upper_product, "movk": move_part, "bfxil": insert_bits, "lsl": shift, "lsr": shift,
+    "adrp": lambda s, i: s.put(i.operands[0], s.code.placed(i.operands[1].value)), "cset": set_if,
+    "csel": select(lambda b: b), "csinv": select(lambda b: ~b), "b": jump, "bl": jump, "ret": ret, "cbz": jump_if_zero,
     "cbnz": jump_if_zero, "tbz": jump_if_bit, "tbnz": jump_if_bit, "mul": by_units(MULTIPLY),
     "umin": by_units(MINIMUM), "uqsub": by_units(SUBTRACT_SATURATED), "ushr": shift_right, "movi": constant,
     "mov": move, "fmov": move, "umov": move, "dup": duplicate, "uxtl": widen, "uxtl2": widen, "xtn": narrow,

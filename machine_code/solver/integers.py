@@ -9,6 +9,8 @@ import z3
 JOINS = {z3.Z3_OP_AND: z3.And, z3.Z3_OP_OR: z3.Or, z3.Z3_OP_NOT: z3.Not, z3.Z3_OP_IMPLIES: z3.Implies}
 COMPARES = {z3.Z3_OP_ULEQ: lambda a, b: a <= b, z3.Z3_OP_ULT: lambda a, b: a < b, z3.Z3_OP_UGT: lambda a, b: a > b,
             z3.Z3_OP_UGEQ: lambda a, b: a >= b, z3.Z3_OP_EQ: lambda a, b: a == b}
+# In so many bits it is not asked whether a number is that small.
+FEW = 16
 
 
 class Facts:
@@ -17,6 +19,7 @@ class Facts:
 
     def __init__(self, is_impossible):
         self.conditions, self.ranges, self.sums, self._is_impossible = [], {}, {}, is_impossible
+        self.models = []  # values for which all of them hold, as far as some are known
 
     def and_also(self, fact):
         """These facts and another one, or None if that is not linear."""
@@ -26,6 +29,7 @@ class Facts:
             other.conditions.append(other.condition(fact))
         except ValueError:
             return None
+        other.models = [model for model in self.models if z3.is_true(model.eval(other.conditions[-1], True))]
         return other
 
     def condition(self, term):
@@ -68,7 +72,7 @@ class Facts:
         most = 1 << term.size()
         if term.get_id() not in self.sums:
             is_large = z3.Or(number < 0, number >= most)
-            is_small = self._is_impossible([*self.ranges.values(), *self.conditions, is_large])
+            is_small = term.size() > FEW and self._is_impossible([*self.ranges.values(), *self.conditions, is_large])
             self.sums[term.get_id()] = number if is_small else number % most
         return self.sums[term.get_id()]
 

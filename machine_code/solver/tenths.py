@@ -41,13 +41,10 @@ def parts(number):
         kind = "p" if questions.is_public(number) else "g"
         tenth, more = [z3.BitVec(f"{kind}_{name}_{number.get_id()}", bits)
                        for name, bits in (("tenth", 61), ("more", 3))]
-        most = next((most for _, other, _, most in _tenths.values() if _whole(other).eq(number)), (1 << 64) - 1)
+        most = next((most for _, other, _, most in _tenths.values() if z3.simplify(z3.ZeroExt(3, other)).eq(number)),
+                    (1 << 64) - 1)
         # The number is kept, so that its own number is not used again.
         _tenths[number.get_id()] = number, tenth, more, most // 10
     _, tenth, more, most = _tenths[number.get_id()]
-    whole = _whole(tenth)
+    whole = z3.ZeroExt(3, tenth)
     return tenth, more, z3.And(z3.ULE(whole, most), z3.ULE(10 * whole, number), z3.ULT(number - 10 * whole, 10))
-
-
-def _whole(tenth):
-    return z3.simplify(z3.ZeroExt(3, tenth))

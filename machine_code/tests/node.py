@@ -171,6 +171,7 @@ class Node:
         state.address = self.code.object.symbols[name]
         state.begin(self.code.object.function_at(state.address), [], z3.BitVec("p_return", 64))
         while after := [way for way in refused_or(step, self.code, state) if way.is_right()]:
+            require(len(after) == 1, "several ways")
             state, = after
         require(state.general["global 0"].eq(word(SIZE)), "another global")
         return bytes(state.memory)

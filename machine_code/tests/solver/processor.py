@@ -188,7 +188,7 @@ class Processor:
         if found[at + 16 :] != scratch:
             yield "memory"
         for name, flag in (state.flags or {}).items():
-            if z3.is_true(simple(flag)) != bool(flags >> self.bits[name] & 1):
+            if flag is not None and z3.is_true(simple(flag)) != bool(flags >> self.bits[name] & 1):
                 yield f"flag {name}"
         if target and (not isinstance(to, Branch) or z3.is_true(simple(to.choice)) != bool(is_taken)):
             yield "the jump"
