@@ -100,13 +100,11 @@ class Function:
     is_digit = staticmethod(is_digit)
     regions = empty = requires = ()
     name = "every call"
-    # The name that others call it with.
-    called_as = property(lambda self: self.symbol)
+    called_as = property(lambda self: self.symbol)  # the name that others call it with
     # In how many steps facts may be from what is to be proved, if that has a limit; for which CPU the code is, if its
     # name does not say it; and what functions of other objects do, if not what callees.py says.
     near = level = imported = None
-    # In how many parts its starts are proved, which run beside each other.
-    parts = 1
+    parts = 1  # in which its starts are proved, beside each other
 
     def starts(self, code):
         """The states at the call of the function, with any arguments."""

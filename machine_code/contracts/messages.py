@@ -14,8 +14,7 @@ TEXTS = {ODD_LENGTH: b"odd number of digits", INVALID_LENGTH: b"invalid string l
 ESCAPES = {ord("'"): "\\'", ord("\\"): "\\\\", 0: "\\0", 9: "\\t", 10: "\\n", 13: "\\r"}
 KIND, CHARACTER, POSITION = z3.BitVec("i_kind", 32), z3.BitVec("i_character", 32), z3.BitVec("i_position", 64)
 SIZE = z3.BitVec("i_size", 64)
-# The greatest length of a text that is written.
-MOST = 64
+MOST = 64  # the greatest length of a text that is written
 
 
 def shown(character):

@@ -80,10 +80,8 @@ class State:
 
     # How many of the lowest bytes of a vector a function keeps, and the bytes of an address.
     KEPT_VECTORS, WORD = {}, 8
-    # In how many steps facts may be from what is asked, if that has a limit.
-    near = None
-    # Whether the upper halves of vectors are clear, where `vzeroupper` has to clear them.
-    is_clean = True
+    near = None  # in how many steps facts may be from what is asked, if that has a limit
+    is_clean = True  # whether the upper halves of vectors are clear, where `vzeroupper` has to clear them
 
     def start(self, code, contract, address, regions, arguments):
         """Before the first instruction of a function, nothing is known of registers but the arguments. A function that
@@ -91,8 +89,8 @@ class State:
         self.code, self.contract, self.address, self.near = code, contract, address, contract.near
         self.STACK, self.STACK_OF_CALLED = contract.stacks(self)
         on_stack = arguments[len(self.ARGUMENTS) :]
-        regions = [*regions, Region("stack", word(self.STACK + self.RETURN + 8 * len(on_stack)), 16)]
-        regions += [code.constants]
+        stack = Region("stack", word(self.STACK + self.RETURN + 8 * len(on_stack)), 16)
+        regions = [*regions, stack, code.constants]
         self.regions = {region.name: region for region in regions}
         self.facts = [fact for region in regions for fact in facts_of(region.base & region.align - 1 == 0)]
         self.general = {name: z3.BitVec(f"g_{name}", 64) for name in self.GENERAL}

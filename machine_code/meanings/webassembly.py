@@ -232,10 +232,6 @@ def _if(s, condition):
     return z3.ZeroExt(63, s.either(condition, z3.BitVecVal(1, 1), z3.BitVecVal(0, 1)))
 
 
-def _signed(term):
-    return z3.Extract(31, 0, term)
-
-
 def _count(term, bits):
     require(z3.is_bv_value(term), "a shift by what is unknown")
     return term.as_long() % bits
@@ -244,13 +240,14 @@ def _count(term, bits):
 for _name, _function in {"add": ADD, "sub": SUBTRACT, "and": AND, "or": OR, "xor": XOR}.items():
     computes(f"i32.{_name}", "ii", lambda s, numbers, a, b, function=_function: function(a, b))
 for _name, _function in {"eq": lambda a, b: a == b, "ne": lambda a, b: a != b, "lt_u": z3.ULT, "le_u": z3.ULE,
-                         "gt_u": z3.UGT, "ge_u": z3.UGE, "lt_s": lambda a, b: _signed(a) < _signed(b),
-                         "le_s": lambda a, b: _signed(a) <= _signed(b)}.items():
+                         "gt_u": z3.UGT, "ge_u": z3.UGE,
+                         "lt_s": lambda a, b: z3.Extract(31, 0, a) < z3.Extract(31, 0, b),
+                         "le_s": lambda a, b: z3.Extract(31, 0, a) <= z3.Extract(31, 0, b)}.items():
     computes(f"i32.{_name}", "nn", lambda s, numbers, a, b, function=_function: _if(s, function(a, b)))
 computes("i32.eqz", "n", lambda s, numbers, a: _if(s, simple(a == 0)))
 computes("i32.shl", "in", lambda s, numbers, a, b: a * (1 << _count(b, 32)))
 computes("i32.shr_u", "nn", lambda s, numbers, a, b: z3.LShR(a, _count(b, 32)))
-computes("i32.shr_s", "nn", lambda s, numbers, a, b: z3.ZeroExt(32, _signed(a) >> _count(b, 32)))
+computes("i32.shr_s", "nn", lambda s, numbers, a, b: z3.ZeroExt(32, z3.Extract(31, 0, a) >> _count(b, 32)))
 computes("i64.shr_u", "ll", lambda s, numbers, a, b: z3.LShR(a, _count(b, 64)))
 computes("i32.wrap_i64", "l", lambda s, numbers, a: a)
 for _name in ("i32.const", "i64.const"):
@@ -330,12 +327,8 @@ def _stores(name, types, function):
     computes(name, types, lambda s, numbers, a, value: s.store(simple(a + numbers[0]), function(numbers, value)), 0)
 
 
-def _number(lane):
-    return z3.ZeroExt(64 - 8 * len(lane), joined(lane))
-
-
 for _name, _size in {"i32.load": 4, "i32.load8_u": 1, "i32.load16_u": 2, "i64.load": 8}.items():
-    _loads(_name, _size, _number)
+    _loads(_name, _size, lambda lane: z3.ZeroExt(64 - 8 * len(lane), joined(lane)))
 _loads("v128.load", 16, lambda lane: lane)
 _loads("v128.load64_zero", 8, lambda lane: lane + [byte(0)] * 8)
 _loads("v128.load8x8_u", 8, lambda lane: [part for value in lane for part in (value, byte(0))])

@@ -59,8 +59,6 @@ WRONG = [
     ("a vector below the stack pointer", "v3", "check", {"start": "vmovdqu [rsp-32], xmm0"}, BELOW),
     ("a stack that is too long", "v3", "check", {"start": "sub rsp, 0x800; push rsi; pop rsi; add rsp, 0x800"},
      NOT_IN_STACK),
-    ("a stack pointer that is a length", "v3", "check",
-     {"start": "mov rax, rsp; mov rsp, rsi; mov rsp, rax"}, NOT_IN_STACK),
     ("the stack is not restored", "v3", "check", {"end": "sub rsp, 8; push rax; pop rcx"}, UNWRITTEN),
     ("a return that pops too much", "v3", "check", {"end": "pop rcx; add rsp, 8; push rcx; sub rsp, 8; add rsp, 8"},
      NOT_IN_STACK),
@@ -68,11 +66,9 @@ WRONG = [
      "the stack pointer is not as before"),
     ("a return to another place", "v3", "check", {"end": "add qword ptr [rsp], 2"}, "a return to another place"),
     ("rbx", "v3", "check", {"start": "mov rbx, rsi"}, "rbx is not as before"),
-    ("the upper half of rbx", "v3", "check", {"start": "mov ebx, ebx"}, "rbx is not as before"),
     ("vzeroupper", "v3", "check", {"end": "vpxor ymm0, ymm0, ymm0"}, "vzeroupper is missing"),
     ("vzeroupper after a loop", "v3", "check", {"round": "vpxor ymm0, ymm0, ymm0"}, "vzeroupper is missing"),
     ("the direction flag", "v3", "check", {"start": "std"}, "without a meaning"),
-    ("AVX without a check", "v2", "check", {"start": "vzeroupper"}, "is not what the assembler makes"),
     ("an access that is not aligned", "v2", "check", {"start": "cmp rsi, 16; jb 1f; por xmm0, [rdi]"},
      "may not be aligned"),
     *((f"{move} that is not aligned", "v3", "check", {"start": f"cmp rsi, 16; jb 1f; {move} xmm0, [rdi]"},
@@ -156,9 +152,6 @@ WRONG = [
      {"start": "push rsi", "round": "pop rax; sub rsp, 8", "end": "pop rcx"}, "the stack"),
     ("a write into a stack that is kept", "v3", "check",
      {"start": "push rsi", "round": "mov [rsp], rsi", "end": "pop rsi"}, "the stack"),
-    ("a branch by a byte", "v3", "fill", {"character": "cmp al, 9; ja 5f; nop; 5:"}, SECRET),
-    ("an address by a byte", "v3", "fill",
-     {"character": "and eax, 7; lea r10, [rip+table]; mov al, [r10+rax]"}, "an address depends on bytes"),
     ("the output is read", "v3", "fill", {"character": "mov dl, [rcx]"}, "output is read"),
     ("the output is written back", "v3", "fill", {"round": "mov al, [rcx-1]; mov [rcx-1], al"}, "output is read"),
     ("a wrong digit", "v3", "fill", {"character": "xor eax, 1"}, "a wrong character at"),
@@ -186,7 +179,6 @@ WRONG = [
                "cmp byte ptr [rdi+6], 0x30; jb 3f"}, HOLE),
     ("a byte that is not written", "v3", "read", {"store": "cmp rdx, 1; je 6f; mov [rsi], al; 6:"},
      "a byte of the output is left out"),
-    ("x18", "aarch64", "check", {"start": "mov x18, #1"}, "without a meaning"),
     ("x19", "aarch64", "check", {"start": "mov x19, #1"}, "x19 is not as before"),
     ("v8", "aarch64", "check", {"start": "movi v8.16b, #1"}, "v8 is not as before"),
     ("the stack pointer", "aarch64", "check", {"end": "sub sp, sp, #16"}, "sp is not as before"),
@@ -197,10 +189,6 @@ WRONG = [
      {"start": "str x1, [sp, #-16]!; add sp, sp, #16; sub sp, sp, #16; ldr x1, [sp], #16"}, UNWRITTEN),
     ("a page beyond the file", "aarch64", "check", {"start": "adrp x8, table + 0x100000; ldrb w8, [x8]"}, OUTSIDE),
     ("the whole result", "aarch64", "check", {"end": "mov w8, #256; orr w0, w0, w8"}, "neither true nor false"),
-    ("a base that is moved and stored", "aarch64", "check",
-     {"start": "sub sp, sp, #16; mov x8, sp; .inst 0xf8000508; add sp, sp, #16"}, "unpredictable|not what the as"),
-    ("dot products", "aarch64", "check", {"start": ".inst 0x6e809400"}, "without a meaning|not what the assembler"),
-    ("flags that are not known", "aarch64", "check", {"start": "b.eq 5f; nop; 5:"}, "a flag that is not known"),
 ]
 RIGHT = [("a loop over bytes", "v3", call, {}) for call in ("check", "fill", "read")] + [
     ("a loop over bytes", "v2", "check", {}), ("a loop over bytes", "aarch64", "check", {}),
@@ -252,11 +240,11 @@ class TestWrong(unittest.TestCase):
 
     def each_part_refuses_a_row(self):
         """The same of a condition, a row of a table, or a state that a contract yields. It takes hours, so that only a
-        run with the variable CONST_HEX_PARTS does it."""
+        run with the variable CONST_HEX_PARTS does it: for the files with these names, or all if it is 1."""
         if len(self.refused) < self.most:
             self.skipTest("not all rows have run")
         unused = [f"{file.name}:{part.lineno} {ast.unparse(part)}" for file, part, new in deletions.parts()
-                  if not self.is_noticed(file, part, new)]
+                  if os.environ["CONST_HEX_PARTS"] in ("1", file.stem) and not self.is_noticed(file, part, new)]
         self.assertEqual(unused, [])
 
     def is_noticed(self, file, part, new):

@@ -182,46 +182,32 @@ def _is_lane(node):
 Place = collections.namedtuple("Place", "node name lines")
 
 
-class Places(ast.NodeVisitor):
-    """The places of a file, but those of checks and of what is shown elsewhere."""
-
-    def __init__(self, file):
-        self.file, self.found, self.names, self.lines = file, [], [], None
-        self.tree = ast.parse((MEANINGS / f"{file}.py").read_text())
-        self.visit(self.tree)
-
-    def visit(self, node):
-        if _is_check(node) or isinstance(node, ast.Expr) and _is_check(node.value):
-            return
-        is_function, name = isinstance(node, (ast.FunctionDef, ast.Lambda)), getattr(node, "name", None)
-        if isinstance(node, (ast.JoinedStr, ast.Import, ast.ImportFrom)) or is_function and self._is_elsewhere(name):
-            return
-        old = self.names, self.lines
-        is_set = isinstance(node, (ast.Assign, ast.AugAssign)) and not self.names
-        named = ast.unparse(getattr(node, "target", None) or node.targets[0]) if is_set else name
-        self.names = [*self.names, named] if named else self.names
-        self.lines = self.lines or ((node.lineno, node.end_lineno + 1) if is_function else None)
-        if hasattr(node, "lineno") and (self.lines or ".".join(self.names) not in CONSTANTS):
-            self.found.append(Place(node, ".".join(self.names), self.lines))
-        if isinstance(node, ast.Dict):
-            self._visit_entries(node)
-        else:
-            self.generic_visit(node)
-        self.names, self.lines = old
-
-    def _is_elsewhere(self, name):
-        return name in ELSEWHERE and (self.file != "webassembly" or name in ELSEWHERE[:ALL])
-
-    def _visit_entries(self, node):
-        for key, value in zip(node.keys, node.values):
-            name = getattr(key, "value", None)
-            self.names = [*self.names, name] if isinstance(name, str) else self.names
-            self.visit(value)
-            self.names = self.names[:-1] if isinstance(name, str) else self.names
+def places(file, node, names=(), lines=None):
+    """The places in a node of a file, but those of checks and of what is shown elsewhere."""
+    is_function, own = isinstance(node, (ast.FunctionDef, ast.Lambda)), getattr(node, "name", None)
+    is_elsewhere = is_function and own in (ELSEWHERE if file != "webassembly" else ELSEWHERE[:ALL])
+    is_check = isinstance(node, ast.Call) and ast.unparse(node.func) in ("require", "s.must", "self.must")
+    if is_check or is_elsewhere or isinstance(node, (ast.JoinedStr, ast.Import, ast.ImportFrom)):
+        return
+    if isinstance(node, (ast.Assign, ast.AugAssign)) and not names:
+        own = ast.unparse(getattr(node, "target", None) or node.targets[0])
+    names = (*names, own) if own else names
+    lines = lines or ((node.lineno, node.end_lineno + 1) if is_function else None)
+    # A check that is a statement cannot be left out, either.
+    if isinstance(node, ast.Expr) and not [*places(file, node.value)]:
+        return
+    if hasattr(node, "lineno") and (lines or ".".join(names) not in CONSTANTS):
+        yield Place(node, ".".join(names), lines)
+    entries = zip(node.keys, node.values) if isinstance(node, ast.Dict) else ()
+    keys = {value: key.value for key, value in entries if isinstance(key, ast.Constant) and isinstance(key.value, str)}
+    for child in node.values if isinstance(node, ast.Dict) else ast.iter_child_nodes(node):
+        yield from places(file, child, (*names, keys[child]) if child in keys else names, lines)
 
 
-def _is_check(node):
-    return isinstance(node, ast.Call) and ast.unparse(node.func) in ("require", "s.must", "self.must")
+def tree_of(file):
+    """The syntax tree of a file, and its places."""
+    tree = ast.parse((MEANINGS / f"{file}.py").read_text())
+    return tree, [*places(file, tree)]
 
 
 def changes():
@@ -229,14 +215,14 @@ def changes():
     one of the same name has a 2 after it."""
     count = collections.Counter()
     for file in FILES:
-        for at, place in enumerate(Places(file).found):
+        for index, place in enumerate(tree_of(file)[1]):
             for number, (said, _) in enumerate(alternatives(place.node)):
                 what = f"{file} {place.name}: {said}"
                 count[what] += 1
-                yield file, at, number, what if count[what] == 1 else f"{what} ({count[what]})"
+                yield file, index, number, what if count[what] == 1 else f"{what} ({count[what]})"
 
 
-def loaded(file, at, number):
+def loaded(file, index, number):
     """The modules of all files, of which one is changed, and the place of the change."""
     class Change(ast.NodeTransformer):
         def visit(self, node):
@@ -247,11 +233,11 @@ def loaded(file, at, number):
         for name in FILES:
             code = compiled(name)
             if name == file:
-                places = Places(name)
-                place = places.found[at]
+                tree, every = tree_of(name)
+                place = every[index]
                 new = ast.copy_location(list(alternatives(place.node))[number][1], place.node)
-                Change().visit(places.tree)
-                code = compile(ast.fix_missing_locations(places.tree), str(MEANINGS / f"{name}.py"), "exec")
+                Change().visit(tree)
+                code = compile(ast.fix_missing_locations(tree), str(MEANINGS / f"{name}.py"), "exec")
             modules[name] = sys.modules[f"meanings.{name}"] = types.ModuleType(f"meanings.{name}")
             exec(code, modules[name].__dict__)
     finally:
@@ -359,9 +345,9 @@ compared = functools.cache(Compared)
 
 def is_noticed(change):
     """Whether a comparison notices a change."""
-    file, at, number, said = change
+    file, index, number, said = change
     try:
-        modules, place = loaded(file, at, number)
+        modules, place = loaded(file, index, number)
     except Exception:
         return True  # The tool does not run.
     return any(compared(name).notices(modules, file, place, said) for name in FILES[file])
@@ -369,9 +355,9 @@ def is_noticed(change):
 
 def task(change):
     """What a change is, whether it is noticed, and whether that is right."""
-    file, at, _, said = change
+    file, index, _, said = change
     noticed = is_noticed(change)
-    what = f"{'' if noticed else 'not '}noticed: {said} (line {Places(file).found[at].node.lineno})"
+    what = f"{'' if noticed else 'not '}noticed: {said} (line {tree_of(file)[1][index].node.lineno})"
     return what, noticed != (said in EQUAL)
 
 
