@@ -100,5 +100,5 @@ def first_invalid_from(state, text, first, count):
     index = fresh("p", 64)
     some = state.when(z3.And(z3.ULE(first, index), z3.ULT(index, count)))
     some = some and some.with_no_digit(start + index)
-    if some := some and some.with_digits(start + first, index - first):
+    if some := some and some.with_digits(start + first, index - first, are_named=False):
         yield some, index, some.byte_of_input(start + index)

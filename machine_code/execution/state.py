@@ -310,9 +310,9 @@ class State:
         wanted = self.contract.is_digit(character) == is_digit
         return is_impossible([*relevant(self.facts, wanted, 0), z3.Not(wanted)])
 
-    def with_digits(self, offset, count):
+    def with_digits(self, offset, count, are_named=True):
         """This state where a part of the input has digits alone, or None if it can't: what is known to be no digit lies
-        elsewhere, and what is known to lie in the part is a digit."""
+        elsewhere, and what is known to lie in the part is a digit, which only some callers ask."""
         other, offset, count = self.copy(), simple(offset), simple(count)
         other.reads.append((offset, count))
         other.digits[offset, count] = True
@@ -320,7 +320,7 @@ class State:
             is_inside = z3.ULT(index - offset, count)
             if other and self.is_known(character, False):
                 other = other.when(z3.Not(is_inside))
-            elif other and not self.is_known(character, True) and other.holds(is_inside):
+            elif are_named and other and not self.is_known(character, True) and other.holds(is_inside):
                 other = other.when(self.contract.is_digit(character))
         return other
 

@@ -164,7 +164,7 @@ def general(function, flags=None, is_kept=True):
 
 def upper_product(s, i):
     to, *others = i.operands
-    s.put(to, simple(z3.Extract(127, 64, s.product(*s.numbers(others, 8)))))
+    s.put(to, simple(z3.Extract(127, 64, s.product(*s.numbers(others, to.size)))))
 
 
 def move_part(s, i):

@@ -213,8 +213,8 @@ class TestWrong(unittest.TestCase):
                 prove(content, call, **contract)
             except (Refused, ValueError) as refused:
                 # `run` says where a program is refused, of what another function has found.
-                for found in filter(None, (refused, refused.__context__)):
-                    frames = traceback.extract_tb(found.__traceback__)
+                for error in filter(None, (refused, refused.__context__)):
+                    frames = traceback.extract_tb(error.__traceback__)
                     self.refused.setdefault(self._testMethodName, set()).update(
                         (frame.filename, frame.lineno) for frame in frames)
                 raise

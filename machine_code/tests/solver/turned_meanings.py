@@ -75,7 +75,7 @@ REASONS = {
         "lanes SUBTRACT_SATURATED: z3.ULT -> z3.ULE",
         # bits, by one byte or by two
         *[f"x86_64 VECTORS.{name}: 1 -> 2" for name in ("por", "pxor", "xorps")],
-        *[f"webassembly : 1 -> 2 ({at})" for at in (4, 5)],
+        *[f"webassembly : 1 -> 2 ({number})" for number in (4, 5)],
         # what follows a branch is not reached
         "webassembly EFFECTS.br_table: 0 -> 1", "webassembly Reader.effect: 0 -> 1 (3)",
         # what lies above an i32 does not count
@@ -158,10 +158,11 @@ def _changed(node):
     if isinstance(node, (ast.List, ast.Tuple)) and isinstance(node.ctx, ast.Load) and len(node.elts) == 2:
         yield ast.unparse(node), _with(node, elts=node.elts[::-1])
     if isinstance(node, ast.Dict):
-        for at in range(len(node.values) - 1):
-            if all(node.keys[at : at + 2]) and ast.unparse(node.values[at]) != ast.unparse(node.values[at + 1]):
-                values = [*node.values[:at], node.values[at + 1], node.values[at], *node.values[at + 2 :]]
-                yield " <-> ".join(map(ast.unparse, node.keys[at : at + 2])), _with(node, values=values)
+        for index in range(len(node.values) - 1):
+            one, other = node.values[index : index + 2]
+            if all(node.keys[index : index + 2]) and ast.unparse(one) != ast.unparse(other):
+                values = [*node.values[:index], other, one, *node.values[index + 2 :]]
+                yield " <-> ".join(map(ast.unparse, node.keys[index : index + 2])), _with(node, values=values)
     is_name = isinstance(node, ast.Assign) and isinstance(node.targets[0], (ast.Name, ast.Tuple))
     is_statement = isinstance(node, (ast.Assign, ast.AugAssign, ast.Expr))
     if is_statement and not is_name and not isinstance(node.value, ast.Constant):
@@ -223,32 +224,24 @@ def changes():
 
 
 def loaded(file, index, number):
-    """The modules of all files, of which one is changed, and the place of the change."""
+    """The modules of a file that is changed, and of those that import it; and the place of the change."""
     class Change(ast.NodeTransformer):
         def visit(self, node):
             return new if node is place.node else self.generic_visit(node)
 
+    tree, every = tree_of(file)
+    place = every[index]
+    new = ast.copy_location(list(alternatives(place.node))[number][1], place.node)
+    trees = {file: ast.fix_missing_locations(Change().visit(tree))}
+    trees |= {name: tree_of(name)[0] for name in FILES if file == "lanes" and name != file}
     modules, old = {}, {name: module for name, module in sys.modules.items() if name.startswith("meanings.")}
     try:
-        for name in FILES:
-            code = compiled(name)
-            if name == file:
-                tree, every = tree_of(name)
-                place = every[index]
-                new = ast.copy_location(list(alternatives(place.node))[number][1], place.node)
-                Change().visit(tree)
-                code = compile(ast.fix_missing_locations(tree), str(MEANINGS / f"{name}.py"), "exec")
+        for name, tree in trees.items():
             modules[name] = sys.modules[f"meanings.{name}"] = types.ModuleType(f"meanings.{name}")
-            exec(code, modules[name].__dict__)
+            exec(compile(tree, str(MEANINGS / f"{name}.py"), "exec"), modules[name].__dict__)
     finally:
         sys.modules |= old
     return modules, place
-
-
-@functools.cache
-def compiled(file):
-    path = MEANINGS / f"{file}.py"
-    return compile(path.read_text(), str(path), "exec")
 
 
 class Compared:
@@ -263,10 +256,9 @@ class Compared:
                           for text, name in self.runner.names.items()]
         else:
             self.runner, self.states = test_meanings.processor(name), test_meanings.STATES
-            self.parts = [(form, i, {form.split()[0]}) for form, found in self.runner.forms.items() for i in found]
-        meanings = sys.modules[f"meanings.{self.kind}"]
+            self.parts = [(form, i, {form.split()[0]}) for form, those in self.runner.forms.items() for i in those]
         # The lines that run when instructions are read, and those that run when one of each form does, in some states.
-        self.reading = traced(lambda: self._read(meanings))
+        self.reading = traced(lambda: self._read(self.runner.meanings))
         of_forms = {form: traced(lambda form=form, i=i: [
             self.runner.difference(i, f"{form} {seed}") for seed in range(0, self.states, 4)])
             for form, i in {form: i for form, i, _ in self.parts}.items()}
@@ -284,32 +276,30 @@ class Compared:
 
     def notices(self, modules, file, place, said):
         """Whether a change is noticed, which is looked for first where its line runs."""
-        meanings, around = modules[self.kind], {(file, at) for at in range(*place.lines or (0, 0))}
+        meanings, around = modules[self.kind], {(file, line) for line in range(*place.lines or (0, 0))}
         # In a table of instructions, one or two are concerned.
         table, _, key = place.name.partition(".")
-        concerned = {key} if key else {*re.findall(r"'([\w.]+)'", said)}
-        concerned = concerned if table in ("HANDLERS", "VECTORS") and not around else set()
+        is_entry = table in ("HANDLERS", "VECTORS") and not around
+        concerned = ({key} if key else {*re.findall(r"'([\w.]+)'", said)}) if is_entry else set()
         is_all = around & self.reading or not around and not concerned
-        # The functions that add instructions for WebAssembly run when the file is loaded, and say how they are read.
-        is_read = is_all or self.name == "webassembly"
-        parts = [at for at, (_, _, mnemonics) in enumerate(self.parts) if is_all or around & self.lines[at]
+        parts = [index for index, (_, _, mnemonics) in enumerate(self.parts) if is_all or around & self.lines[index]
                  or concerned & (mnemonics | {mnemonic.removeprefix("v") for mnemonic in mnemonics})]
-        text = (MEANINGS / f"{file}.py").read_text().splitlines()[place.node.lineno - 1]
-        parts.sort(key=lambda at: ((file, place.node.lineno) not in self.lines[at],
-                                   not any(f'{mnemonic}"' in text for mnemonic in self.parts[at][2])))
+        parts.sort(key=lambda index: (file, place.node.lineno) not in self.lines[index])
         try:
+            # What adds instructions for WebAssembly runs when the file is loaded, and says how they are read.
+            is_read = is_all or self.name == "webassembly"
             code = self._read(meanings) if is_read else copy.copy(self.runner.code)
         except Exception:
-            # So it is in the tool, which refuses what raises (execution/proofs.py). The right meanings can still be read.
+            # As in the tool, what raises is refused (execution/proofs.py). The right meanings can still be read.
             self._read(self.runner.meanings)
             return True
         code.processor = meanings
         with mock.patch.multiple(self.runner, code=code, meanings=meanings):
-            found = any(self._differs(*self.parts[at][:2]) for at in parts)
+            is_noticed = any(self._differs(*self.parts[index][:2]) for index in parts)
         # What has ended would differ from any meaning.
-        if found and self.runner.difference(self.parts[0][1], f"{self.parts[0][0]} 0"):
+        if is_noticed and self.runner.difference(self.parts[0][1], f"{self.parts[0][0]} 0"):
             raise RuntimeError(f"{self.name} differs from its meanings after: {said}")
-        return found
+        return is_noticed
 
     def _differs(self, form, i):
         read = [] if self.name == "webassembly" else [self.runner.code.instructions.get(i.address, i)]
@@ -324,41 +314,33 @@ class Compared:
 
 def traced(function):
     """The lines of meanings that run in a function."""
-    found = set()
+    lines = set()
 
     def trace(frame, event, _):
         if not frame.f_code.co_filename.startswith(str(MEANINGS)):
             return None
-        found.add((pathlib.Path(frame.f_code.co_filename).stem, frame.f_lineno))
+        lines.add((pathlib.Path(frame.f_code.co_filename).stem, frame.f_lineno))
         return trace
 
     sys.settrace(trace)
-    try:
-        function()
-    finally:
-        sys.settrace(None)
-    return found
+    function()
+    sys.settrace(None)
+    return lines
 
 
 compared = functools.cache(Compared)
 
 
-def is_noticed(change):
-    """Whether a comparison notices a change."""
+def task(change):
+    """What a change is, whether a comparison notices it, and whether that is right."""
     file, index, number, said = change
     try:
         modules, place = loaded(file, index, number)
     except Exception:
-        return True  # The tool does not run.
-    return any(compared(name).notices(modules, file, place, said) for name in FILES[file])
-
-
-def task(change):
-    """What a change is, whether it is noticed, and whether that is right."""
-    file, index, _, said = change
-    noticed = is_noticed(change)
-    what = f"{'' if noticed else 'not '}noticed: {said} (line {tree_of(file)[1][index].node.lineno})"
-    return what, noticed != (said in EQUAL)
+        modules = None  # The tool does not run.
+    is_noticed = not modules or any(compared(name).notices(modules, file, place, said) for name in FILES[file])
+    what = f"{'' if is_noticed else 'not '}noticed: {said} (line {tree_of(file)[1][index].node.lineno})"
+    return what, is_noticed != (said in EQUAL)
 
 
 def main():
