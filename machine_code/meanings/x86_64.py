@@ -425,7 +425,7 @@ HANDLERS = {
     "mov": move(z3.ZeroExt), "movabs": move(z3.ZeroExt), "movzx": move(z3.ZeroExt), "movsxd": move(z3.SignExt),
     "lea": lea, "shl": shift(lambda a, by: a * (1 << by)), "shr": shift(z3.LShR), "push": push, "pop": pop,
     "nop": lambda s, i: None, "jmp": jump, "call": call, "ret": ret, "cpuid": cpuid, "xgetbv": xgetbv,
-    **{f"{name}{end}": handler for name, handler in (("j", jump_if), ("set", set_if), ("cmov", move_if))
+    **{f"{name}{end}": handler for name, handler in {"j": jump_if, "set": set_if, "cmov": move_if}.items()
        for end in CONDITIONS},
     **{name: legacy(handler) for name, handler in VECTORS.items()},
     **{f"v{name}": handler for name, handler in VECTORS.items()},

@@ -53,13 +53,9 @@ WRONG = [
      "an offset in the stack is not known"),
     ("a value from below the stack pointer", "v3", "check",
      {"start": "sub rsp, 64; mov [rsp], rsi; add rsp, 64; sub rsp, 64; mov rsi, [rsp]; add rsp, 64"}, UNWRITTEN),
-    ("a value that is popped twice", "v3", "check",
-     {"start": "push rsi; pop rax; sub rsp, 8; pop rsi"}, UNWRITTEN),
     ("a read of the red zone", "v3", "check", {"start": "mov al, [rsp-8]"}, BELOW),
-    ("a vector below the stack pointer", "v3", "check", {"start": "vmovdqu [rsp-32], xmm0"}, BELOW),
     ("a stack that is too long", "v3", "check", {"start": "sub rsp, 0x800; push rsi; pop rsi; add rsp, 0x800"},
      NOT_IN_STACK),
-    ("the stack is not restored", "v3", "check", {"end": "sub rsp, 8; push rax; pop rcx"}, UNWRITTEN),
     ("a return that pops too much", "v3", "check", {"end": "pop rcx; add rsp, 8; push rcx; sub rsp, 8; add rsp, 8"},
      NOT_IN_STACK),
     ("a return that leaves the stack", "v3", "check", {"end": "pop rcx; push rcx; push rcx"},
@@ -74,7 +70,6 @@ WRONG = [
     *((f"{move} that is not aligned", "v3", "check", {"start": f"cmp rsi, 16; jb 1f; {move} xmm0, [rdi]"},
        "may not be aligned") for move in ("movaps", "movdqa", "vmovdqa")),
     ("a loop without an end", "v3", "check", {"start": "5: jmp 5b"}, "nothing counts down"),
-    ("a loop that ends for some lengths", "v3", "check", {"start": "5: cmp rsi, 0x80; jae 5b"}, "nothing counts down"),
     ("a loop that turns too often", "v3", "check", {"start": "mov r8d, 6; 5: sub r8, 4; jne 5b"}, AT_HEAD),
     ("more rounds than characters", "v3", "check", {"start": "lea rax, [rsi+2000]; 5: sub rax, 1; jne 5b"},
      "the number of rounds"),
@@ -185,10 +180,6 @@ WRONG = [
     ("a return to another place", "aarch64", "check", {"end": "add x30, x30, #4"}, "a return to another place"),
     ("a stack that is not aligned", "aarch64", "check",
      {"start": "sub sp, sp, #8; str x0, [sp]; add sp, sp, #8"}, "is not aligned"),
-    ("a value from below the stack pointer", "aarch64", "check",
-     {"start": "str x1, [sp, #-16]!; add sp, sp, #16; sub sp, sp, #16; ldr x1, [sp], #16"}, UNWRITTEN),
-    ("a page beyond the file", "aarch64", "check", {"start": "adrp x8, table + 0x100000; ldrb w8, [x8]"}, OUTSIDE),
-    ("the whole result", "aarch64", "check", {"end": "mov w8, #256; orr w0, w0, w8"}, "neither true nor false"),
 ]
 RIGHT = [("a loop over bytes", "v3", call, {}) for call in ("check", "fill", "read")] + [
     ("a loop over bytes", "v2", "check", {}), ("a loop over bytes", "aarch64", "check", {}),
@@ -297,9 +288,6 @@ for function in wrong_for_c.RIGHT:
 for what, body, said in wrong_messages.OF_MESSAGES:
     _add(f"of messages {what}", "error_message", functools.partial(wrong_messages.message, body), said,
          contracts=wrong_messages.CONTRACTS)
-for what, old, new, said in wrong_messages.OF_WRITE_ENDED:
-    make = functools.partial(edited, "functions_x86_64", "write_ended", old, new)
-    _add(f"of messages {what}", "write_ended", make, said, contracts=wrong_messages.CONTRACTS)
 for function, what, old, new, said, *name in wrong_messages.OF_DISPATCHERS:
     _add(f"of dispatchers {function} {what}", function, functools.partial(wrong_messages.dispatcher, old, new), said,
          contracts=wrong_messages.CONTRACTS, name=next(iter(name), None))

@@ -48,12 +48,6 @@ OF_MESSAGES = [
     ("another text", CALL.format("add rdi, 1", ""), "another byte of the text at 0"),
     ("a result of its own", CALL.format("", "mov eax, 20"), "another result"),
 ]
-# What is changed in what writes a text, and what is said of it.
-OF_WRITE_ENDED = [
-    ("a character too much", "dec rax", "nop", "may lie outside"),
-    ("the next character", "[rdi+rcx*1]", "[rdi+rcx*1+1]", "may lie outside|another byte"),
-    ("no NUL at the end", "[rdx+rcx*1+0x1],0x0", "[rdx+rcx*1+0x1],0x1", "another byte"),
-]
 NONNULL, CALL_IT = "\tjne\t\\name\\()_nonnull\n", "\tcall\t\\name\\()_nonnull\n"
 IS_2 = "\tcmp\tBYTE PTR [rip + choice], 2\n\tje\t\\name\\()_v3\n"
 IS_1 = "\tcmp\tBYTE PTR [rip + choice], 1\n\tje\t\\name\\()_v2\n"
