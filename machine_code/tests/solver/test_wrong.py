@@ -90,7 +90,6 @@ WRONG = [
     ("one character too much", "v3", "check", {"character": "mov cl, [rdi+1]"}, OUTSIDE),
     ("a character before the text", "v3", "check", {"start": "mov cl, [rdi-1]"}, OUTSIDE),
     ("a character of an empty text", "v3", "check", {"start": "mov cl, [rdi]"}, OUTSIDE),
-    ("a read beyond the file", "v3", "check", {"start": "mov al, [rip+table+0x100000]"}, OUTSIDE),
     ("a read of code", "v3", "check", {"start": "mov al, [rip+0x40]"}, "a place that has no constant"),
     ("an alignment that no loader keeps", "v3", "check",
      {"start": "lea rax, [rip+other]; test eax, 0x1000; je 1f; mov eax, 1; ret",

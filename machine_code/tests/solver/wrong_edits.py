@@ -33,7 +33,6 @@ WRONG = [
     ("a decoded byte", "v3", "read", "vpsrlw ymm1,ymm1,0x8", "vpsrlw ymm1,ymm1,0x7", "a wrong byte at"),
     ("a byte of the output decides a jump", "v2", "fill", "", "test rsi,rsi; je 1f; cmp BYTE PTR [rcx],0; 1:",
      UNWRITTEN),
-    ("31 characters are read as 32", "v2", "check", "cmp rsi,0x20", "cmp rsi,0x1f", OUTSIDE),
     ("one of eight vectors is not tested", "v2", "read", "por xmm9,xmm6", "", "a wrong byte|before it is|passed"),
     ("the lower bits of another constant", "aarch64", "fill", "add_label x9, x9, const_hex_1_0_0_constant_2",
      "add_label x9, x9, const_hex_1_0_0_constant_2+16", "a wrong character at"),

@@ -52,7 +52,6 @@ WRONG = [
     ("AVX without a check", "v2", "vpxor ymm0, ymm0, ymm0", OTHER_BYTES),
     ("BMI2 without a check", "v2", "mulx rax, rcx, rcx", OTHER_BYTES),
     ("SSE4.1 in what chooses a kernel", "dispatch", "ptest xmm0, xmm0", OTHER_BYTES),
-    ("SSSE3 in what chooses a kernel", "dispatch", "pshufb xmm0, xmm0", OTHER_BYTES),
     ("xgetbv on a CPU that may not have it", "v2", "xor ecx, ecx; xgetbv", OTHER_BYTES),
     ("AVX-512", "v3", "vpbroadcastd ymm0, esi", OTHER_BYTES),
     ("AVX-512 by its encoding", "v3", "{evex} vpaddb ymm0, ymm0, ymm0", OTHER),
@@ -84,7 +83,6 @@ WRONG = [
     )),
     ("a wide register, of which the rest is cleared", "v3", "vpxor ymm0, ymm0, ymm0; vpxor xmm0, xmm0, xmm0", WIDE),
     ("a wide register on one of two ways", "v3", "vzeroupper; cmp rsp, 64; je 1f; vpxor ymm0, ymm0, ymm0; 1:", WIDE),
-    ("RBIT", "aarch64", "rbit x9, x9", NO_MEANING),
     ("two vectors of LD1", "aarch64", "ld1 {v0.8b, v1.8b}, [x0]", NO_MEANING),
     ("a shift by a register", "aarch64", "lsl x9, x9, x1", "a shift"),
     ("a sum with a register that is extended", "aarch64", "add w9, w9, w9, uxtw", "a shift"),
@@ -103,10 +101,8 @@ WRONG = [
     ("the distance of two pages", "aarch64", "adrp x8, table; adrp x9, table + 0x1000; sub x8, x8, x9; cbz x8, 1f; "
      "mov w0, #1; ret; 1:", WRONG_VERSION),
     ("a part of a pointer", "aarch64", "mov x0, sp; ret", WRONG_VERSION),
-    ("a vector for a register", "aarch64", "movi v0.16b, #1; mvn v0.16b, v0.16b", "a general register is needed"),
     ("an exclusive or of vectors", "aarch64", "movi v0.16b, #1; eor v0.16b, v0.16b, v0.16b",
      "a general register is needed"),
-    ("a sum of two numbers", "aarch64", "movi v0.16b, #1; add d0, d0, d0", "vectors are needed"),
     ("a product by one element", "aarch64", "movi v0.8h, #1; mul v0.8h, v0.8h, v0.h[0]", "vectors are needed"),
     *((f"a base that is moved by 0 and a register of {text}", "aarch64",
        f"sub sp, sp, #16; mov x10, sp; .inst {code}; add sp, sp, #16", "unpredictable") for text, code in (
@@ -137,7 +133,6 @@ RIGHT = [
     ("nops of each length", "v2", f".byte {', '.join(f'{byte:#x}' for byte in bytes.fromhex(''.join(NOPS)))}"),
     ("SSE2 in what chooses a kernel", "dispatch", "pxor xmm0, xmm0"),
     ("the lower bits of a page", "aarch64", f"adrp x8, table; {LOWER_BITS}; add x8, x8, #0; mov x9, #1; mvn x8, x9"),
-    ("a page that is only moved", "aarch64", "adrp x8, table; add x8, x8, #8"),
     ("a pointer that is no multiple of 16", "v2", "lea rax, [rsp-0x10000]; test rax, rax; je helper"),
 ]
 
