@@ -82,6 +82,7 @@ WRONG = [
     ("decoder_finish", "the other result", "mov al,0x1", "mov al,0x0", "whether the text is complete"),
     ("decoder_finish", "an error on success", "movzx eax,BYTE PTR [rdi+0x9]",
      "movzx eax,BYTE PTR [rdi+0x9]; mov DWORD PTR [rsi],7", "error is changed"),
+    ("decoder_finish", "another kind", "mov ecx,0x1", "mov ecx,0x2", "error is wrong at 0"),
     ("decoder_finish", "one error for all", "cmp al,0x1; ja 2f; mov al,0x1; jne 4f",
      "test al,al; mov al,1; je 4f", "whether there was an error"),
     ("decoder_finish", "another kind after an error", "mov ecx,0x3", "mov ecx,0x1", "error is wrong at 0"),
