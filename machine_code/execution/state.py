@@ -227,7 +227,7 @@ class State:
             first = solver.model().eval(offset, True).as_long()
             index = simple(offset - first)
             table = region.data.read(first, 256)
-            require(table and self.holds(z3.ULT(index, len(table))), "a place beyond a table, or that may be written")
+            self.must(z3.ULT(index, len(table)), "a place beyond a table, or that may be written")
             return [simple(chosen([*map(byte, table.ljust(256, b"\0"))], z3.Extract(7, 0, index)))]
         lane = None
         for value in values(self.facts, offset, MOST):
