@@ -204,7 +204,7 @@ def set_if(s, i):
 # Vectors
 def same(*vectors):
     """The vectors have the same lanes."""
-    require(all(o.kind == "vector" and o.lane for o in vectors), "vectors are needed")
+    require(all(o.lane for o in vectors), "vectors are needed")
     return vectors
 
 
