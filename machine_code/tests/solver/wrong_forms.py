@@ -41,6 +41,7 @@ WRONG = [
     ("a product of 32 bits", "v2", "mul ecx", "another size"),
     ("a shift by a vector", "v2", "psrlw xmm0, xmm1", "a shift"),
     ("a shift by 16 of 16 bits", "v2", "psrlw xmm0, 16", "a shift"),
+    ("a shift by a register", "v2", "shl eax, cl", "a shift"),
     ("a shift by 0", "v2", ".byte 0xc1, 0xe0, 0", "a shift"),
     ("the carry after an increment", "v2", "shr eax, 1; inc eax; setb al", "a flag that is not known"),
     *((f"a place beyond a vector in {form}", level, form, "an index") for level, form in (
