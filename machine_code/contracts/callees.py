@@ -68,18 +68,17 @@ def write(state, address, lane):
 def judged(state, text, count):
     """The state in which all characters are digits, and the one in which some are not, each with the result. In the
     second, time may depend on the text if it is no valid one."""
-    if is_in("input", text):
-        # Any of them is read.
+    is_input = is_in("input", text)
+    if is_input:  # of which any character is read
         some, index = any_below(state, count)
         if not some:
             return [(state, 1)]
         characters = some.load(simple(text + index), 1)
-        true = state.with_digits(offset_in(state, "input", text), count)
     else:
         state.must(count == 2, "a text that is neither in the input nor a pair")
         some, characters = state, state.load(text, 2)
-        true = state.when(z3.And(*map(is_digit, characters)))
     are_digits = z3.And(*map(is_digit, characters))
+    true = state.with_digits(offset_in(state, "input", text), count) if is_input else state.when(are_digits)
     is_valid = some.choose(are_digits)
     require(is_valid is not False, "a text that is never valid is read: its bytes may decide how long that takes")
     if false := some.when(z3.Not(are_digits)):

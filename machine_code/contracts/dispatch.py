@@ -38,17 +38,14 @@ def has_v3():
 class Dispatched(Function):
     """A function that calls another one, with its own arguments, and returns what that one does."""
 
-    level, is_unrolled, is_keeping, is_in_module, ends = "dispatch", True, True, False, ("_nonnull",)
+    level, is_in_module, ends = "dispatch", False, ("_nonnull",)
+    is_unrolled = is_keeping = is_any_valid = True
 
     def __init__(self, function, parameters):
         self.function, self.symbol, self.parameters = function, f"const_hex_{function}", parameters.split()
         self.arguments = [of_32_bits(z3.BitVec("g_upper", 32)) if name == "upper" else z3.BitVec(f"g_{name}", 64)
                           for name in self.parameters]
         self.imported = {f"const_hex_{function}{end}": functools.partial(self.calls, end) for end in self.ends}
-
-    def valid(self, state):
-        """Every input is valid."""
-        return []
 
     def cases(self, state):
         state.result_of_call = None

@@ -95,18 +95,16 @@ class Function:
 
     is_called = is_local = may_leak = is_unrolled = False
     is_in_module = True
-    # Whether it may use what is kept between calls, which is no secret then.
-    is_keeping = False
+    # Whether it may use what is kept between calls, which is no secret then; and whether every input is valid.
+    is_keeping = is_any_valid = False
     is_digit = staticmethod(is_digit)
     regions = empty = requires = ()
     name = "every call"
-    # The name that others call it with.
-    called_as = property(lambda self: self.symbol)
+    called_as = property(lambda self: self.symbol)  # the name that others call it with
     # In how many steps facts may be from what is to be proved, if that has a limit; for which CPU the code is, if its
     # name does not say it; and what functions of other objects do, if not what callees.py says.
     near = level = imported = None
-    # In how many parts its starts are proved, which run beside each other.
-    parts = 1
+    parts = 1  # in which its starts are proved, beside each other
 
     def starts(self, code):
         """The states at the call of the function, with any arguments."""
@@ -149,7 +147,8 @@ class Function:
 
     def valid(self, state):
         """What a valid input is, for constant time: the digits of the text are digits."""
-        return [is_digit(name) for offset, name in state.input.values() if state.holds(z3.UGE(offset, state.body))]
+        return [is_digit(name) for offset, name in state.input.values()
+                if not self.is_any_valid and state.holds(z3.UGE(offset, state.body))]
 
 
 def by_prefix(state, start=word(0), length=N, least=2):

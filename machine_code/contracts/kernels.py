@@ -42,16 +42,12 @@ class Kernel(Function):
 class Fill(Kernel):
     """fill(bytes, n, upper, text): the text has the two digits of each byte. There is no result."""
 
-    function = "fill"
+    function, is_any_valid = "fill", True
     input_size, output_size = N, simple(2 * N)
 
     def __init__(self, is_upper):
         self.is_upper, self.name = is_upper, "uppercase" if is_upper else "lowercase"
         self.arguments = base("input"), N, simple(of_32_bits(z3.BitVecVal(is_upper, 32))), base("output")
-
-    def valid(self, state):
-        """Every input is valid."""
-        return []
 
     def store(self, state, offset, lane):
         """At an even offset stands the higher digit of a byte, and at the next one the lower."""

@@ -62,7 +62,7 @@ class EncodedSize(Exported):
 class Encode(Exported):
     """encode(bytes, bytes_length, text, text_size, flags), for some flags, or all unknown ones."""
 
-    function, regions = "encode", (Region("input", N), Region("output", SIZE))
+    function, regions, is_any_valid = "encode", (Region("input", N), Region("output", SIZE)), True
     empty = ("input", N), ("output", SIZE)
 
     def __init__(self, flags):
@@ -75,10 +75,6 @@ class Encode(Exported):
         self.begin = 2 if flags and flags & PREFIX else 0
         self.end = simple(2 * N + self.begin)
         self.requires = (z3.Implies(self.fits, z3.ULT(N, 1 << 62)), *([z3.UGE(FLAGS, 8)] if flags is None else []))
-
-    def valid(self, state):
-        """Every input is valid."""
-        return []
 
     reached = Fill.reached
 
@@ -115,9 +111,8 @@ class Encode(Exported):
 class CheckRaw(CheckKernel):
     """check_raw(text, length): whether all characters are digits."""
 
-    is_called, function, symbol, empty = False, "check_raw", "const_hex_check_raw", (("input", N),)
-    imported = None
-    regions = TEXT,
+    is_called, imported, regions, empty = False, None, (TEXT,), (("input", N),)
+    function, symbol = "check_raw", "const_hex_check_raw"
 
 
 class Search(Function):

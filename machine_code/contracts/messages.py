@@ -14,8 +14,7 @@ TEXTS = {ODD_LENGTH: b"odd number of digits", INVALID_LENGTH: b"invalid string l
 ESCAPES = {ord("'"): "\\'", ord("\\"): "\\\\", 0: "\\0", 9: "\\t", 10: "\\n", 13: "\\r"}
 KIND, CHARACTER, POSITION = z3.BitVec("i_kind", 32), z3.BitVec("i_character", 32), z3.BitVec("i_position", 64)
 SIZE = z3.BitVec("i_size", 64)
-# The greatest length of a text that is written.
-MOST = 64
+MOST = 64  # the greatest length of a text that is written
 
 
 def shown(character):
@@ -67,11 +66,6 @@ def ended(length):
     return z3.If(SIZE == 0, word(0), z3.If(z3.ULT(length, SIZE), length, SIZE - 1))
 
 
-def written(state):
-    """The offsets of what is written to the output."""
-    return sorted(offset for name, offset in state.cells if name == "output")
-
-
 class Ended(Function):
     """A function that writes a text, or as much of it as fits, and a NUL to its output, and returns how many bytes
     stand before the NUL. It writes nothing to an output of size 0."""
@@ -84,13 +78,13 @@ class Ended(Function):
 
     def must_be_ended(self, state, length, text):
         """`text` gives so many bytes of the text."""
-        count = len(written(state)) - 1
+        count = len([name for name, _ in state.cells if name == "output"]) - 1
         state.must(state.result(64) == ended(length), "another result")
         state.must((SIZE == 0) == z3.BoolVal(count < 0), "whether anything is written")
         if count >= 0:
             state.must(ended(length) == count, "another part of the output is written")
-            require(written(state) == [*range(count + 1)], "a byte is left out")
             for offset, wanted in enumerate([*text(count), byte(0)]):
+                require(("output", offset) in state.cells, "a byte is left out")
                 state.must_equal(state.cells["output", offset], wanted, f"another byte at {offset}")
 
 
@@ -110,7 +104,7 @@ class WriteEnded(Ended):
         count, = values(state.facts, n, 1)
         state.must(i_size == SIZE, "another size")
         state.must(z3.Or(SIZE == 0, output == base("output")), "another output")
-        require(state.ended is None and not written(state), "a text is written before")
+        require(state.ended is None and not state.writes, "a text is written before")
         state.ended = state.load(input, count) if count else []
         yield state, ended(word(count))
 
@@ -133,7 +127,7 @@ class ErrorMessage(Ended):
         text = text_of(state)
         if state.ended is None:
             return self.must_be_ended(state, word(len(text)), lambda count: text[:count])
-        require(not written(state), "something is written after the end")
+        require(not state.writes, "something is written after the end")
         require(len(state.ended) == len(text), "another text is written")
         for index, (character, wanted) in enumerate(zip(state.ended, text)):
             state.must(character == wanted, f"another byte of the text at {index}")

@@ -9,8 +9,7 @@ import z3
 from execution.state import Region, word
 from reading import library
 
-# Loaders keep no greater alignment.
-PAGE = 4096
+PAGE = 4096  # Loaders keep no greater alignment.
 
 
 class Instructions(dict):

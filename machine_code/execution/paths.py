@@ -14,10 +14,8 @@ from contracts.functions import N
 from execution.state import fresh, simple, word
 from solver.questions import Refused, require
 
-# So many instructions from one loop head to the next.
-STEPS = 2000
-# What a jump returns that is taken on a condition.
-Branch = namedtuple("Branch", "choice target")
+STEPS = 2000  # so many instructions from one loop head to the next
+Branch = namedtuple("Branch", "choice target")  # what a jump returns that is taken on a condition
 
 
 class Loop:

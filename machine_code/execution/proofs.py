@@ -21,10 +21,8 @@ from solver import questions, second
 from solver.questions import Refused
 
 PROCESSORS = {X86_64: x86_64, AARCH64: aarch64, None: webassembly}
-# So many questions of each function go to the second solver, too.
-SAMPLE = 100
-# So many characters of a line are shown.
-LONGEST = 300
+SAMPLE = 100  # so many questions of each function go to the second solver, too
+LONGEST = 300  # so many characters of a line are shown
 CONTRACTS = (*FUNCTIONS, *MESSAGES, *KERNELS, *dispatch.OR_NULL, *dispatch.CHOICES)
 # On x86-64 the kernels have these ends of names, and others choose one of them.
 LEVEL = re.compile("_v[23]$")

@@ -53,12 +53,10 @@ def split(term):
 
 def chosen(table, index):
     """The entry that the lowest bits of an index choose, of a table whose length is a power of two up to 256."""
-    if len(table) == 1:
-        return table[0]
-    half = len(table) // 2
-    one, other = chosen(table[:half], index), chosen(table[half:], index)
-    bit = half.bit_length() - 1
-    return one if one.eq(other) else z3.If(z3.Extract(bit, bit, index) == 1, other, one)
+    for bit in range(len(table).bit_length() - 1):
+        is_set = z3.Extract(bit, bit, index) == 1
+        table = [one if one.eq(other) else z3.If(is_set, other, one) for one, other in zip(table[::2], table[1::2])]
+    return table[0]
 
 
 class Region:
@@ -82,10 +80,8 @@ class State:
 
     # How many of the lowest bytes of a vector a function keeps, and the bytes of an address.
     KEPT_VECTORS, WORD = {}, 8
-    # In how many steps facts may be from what is asked, if that has a limit.
-    near = None
-    # Whether the upper halves of vectors are clear, where `vzeroupper` has to clear them.
-    is_clean = True
+    near = None  # in how many steps facts may be from what is asked, if that has a limit
+    is_clean = True  # whether the upper halves of vectors are clear, where `vzeroupper` has to clear them
 
     def start(self, code, contract, address, regions, arguments):
         """Before the first instruction of a function, nothing is known of registers but the arguments. A function that
@@ -93,8 +89,8 @@ class State:
         self.code, self.contract, self.address, self.near = code, contract, address, contract.near
         self.STACK, self.STACK_OF_CALLED = contract.stacks(self)
         on_stack = arguments[len(self.ARGUMENTS) :]
-        regions = [*regions, Region("stack", word(self.STACK + self.RETURN + 8 * len(on_stack)), 16)]
-        regions += [code.constants]
+        stack = Region("stack", word(self.STACK + self.RETURN + 8 * len(on_stack)), 16)
+        regions = [*regions, stack, code.constants]
         self.regions = {region.name: region for region in regions}
         self.facts = [fact for region in regions for fact in facts_of(region.base & region.align - 1 == 0)]
         self.general = {name: z3.BitVec(f"g_{name}", 64) for name in self.GENERAL}
@@ -231,7 +227,7 @@ class State:
             first = solver.model().eval(offset, True).as_long()
             index = simple(offset - first)
             table = region.data.read(first, 256)
-            require(table and self.holds(z3.ULT(index, len(table))), "a place beyond a table, or that may be written")
+            self.must(z3.ULT(index, len(table)), "a place beyond a table, or that may be written")
             return [simple(chosen([*map(byte, table.ljust(256, b"\0"))], z3.Extract(7, 0, index)))]
         lane = None
         for value in values(self.facts, offset, MOST):
@@ -293,8 +289,8 @@ class State:
 
     def must_equal(self, value, wanted, message):
         """That two values are the same, where bytes of the input are the same that have the same offset."""
-        about = names(value == wanted)
-        used = [(offset, name) for offset, name in self.input.values() if name.decl().name() in about]
+        about = {*names(value == wanted)}
+        used = [(offset, name) for offset, name in self.input.values() if about.issuperset(names(name))]
         same = [fact for (first, one), (second, other) in itertools.combinations(used, 2)
                 if self.holds(first == second) for fact in facts_of(one == other)]
         require(holds(self.facts + same, value == wanted, self.near), message)
@@ -316,16 +312,17 @@ class State:
 
     def with_digits(self, offset, count, are_named=True):
         """This state where a part of the input has digits alone, or None if it can't: what is known to be no digit lies
-        elsewhere, and what is known to lie in the part is a digit, which is left out where no names are asked for."""
+        elsewhere, and what is known to lie in the part is a digit, which only some callers ask."""
         other, offset, count = self.copy(), simple(offset), simple(count)
         other.reads.append((offset, count))
         other.digits[offset, count] = True
         for index, character in self.input.values():
+            is_inside = z3.ULT(index - offset, count)
             if other and self.is_known(character, False):
-                other = other.when(z3.Not(z3.ULT(index - offset, count)))
-        digits = [self.contract.is_digit(character) for index, character in self.input.values() if are_named and other
-                  and not self.is_known(character, True) and other.holds(z3.ULT(index - offset, count))]
-        return other and other.when(z3.And(*digits))
+                other = other.when(z3.Not(is_inside))
+            elif are_named and other and not self.is_known(character, True) and other.holds(is_inside):
+                other = other.when(self.contract.is_digit(character))
+        return other
 
     def with_no_digit(self, offset):
         """This state where a character of the input is no digit, or None if it can't be: it lies in no part that has

@@ -172,7 +172,8 @@ def _first_round(code, entry):
 
 
 def guess(code, entry):
-    """What may hold at the head that a state has come to, or None."""
+    """What may hold at the head that a state has come to, or None. A first round finds a way back to the head, and
+    which registers change. A second one goes that way again, from registers that are more by unknown numbers."""
     if not (first := _first_round(code, entry)):
         return None
     way, end = first

@@ -13,7 +13,7 @@ from execution import state
 from execution.paths import Branch
 from execution.state import byte, chosen, joined, simple, split, word
 from meanings.lanes import (ADD, AND, MINIMUM, OR, SUBTRACT, SUBTRACT_SATURATED, XOR, bytes_of, conditions,
-                            difference_flags, each, holds, logic_flags, sum_flags, units)
+                            difference_flags, each, holds, sum_flags, units)
 from reading import assembled
 from reading.image import AARCH64
 from solver.questions import require
@@ -164,13 +164,9 @@ def general(function, flags=None, is_kept=True):
     return handler
 
 
-def adrp(s, i):
-    s.put(i.operands[0], s.code.placed(i.operands[1].value))
-
-
 def upper_product(s, i):
     to, *others = i.operands
-    s.put(to, simple(z3.Extract(127, 64, s.product(*s.numbers(others, 8)))))
+    s.put(to, simple(z3.Extract(127, 64, s.product(*s.numbers(others, to.size)))))
 
 
 def move_part(s, i):
@@ -210,7 +206,7 @@ def set_if(s, i):
 # Vectors
 def same(*vectors):
     """The vectors have the same lanes."""
-    require(all(o.kind == "vector" and o.lane for o in vectors), "vectors are needed")
+    require(all(o.lane for o in vectors), "vectors are needed")
     return vectors
 
 
@@ -313,7 +309,7 @@ def jump_if_zero(s, i):
 
 # Loads and stores
 LOADS = "ldr", "ldur", "ldp", "ld1", "ldrb", "ldurb", "ldrh"
-STORES = "str", "stur", "stp", "st1", "strb", "sturb", "strh"
+STORES = "str", "stur", "stp", "st1", "st2", "strb", "sturb", "strh"
 
 
 def accessed(s, i):
@@ -352,14 +348,15 @@ HANDLERS = {
     "cmn": general(ADD, sum_flags, is_kept=False),
     "sub": either(general(SUBTRACT), by_units(SUBTRACT)), "subs": general(SUBTRACT, comparison_flags),
     "cmp": general(SUBTRACT, comparison_flags, is_kept=False), "and": either(general(AND), by_units(AND)),
-    "orr": either(general(OR), by_units(OR)), "eor": general(XOR),
+    "orr": either(general(OR), by_units(OR)), "eor": general(XOR), "neg": general(lambda a: -a),
     "mvn": general(lambda a: ~a), "msub": general(lambda a, b, c: c - a * b), "umulh": upper_product,
-    "movk": move_part, "bfxil": insert_bits, "lsl": shift, "lsr": shift, "adrp": adrp, "csel": select(lambda b: b),
-    "csinv": select(lambda b: ~b), "cset": set_if, "b": jump, "bl": jump, "ret": ret, "cbz": jump_if_zero,
-    "cbnz": jump_if_zero, "tbz": jump_if_bit, "tbnz": jump_if_bit, "neg": general(lambda a: -a),
-    "umin": by_units(MINIMUM), "uqsub": by_units(SUBTRACT_SATURATED), "ushr": shifted(z3.LShR), "shl": shifted(lambda a, count: a << count), "movi": constant,
-    "mov": move, "fmov": move, "umov": move, "dup": duplicate, "xtn": narrow, "ext": extract, "tbl": look_up, "uzp2": mixed(lambda a, b: (a + b)[1::2]),
-    "uzp1": mixed(lambda a, b: (a + b)[::2]), "zip1": mixed(lambda a, b: pairs(a, b)[: len(a)]),
-    "zip2": mixed(lambda a, b: pairs(a, b)[len(a) :]), "st2": store,
+    "movk": move_part, "bfxil": insert_bits, "lsl": shift, "lsr": shift,
+    "adrp": lambda s, i: s.put(i.operands[0], s.code.placed(i.operands[1].value)), "cset": set_if,
+    "csel": select(lambda b: b), "csinv": select(lambda b: ~b), "b": jump, "bl": jump, "ret": ret, "cbz": jump_if_zero,
+    "cbnz": jump_if_zero, "tbz": jump_if_bit, "tbnz": jump_if_bit, "umin": by_units(MINIMUM),
+    "uqsub": by_units(SUBTRACT_SATURATED), "ushr": shifted(z3.LShR), "shl": shifted(lambda a, count: a << count),
+    "movi": constant, "mov": move, "fmov": move, "umov": move, "dup": duplicate, "xtn": narrow, "ext": extract,
+    "tbl": look_up, "uzp1": mixed(lambda a, b: (a + b)[::2]), "uzp2": mixed(lambda a, b: (a + b)[1::2]),
+    "zip1": mixed(lambda a, b: pairs(a, b)[: len(a)]), "zip2": mixed(lambda a, b: pairs(a, b)[len(a) :]),
     **dict.fromkeys(LOADS, load), **dict.fromkeys(STORES, store), **{f"b.{name}": jump_if for name in CONDITIONS},
 }

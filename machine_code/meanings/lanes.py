@@ -57,7 +57,7 @@ def conditions(known, opposites):
 def holds(s, condition):
     """Whether a condition holds in a state."""
     def flag(letter):
-        require(s.flags and letter in s.flags, "a flag that is not known")
+        require(s.flags and s.flags[letter] is not None, "a flag that is not known")
         return s.flags[letter]
 
     return simple(condition(flag))

@@ -232,15 +232,6 @@ def _if(s, condition):
     return z3.ZeroExt(63, s.either(condition, z3.BitVecVal(1, 1), z3.BitVecVal(0, 1)))
 
 
-def _is_true(term):
-    """Whether a number is not 0."""
-    return simple(term != 0)
-
-
-def _signed(term):
-    return z3.Extract(31, 0, term)
-
-
 def _count(term, bits):
     require(z3.is_bv_value(term), "a shift by what is unknown")
     return term.as_long() % bits
@@ -249,13 +240,14 @@ def _count(term, bits):
 for _name, _function in {"add": ADD, "sub": SUBTRACT, "and": AND, "or": OR, "xor": XOR}.items():
     computes(f"i32.{_name}", "ii", lambda s, numbers, a, b, function=_function: function(a, b))
 for _name, _function in {"eq": lambda a, b: a == b, "ne": lambda a, b: a != b, "lt_u": z3.ULT, "le_u": z3.ULE,
-                         "gt_u": z3.UGT, "ge_u": z3.UGE, "lt_s": lambda a, b: _signed(a) < _signed(b),
-                         "le_s": lambda a, b: _signed(a) <= _signed(b)}.items():
+                         "gt_u": z3.UGT, "ge_u": z3.UGE,
+                         "lt_s": lambda a, b: z3.Extract(31, 0, a) < z3.Extract(31, 0, b),
+                         "le_s": lambda a, b: z3.Extract(31, 0, a) <= z3.Extract(31, 0, b)}.items():
     computes(f"i32.{_name}", "nn", lambda s, numbers, a, b, function=_function: _if(s, function(a, b)))
-computes("i32.eqz", "n", lambda s, numbers, a: _if(s, simple(z3.Not(_is_true(a)))))
+computes("i32.eqz", "n", lambda s, numbers, a: _if(s, simple(a == 0)))
 computes("i32.shl", "in", lambda s, numbers, a, b: a * (1 << _count(b, 32)))
 computes("i32.shr_u", "nn", lambda s, numbers, a, b: z3.LShR(a, _count(b, 32)))
-computes("i32.shr_s", "nn", lambda s, numbers, a, b: z3.ZeroExt(32, _signed(a) >> _count(b, 32)))
+computes("i32.shr_s", "nn", lambda s, numbers, a, b: z3.ZeroExt(32, z3.Extract(31, 0, a) >> _count(b, 32)))
 computes("i64.shr_u", "ll", lambda s, numbers, a, b: z3.LShR(a, _count(b, 64)))
 computes("i32.wrap_i64", "l", lambda s, numbers, a: a)
 for _name in ("i32.const", "i64.const"):
@@ -273,12 +265,8 @@ def put(s, i):
 
 
 # Control
-def branch(s, i):
-    return i.operands.targets[0]
-
-
 def branch_if(s, i):
-    return Branch(_is_true(s.exact(s.take(_top(i)))), i.operands.targets[0])
+    return Branch(simple(s.exact(s.take(_top(i))) != 0), i.operands.targets[0])
 
 
 def branch_by(s, i):
@@ -292,7 +280,7 @@ def select(s, i):
     """Counts as a branch: it is run again in the states where it is known which operand is taken. A byte of the input
     may decide that stands alone."""
     operands = [_operand(i, i.operands.height - below) for below in (3, 2, 1)]
-    condition = _is_true(s.exact(s.get(operands[-1])))
+    condition = simple(s.exact(s.get(operands[-1])) != 0)
     truth = next((truth for truth in (True, False) if s.holds(condition == truth)), None)
     if truth is None and not _is_alone(s, condition):
         s.next = i.address
@@ -324,17 +312,10 @@ def leave(s, i):
     return s.leave_function(i.address // SPACE)
 
 
-def result(s, i):
-    s.put(_operand(i, i.operands.height), s.take("result"))
-
-
-def trap(s, i):
-    require(False, "the module traps")
-
-
-HANDLERS |= {"local.get": get, "global.get": get, "local.set": put, "local.tee": put, "global.set": put, "br": branch,
-             "br_if": branch_if, "br_table": branch_by, "select": select, "call": call, "return": leave,
-             "result": result, "unreachable": trap}
+HANDLERS |= {"local.get": get, "global.get": get, "local.set": put, "local.tee": put, "global.set": put,
+             "br": lambda s, i: i.operands.targets[0], "br_if": branch_if, "br_table": branch_by, "select": select,
+             "call": call, "result": lambda s, i: s.put(_operand(i, i.operands.height), s.take("result")),
+             "return": leave, "unreachable": lambda s, i: require(False, "the module traps")}
 
 
 # Loads and stores
@@ -346,12 +327,8 @@ def _stores(name, types, function):
     computes(name, types, lambda s, numbers, a, value: s.store(simple(a + numbers[0]), function(numbers, value)), 0)
 
 
-def _number(lane):
-    return z3.ZeroExt(64 - 8 * len(lane), joined(lane))
-
-
 for _name, _size in {"i32.load": 4, "i32.load8_u": 1, "i32.load16_u": 2, "i64.load": 8}.items():
-    _loads(_name, _size, _number)
+    _loads(_name, _size, lambda lane: z3.ZeroExt(64 - 8 * len(lane), joined(lane)))
 _loads("v128.load", 16, lambda lane: lane)
 _loads("v128.load64_zero", 8, lambda lane: lane + [byte(0)] * 8)
 _loads("v128.load8x8_u", 8, lambda lane: [part for value in lane for part in (value, byte(0))])

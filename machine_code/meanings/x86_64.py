@@ -168,17 +168,12 @@ def general(function, flags=None, is_kept=True):
     return handler
 
 
-def logic(function, is_kept=True):
-    return general(function, logic_flags(function), is_kept)
-
-
 def by_one(function, flags):
     """The carry is as before."""
     def handler(s, i):
-        [number], flag = numbers(s, i), s.flags or {}
+        [number], carry = numbers(s, i), (s.flags or {}).get("c")
         one = z3.BitVecVal(1, number.size())
-        s.flags = {name: new for name, new in flags(number, one).items() if name != "c"}
-        s.flags |= {name: old for name, old in flag.items() if name == "c"}
+        s.flags = flags(number, one) | {"c": carry}
         s.put(i.operands[0], i, function(number, one))
     return handler
 
@@ -423,14 +418,14 @@ def legacy(handler):
 
 
 HANDLERS = {
-    "add": general(ADD, sum_flags), "sub": general(SUBTRACT, difference_flags),
-    "cmp": general(SUBTRACT, difference_flags, is_kept=False), "and": logic(AND), "or": logic(OR), "xor": logic(XOR),
-    "test": logic(AND, is_kept=False), "inc": by_one(ADD, sum_flags), "dec": by_one(SUBTRACT, difference_flags),
+    "add": general(ADD, sum_flags), "sub": general(SUBTRACT, difference_flags), "and": general(AND, logic_flags(AND)),
+    "or": general(OR, logic_flags(OR)), "xor": general(XOR, logic_flags(XOR)), "not": general(lambda a: ~a),
+    "cmp": general(SUBTRACT, difference_flags, is_kept=False), "test": general(AND, logic_flags(AND), is_kept=False),
+    "inc": by_one(ADD, sum_flags), "dec": by_one(SUBTRACT, difference_flags), "mul": multiply,
     "mov": move(z3.ZeroExt), "movabs": move(z3.ZeroExt), "movzx": move(z3.ZeroExt), "movsxd": move(z3.SignExt),
-    "lea": lea, "not": general(lambda a: ~a), "shl": shift(lambda a, by: a * (1 << by)), "shr": shift(z3.LShR),
-    "push": push, "pop": pop, "nop": lambda s, i: None, "jmp": jump, "call": call, "ret": ret, "mul": multiply,
-    "cpuid": cpuid, "xgetbv": xgetbv,
-    **{f"{name}{end}": handler for name, handler in (("j", jump_if), ("set", set_if), ("cmov", move_if))
+    "lea": lea, "shl": shift(lambda a, by: a * (1 << by)), "shr": shift(z3.LShR), "push": push, "pop": pop,
+    "nop": lambda s, i: None, "jmp": jump, "call": call, "ret": ret, "cpuid": cpuid, "xgetbv": xgetbv,
+    **{f"{name}{end}": handler for name, handler in {"j": jump_if, "set": set_if, "cmov": move_if}.items()
        for end in CONDITIONS},
     **{name: legacy(handler) for name, handler in VECTORS.items()},
     **{f"v{name}": handler for name, handler in VECTORS.items()},

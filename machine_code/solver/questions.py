@@ -14,9 +14,8 @@ QUICK, LIMIT = 600_000, 40_000_000
 # Each question that was answered by "unsat", as the logic and conditions, for a second solver.
 proved = []
 counts = {"asked": 0}
-# The constants by their names, and the names in terms by the numbers of these, which are kept so that no other term
-# gets such a number.
-_constants, _names = {}, {}
+# By their names and numbers, and the terms that are kept so that their numbers are not used again.
+_constants, _names, _kept = {}, {}, []
 
 
 class Refused(Exception):
@@ -30,15 +29,23 @@ def require(condition, message):
 
 def names(term):
     """The names of the constants in a term, each once, in the order in which they occur."""
-    number = term.get_id()
+    _kept.append(term)
+    return _names_of(term.as_ast(), term.ctx_ref())
+
+
+def _names_of(part, context):
+    """By z3's functions for C, which are faster on many parts."""
+    number, app = z3.Z3_get_ast_id(context, part), z3.Z3_to_app(context, part)
     if number not in _names:
-        if z3.is_const(term) and term.decl().kind() == z3.Z3_OP_UNINTERPRETED:
-            name = term.decl().name()
-            require(_constants.setdefault(name, term).sort() == term.sort(), f"two constants {name}")
-            _names[number] = (name,), term
+        parts = [z3.Z3_get_app_arg(context, app, index) for index in range(z3.Z3_get_app_num_args(context, app))]
+        if z3.Z3_get_decl_kind(context, z3.Z3_get_app_decl(context, app)) == z3.Z3_OP_UNINTERPRETED:
+            constant = z3.BitVecRef(part)
+            name = constant.decl().name()
+            require(_constants.setdefault(name, constant).sort() == constant.sort(), f"two constants {name}")
+            _names[number] = name,
         else:
-            _names[number] = tuple(dict.fromkeys(name for part in term.children() for name in names(part))), term
-    return _names[number][0]
+            _names[number] = tuple(dict.fromkeys(name for each in parts for name in _names_of(each, context)))
+    return _names[number]
 
 
 def is_public(term):
@@ -106,7 +113,7 @@ def _renamed(facts):
     return [z3.simplify(z3.substitute(fact, *new)) for fact in facts]
 
 
-def _answer(logic, conditions, limit):
+def _answer(logic, conditions, limit, models=None):
     solver = z3.SolverFor(logic)
     solver.set("rlimit", limit)
     solver.add(*conditions)
@@ -114,6 +121,8 @@ def _answer(logic, conditions, limit):
     counts["asked"] += 1
     if answer == z3.unsat:
         proved.append((logic, conditions))
+    if answer == z3.sat and models is not None:
+        models.append(solver.model())
     return answer
 
 
@@ -152,7 +161,12 @@ def _is_impossible(facts, are_public):
     """The same of facts with new names, so that what differs by names alone is asked once. Sums of many bits are hard
     in bits and easy in integers, masks are the other way round."""
     known = _in_integers(facts) if are_public else None
-    answer = _answer("QF_LIA", [*known.ranges.values(), *known.conditions], QUICK) if known else z3.unknown
+    if known and known.models:
+        return False  # What holds for some values is possible.
+    answer = z3.unknown
+    if known:
+        conditions = [*known.ranges.values(), *known.conditions]
+        answer = _answer("QF_LIA", conditions, QUICK, _in_integers(facts[:-1]).models)
     if answer == z3.unknown:
         answer = _answer("QF_BV", facts, LIMIT)
     return answer == z3.unsat

@@ -8,8 +8,7 @@ import subprocess
 
 import z3
 
-# In steps of cvc5.
-LIMIT = 20_000_000
+LIMIT = 20_000_000  # in steps of cvc5
 
 
 def as_text(logic, conditions):

@@ -13,13 +13,13 @@ from solver import questions, second
 from solver.questions import require
 
 FACTOR = 0xCCCCCCCCCCCCCCCD
-# By a number's own number in z3: the number, its tenth, what is below, and the greatest value of the tenth.
+# By a number's own number in z3, which is not used again as long as the number is kept: the number, its tenth, what is
+# below, and the greatest value of the tenth.
 _tenths = {}
 
 
 def lemma(factor=FACTOR):
-    """Conditions that contradict each other if and only if the upper half of each product is 8 tenths and less than 8
-    more."""
+    """Conditions that contradict each other if and only if an upper half is always 8 tenths and less than 8 more."""
     x, upper, lower, tenth, more = z3.Ints("x upper lower tenth more")
     product = [x * factor == upper * (1 << 64) + lower, 0 <= lower, lower < 1 << 64, upper == 8 * tenth + more]
     return [0 <= x, x < 1 << 64, *product, 0 <= more, more < 8, z3.Not(z3.And(10 * tenth <= x, x < 10 * tenth + 10))]
@@ -41,13 +41,9 @@ def parts(number):
         kind = "p" if questions.is_public(number) else "g"
         tenth, more = [z3.BitVec(f"{kind}_{name}_{number.get_id()}", bits)
                        for name, bits in (("tenth", 61), ("more", 3))]
-        most = next((most for _, other, _, most in _tenths.values() if _whole(other).eq(number)), (1 << 64) - 1)
-        # The number is kept, so that its own number is not used again.
+        most = next((most for _, other, _, most in _tenths.values() if z3.simplify(z3.ZeroExt(3, other)).eq(number)),
+                    (1 << 64) - 1)
         _tenths[number.get_id()] = number, tenth, more, most // 10
     _, tenth, more, most = _tenths[number.get_id()]
-    whole = _whole(tenth)
+    whole = z3.ZeroExt(3, tenth)
     return tenth, more, z3.And(z3.ULE(whole, most), z3.ULE(10 * whole, number), z3.ULT(number - 10 * whole, 10))
-
-
-def _whole(tenth):
-    return z3.simplify(z3.ZeroExt(3, tenth))

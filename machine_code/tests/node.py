@@ -71,7 +71,8 @@ FUNCTIONS = """
 
 def _function(name, text):
     mnemonic = text.split()[0]
-    operands = " ".join(f"i32.const {16 * at} {TYPES[kind]}.load" for at, kind in enumerate(HANDLERS[mnemonic].takes))
+    operands = " ".join(f"i32.const {16 * index} {TYPES[kind]}.load"
+                        for index, kind in enumerate(HANDLERS[mnemonic].takes))
     if ".store" in mnemonic:
         return f'(func (export "{name}") {operands} {text})'
     type_ = mnemonic.split(".")[0]
@@ -101,21 +102,21 @@ class Concrete:
     """What a state does whose memory is known, except for UNKNOWN."""
 
     def load(self, address, count, aligned=False):
-        at = simple(address).as_long()
+        address = simple(address).as_long()
         require(count & count - 1 == 0, "an access of another size")
-        if count == 1 and at in UNKNOWN:
-            return [UNKNOWN[at]]
-        return [BYTES[value] for value in self.memory[at : at + count]]
+        if count == 1 and address in UNKNOWN:
+            return [UNKNOWN[address]]
+        return [BYTES[value] for value in self.memory[address : address + count]]
 
     def store(self, address, lane, aligned=False):
-        at = simple(address).as_long()
+        address = simple(address).as_long()
         require(len(lane) & len(lane) - 1 == 0, "an access of another size")
-        self.memory[at : at + len(lane)] = [self.known(value).as_long() for value in lane]
+        self.memory[address : address + len(lane)] = bytes(self.known(value).as_long() for value in lane)
 
     def known(self, term):
         term = simple(term)
         return term if z3.is_bv_value(term) else simple(z3.substitute(
-            term, *[(name, BYTES[self.before[at]]) for at, name in UNKNOWN.items()]))
+            term, *[(name, BYTES[self.before[address]]) for address, name in UNKNOWN.items()]))
 
     def is_right(self):
         return all(z3.is_true(self.known(fact.term)) for fact in self.facts)
@@ -135,7 +136,7 @@ class Node:
         code = Code(pathlib.Path(MODULE).read_bytes(), {None: webassembly}, "const_hex_encode", {})
         texts = sorted({i.text for function in code.object.functions
                         for i in webassembly.instructions(code, function, None).values() if i.mnemonic not in CONTROL})
-        self.names = {text: f"f{at}" for at, text in enumerate(texts)}
+        self.names = {text: f"f{number}" for number, text in enumerate(texts)}
         functions = " ".join(_function(name, text) for text, name in self.names.items())
         self.names |= {name: name for name in re.findall(r'export "(\w+)"', FUNCTIONS)}
         text = f'(module (memory 1 1) (global (mut i32) (i32.const {SIZE})) (export "memory" (memory 0))'
@@ -163,14 +164,15 @@ class Node:
 
     def _by_the_meanings(self, name, before):
         state = type("State", (Concrete, self.meanings.State), {})()
-        contract = types.SimpleNamespace(returns=lambda state: None, is_alone=lambda state, at: at == 201)
+        contract = types.SimpleNamespace(returns=lambda state: None, is_alone=lambda state, offset: offset == 201)
         state.code, state.contract, state.calls, state.steps = self.code, contract, {}, 0
-        state.before, state.input = before, {at: (at, name) for at, name in UNKNOWN.items()}
+        state.before, state.input = before, {offset: (offset, name) for offset, name in UNKNOWN.items()}
         state.memory, state.vectors, state.facts, state.may_leak = [*before], {}, [], False
         state.general = {"global 0": word(self.code.object.globals[0])}
         state.address = self.code.object.symbols[name]
         state.begin(self.code.object.code_at(state.address), [], z3.BitVec("p_return", 64))
         while after := [way for way in refused_or(step, self.code, state) if way.is_right()]:
+            require(len(after) == 1, "several ways")
             state, = after
         require(state.general["global 0"].eq(word(SIZE)), "another global")
         return bytes(state.memory)

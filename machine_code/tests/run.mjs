@@ -3,13 +3,13 @@
 import { readSync, writeSync } from 'node:fs';
 
 function read(size) {
-    const found = Buffer.alloc(size);
-    for (let at = 0; at < size;) {
-        const count = readSync(0, found, at, size - at);
+    const bytes = Buffer.alloc(size);
+    for (let done = 0; done < size;) {
+        const count = readSync(0, bytes, done, size - done);
         if (count === 0) process.exit(0);
-        at += count;
+        done += count;
     }
-    return found;
+    return bytes;
 }
 
 const readText = () => read(Number(read(8).readBigUInt64LE()));

@@ -93,10 +93,10 @@ class TestProve(InFolder):
 
     def test_what_is_called_is_proved(self):
         """Each function that is called by its contract has it."""
-        found = proofs.contracts_of(library.read(self.file.read_bytes()))
-        proved = {symbol for symbol, _ in found}
-        for _, at in found:
-            for symbol in proofs.effects_of(proofs.CONTRACTS[at]):
+        functions = proofs.contracts_of(library.read(self.file.read_bytes()))
+        proved = {symbol for symbol, _ in functions}
+        for _, number in functions:
+            for symbol in proofs.effects_of(proofs.CONTRACTS[number]):
                 if symbol in library.read(self.file.read_bytes()).symbols:
                     self.assertIn(symbol, proved)
 
@@ -108,8 +108,8 @@ class TestProve(InFolder):
     def test_contracts_of_functions(self):
         """Each function has them, with as many arguments; and those that are not constant-time are known. What a
         decoder is that a program has changed is no secret."""
-        contracts = [it for it in (*FUNCTIONS, *MESSAGES) if not it.is_local and "changed" not in it.name]
-        self.assertEqual({(it.function, len(it.arguments), not it.may_leak) for it in contracts},
+        contracts = [each for each in (*FUNCTIONS, *MESSAGES) if not each.is_local and "changed" not in each.name]
+        self.assertEqual({(each.function, len(each.arguments), not each.may_leak) for each in contracts},
                          {(name, len(function.parameters.split()), function.is_constant_time)
                           for name, function in names.FUNCTIONS.items()})
 

@@ -35,9 +35,9 @@ def parts():
     for file in FOLDERS[0].glob("*.py"):
         for function in ast.walk(ast.parse(file.read_text())):
             for node in ast.walk(function) if isinstance(function, ast.FunctionDef) else ():
-                if isinstance(node, (ast.Tuple, ast.List)) and len(node.elts) > 1 and all(
-                        isinstance(row, ast.Tuple) for row in node.elts):
-                    for row in node.elts:
+                if isinstance(node, (ast.Tuple, ast.List)) and len(node.elts) > isinstance(node, ast.Tuple) and all(
+                        isinstance(row, (ast.Tuple, ast.Starred)) for row in node.elts):
+                    for row in [row for row in node.elts if isinstance(row, ast.Tuple)]:
                         yield file, row, ast.parse(f"[*({ast.unparse(row)} and ())]").body[0].value.elts[0]
                 if isinstance(node, ast.Yield) and node.value:
                     yield file, node, node.value

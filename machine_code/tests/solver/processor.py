@@ -39,15 +39,15 @@ KINDS = {
     "x86_64": ("rax rcx rdx rbx rsp rbp rsi rdi r8 r9 r10 r11 r12 r13 r14 r15".split(), ["cc"], [],
                {"c": 0, "z": 6, "s": 7, "o": 11}, 5,
                r"\b([abcd]|[sd]i|[sb]p)l\b|(?<=\b[re])([abcd]x|[sd]i|[sb]p)\b|(?<=[a-z])(?<!0x)\d+|0x\w{2,}|\[.*\]"),
-    "aarch64": ([f"x{at}" for at in range(31)] + ["sp"], ["aarch64-linux-gnu-gcc", "-static"], ["qemu-aarch64"],
+    "aarch64": ([f"x{number}" for number in range(31)] + ["sp"], ["aarch64-linux-gnu-gcc", "-static"], ["qemu-aarch64"],
                 {"s": 31, "z": 30, "c": 29, "o": 28}, 4, r"(?<=\b[xwvqdsbh])\d+|(?<=#)-?\d\d+|0x\w{2,}"),
 }
 
 
 def _random_bytes(some, count):
     """Random bytes; often at the edges, and sometimes all 0."""
-    found, kind = some.randbytes(count), some.randrange(8)
-    return bytes(count) if kind == 0 else found if kind < 4 else found.translate(EDGES)
+    content, kind = some.randbytes(count), some.randrange(8)
+    return bytes(count) if kind == 0 else content if kind < 4 else content.translate(EDGES)
 
 
 def _number(term, bits):
@@ -58,16 +58,16 @@ def _number(term, bits):
 
 class Processor:
     def __init__(self, content, function):
-        found = library.read(content)
-        symbol = next(symbol for symbol in found.symbols if re.fullmatch(function, symbol))
+        linked = library.read(content)
+        symbol = next(symbol for symbol in linked.symbols if re.fullmatch(function, symbol))
         self.code = Code(content, PROCESSORS, symbol, {})
-        for start in sorted(found.starts):
+        for start in sorted(linked.starts):
             self.code.instructions[start]  # which reads them
         self.meanings = self.code.processor
         name = self.meanings.__name__.rpartition(".")[2]
         self.names, compiler, emulator, self.bits, self.jump, self.not_form = KINDS[name]
-        self.memory = bytearray(found.size)
-        for part in found.segments:
+        self.memory = bytearray(linked.size)
+        for part in linked.segments:
             self.memory[part.address : part.address + len(part.content)] = part.content
         with tempfile.TemporaryDirectory() as folder:
             sources = [FOLDER / "run.c", FOLDER / f"run_{name}.S"]
@@ -92,7 +92,7 @@ class Processor:
                 if not target or not is_near and self.code.object.code_at(target):
                     operands = "" if target else re.sub(self.not_form, "", i.text.partition(" ")[2])
                     forms.setdefault(f"{i.mnemonic} {operands}", []).append(i)
-        return {form: found[:: max(1, len(found) // PLACES)][:PLACES] for form, found in forms.items()}
+        return {form: those[:: max(1, len(those) // PLACES)][:PLACES] for form, those in forms.items()}
 
     def _target(self, i):
         """Where a jump goes, or 0."""
@@ -103,16 +103,16 @@ class Processor:
 
         class Concrete(self.meanings.State):
             def load(self, address, count, aligned=False):
-                at = simple(address).as_long()
+                address = simple(address).as_long()
                 require(count & count - 1 == 0, "an access of another size")
-                require(not aligned or at % count == 0, "not aligned")
-                data, start = (memory[0], SCRATCH) if at >= SCRATCH else (memory[1], TEXT)
-                return [BYTES[value] for value in data[at - start :][:count]]
+                require(not aligned or address % count == 0, "not aligned")
+                data, start = (memory[0], SCRATCH) if address >= SCRATCH else (memory[1], TEXT)
+                return [BYTES[value] for value in data[address - start :][:count]]
 
             def store(self, address, lane, aligned=False):
-                at = simple(address).as_long() - SCRATCH
+                first = simple(address).as_long() - SCRATCH
                 require(len(lane) & len(lane) - 1 == 0, "an access of another size")
-                memory[0][at : at + len(lane)] = bytes(simple(value).as_long() for value in lane)
+                memory[0][first : first + len(lane)] = bytes(simple(value).as_long() for value in lane)
 
         state = Concrete()
         state.code, state.calls, state.facts, state.is_legacy = self.code, {}, [], False
@@ -120,8 +120,8 @@ class Processor:
         state.general = {name: int.from_bytes(_random_bytes(some, 8), "little") if near is None else
                          (near + some.randrange(-1, 2)) % (1 << 64) for name in self.names}
         state.general[state.TOP] = SCRATCH + MIDDLE
-        raw = {at: _random_bytes(some, state.WIDTH) for at in range(state.VECTORS)}
-        state.vectors = {at: [BYTES[value] for value in lane] for at, lane in raw.items()}
+        raw = {number: _random_bytes(some, state.WIDTH) for number in range(state.VECTORS)}
+        state.vectors = {number: [BYTES[value] for value in lane] for number, lane in raw.items()}
         return state, raw
 
     def _known(self, term):
@@ -160,7 +160,7 @@ class Processor:
         request += struct.pack("<QQ", sum(bit << self.bits[name] for name, bit in flags.items()), 0) + before
         self.process.stdin.write(request)
         self.process.stdin.flush()
-        found = self.process.stdout.read(len(request) - 24)
+        after = self.process.stdout.read(len(request) - 24)
         # An address in the program is a constant's: the base of its region and an offset.
         load = state.load
         state.load = lambda address, count, aligned=False: load(self._known(simple(address)), count, aligned)
@@ -168,27 +168,28 @@ class Processor:
         to = refused_or(self.meanings.HANDLERS[i.mnemonic], state, meant or i)
         lanes = {number: [*raw[number]] if lane is old[number] else [_number(part, 8) for part in lane]
                  for number, lane in state.vectors.items()}
-        return ", ".join(self._compared(state, raw, lanes, found, scratch, target, to))
+        return ", ".join(self._compared(state, raw, lanes, after, scratch, target, to))
 
-    def _compared(self, state, raw, lanes, found, scratch, target, to):
-        at = 0
+    def _compared(self, state, raw, lanes, after, scratch, target, to):
+        offset = 0
         for name in self.names:
-            if struct.unpack_from("<Q", found, at)[0] != _number(self._known(state.general[name]), 64):
+            if struct.unpack_from("<Q", after, offset)[0] != _number(self._known(state.general[name]), 64):
                 yield name
-            at += 8
+            offset += 8
         for name, lane in lanes.items():
-            if [*found[at : at + state.WIDTH]] != lane:
+            if [*after[offset : offset + state.WIDTH]] != lane:
                 yield f"vector {name}"
-            if state.is_clean and found[at + 16 : at + state.WIDTH] not in (raw[name][16:], bytes(state.WIDTH - 16)):
+            above = after[offset + 16 : offset + state.WIDTH]
+            if state.is_clean and above not in (raw[name][16:], bytes(state.WIDTH - 16)):
                 yield f"what lies above in vector {name}"
-            at += state.WIDTH
+            offset += state.WIDTH
         if state.is_legacy:
             yield "what the next instruction is"
-        flags, is_taken = struct.unpack_from("<QQ", found, at)
-        if found[at + 16 :] != scratch:
+        flags, is_taken = struct.unpack_from("<QQ", after, offset)
+        if after[offset + 16 :] != scratch:
             yield "memory"
         for name, flag in (state.flags or {}).items():
-            if z3.is_true(simple(flag)) != bool(flags >> self.bits[name] & 1):
+            if flag is not None and z3.is_true(simple(flag)) != bool(flags >> self.bits[name] & 1):
                 yield f"flag {name}"
         if target and (not isinstance(to, Branch) or z3.is_true(simple(to.choice)) != bool(is_taken)):
             yield "the jump"

@@ -112,8 +112,8 @@ def parts_of(build, function):
     if build == WASM:
         bodies = list(re.finditer(r"^\(func .*\n(?:\(local.*\n)?((?:(?!\().*\n)*)", text, re.M))
         exported = re.search(rf'export "const_hex_{function}" \(func (\d+)\)', text)
-        found = [bodies[int(exported[1])]] if exported else [body for body in bodies if function in body[1]]
-        return [body.span(1) for body in found]
+        bodies = [bodies[int(exported[1])]] if exported else [body for body in bodies if function in body[1]]
+        return [body.span(1) for body in bodies]
     name = rf"(const_hex_([\d_]+_|body_|message_|kernel_)?)?{function}(_nonnull)?(_v\d)?"
     starts = re.finditer(rf"^(function|constant|\.macro) (SYMBOL\()?{name}\b.*\n", text, re.M)
     return [(start.end(), text.index("\n\n", start.end())) for start in starts]
@@ -125,11 +125,11 @@ def edited(build, function, old, new):
     before."""
     text = text_of(build)
     olds, news = [lines.replace("; ", "\n").split(" | ") for lines in (old, new)]
-    at = next(found for start, end in parts_of(build, function) if (found := text.find(olds[0], start, end)) >= 0)
+    first = next(place for start, end in parts_of(build, function) if (place := text.find(olds[0], start, end)) >= 0)
     for before, after in zip(olds, news):
-        at = text.index(before, at)
-        text = text[:at] + after + ("" if before else "\n") + text[at + len(before) :]
-        at += len(after)
+        first = text.index(before, first)
+        text = text[:first] + after + ("" if before else "\n") + text[first + len(before) :]
+        first += len(after)
     if build == WASM:
         return assembled_module(text)
     return assembled(text, COMPILERS["aarch64" if build.lower().endswith("aarch64") else "v3"])
@@ -139,8 +139,8 @@ def prove(content, call, contracts=KERNELS, name=None, which=slice(None)):
     """Proves the first contract of a call, or that of a name, from all starts or from some."""
     contract = next(contract for contract in contracts
                     if contract.function == call and contract.name == (name or contract.name))
-    found = [symbol for symbol in library.read(content).symbols
-             if re.fullmatch(contract.symbol if not library.is_module(content) else
+    symbols = [symbol for symbol in library.read(content).symbols
+               if re.fullmatch(contract.symbol if not library.is_module(content) else
                              contract.symbol.removesuffix("_nonnull"), symbol)]
-    require(len(found) == 1, f"{len(found)} functions {contract.symbol}")
-    return proofs.prove(content, found[0], contract, which)
+    require(len(symbols) == 1, f"{len(symbols)} functions {contract.symbol}")
+    return proofs.prove(content, symbols[0], contract, which)

@@ -59,8 +59,8 @@ def changed_module(content, some):
         except ValueError:
             continue
         names = [name for name in before if after.get(name) != before[name]]
-        if len(names) == 1 and (found := users(content, names[0])):
-            return with_bit(content, place, bit), f"{names[0]}+{place:#x}, bit {bit}", found
+        if len(names) == 1 and (contracts := users(content, names[0])):
+            return with_bit(content, place, bit), f"{names[0]}+{place:#x}, bit {bit}", contracts
 
 
 def parts_of_module(content):
@@ -71,15 +71,15 @@ def parts_of_module(content):
 
 def users(content, part):
     """The contracts of the function of a module, or of those that call it or use its data."""
-    module, found = library.whole(content), []
+    module, contracts = library.whole(content), []
     functions = {function.name: function for function in module.functions}
     for symbol, number in proofs.contracts_of(module):
         names = [module.code_at(module.symbols[symbol]).name]
         for name in names:
             called = {f"function {line.split()[1]}" for line in functions[name].content if line.startswith("call ")}
             names += sorted(called - {*names})
-        found += [(names[0] == part, symbol, number)] if part in (*names, "data") else []
-    return [rest for is_own, *rest in found if is_own] or [rest for _, *rest in found]
+        contracts += [(names[0] == part, symbol, number)] if part in (*names, "data") else []
+    return [rest for is_own, *rest in contracts if is_own] or [rest for _, *rest in contracts]
 
 
 def changed_library(content, some):
@@ -90,10 +90,9 @@ def changed_library(content, some):
     distance, bit, image = some.randrange(size), some.randrange(8), library.whole(content)
     place, name = max((place, name) for name, place in image.symbols.items() if place <= address + distance)
     kind = lambda symbol: (re.search("_v[23]$", symbol) or [""])[0] or bool(re.search(r"\d_\d_\d|kernel", symbol))
-    contracts = proofs.contracts_of(image)
-    found = [pair for pair in contracts if pair[0] == name]
-    found = found or [pair for pair in contracts if kind(pair[0]) == kind(name)]
-    return with_bit(content, offset + distance, bit), f"{name}+{address + distance - place:#x}, bit {bit}", found
+    pairs = proofs.contracts_of(image)
+    contracts = [pair for pair in pairs if pair[0] == name] or [pair for pair in pairs if kind(pair[0]) == kind(name)]
+    return with_bit(content, offset + distance, bit), f"{name}+{address + distance - place:#x}, bit {bit}", contracts
 
 
 def reason(content, contracts):
@@ -114,8 +113,8 @@ def with_kernel(content, level):
               if header[4] <= symbols["const_hex_kernel_read"] < header[4] + header[6]]
     for kernel in ("check", "fill", "read"):
         name = f"const_hex_kernel_{kernel}"
-        at = symbols[name] - text[4] + text[5]
-        content[at : at + 5] = b"\xe9" + struct.pack("<i", symbols[name + level] - symbols[name] - 5)
+        place = symbols[name] - text[4] + text[5]
+        content[place : place + 5] = b"\xe9" + struct.pack("<i", symbols[name + level] - symbols[name] - 5)
     return bytes(content)
 
 
@@ -163,7 +162,7 @@ def main():
     parser.add_argument("--seed", type=int, default=random.getrandbits(32))
     parser.add_argument("--jobs", type=int, default=multiprocessing.cpu_count())
     options = parser.parse_args()
-    jobs = [(options.files[at % len(options.files)], f"{options.seed} {at}") for at in range(options.count)]
+    jobs = [(options.files[number % len(options.files)], f"{options.seed} {number}") for number in range(options.count)]
     failed = 0
     with multiprocessing.Pool(options.jobs, maxtasksperchild=1) as pool:
         for what, is_right, said in pool.imap_unordered(task, jobs, 1):

@@ -22,7 +22,7 @@ const length = () => random(random(4) ? 40 : 600);
 /** Fills the memory of a caller, mostly with digits, which may begin with a prefix and have a wrong character. */
 function fill(bytes, count) {
     const isText = random(4);
-    for (let at = HEAP; at < HEAP + 8192; at++) bytes[at] = isText ? digit() : random(256);
+    for (let index = HEAP; index < HEAP + 8192; index++) bytes[index] = isText ? digit() : random(256);
     if (random(3) === 0) bytes.set([0x30, random(2) ? 0x78 : 0x58], TEXT);
     if (random(2) && count) bytes[TEXT + random(count)] = random(256);
     const position = [0, 1, 2 + random(2 ** 31)][random(3)];
@@ -45,9 +45,9 @@ for (let round = 0; round < 6000; round++) {
     fill(before, count);
     before.copy(after, HEAP, HEAP);
     const given = call(name, count);
-    const [wanted, found] = [right, other].map((module) => module[name](...given));
-    if (wanted !== found || !before.subarray(HEAP).equals(after.subarray(HEAP))) {
-        console.log(`${name} ${given}: ${found}, and not ${wanted}`);
+    const [wanted, result] = [right, other].map((module) => module[name](...given));
+    if (wanted !== result || !before.subarray(HEAP).equals(after.subarray(HEAP))) {
+        console.log(`${name} ${given}: ${result}, and not ${wanted}`);
         process.exit(1);
     }
 }

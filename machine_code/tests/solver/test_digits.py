@@ -17,9 +17,9 @@ RANGE = r"nat_le (\d+) b && nat_le b (\d+) then Some \(b - (\d+)\)"
 class TestDigits(unittest.TestCase):
     def test_values(self):
         """`hex_value`, as the file of definitions has it."""
-        found = re.search(r"\nhex_value b =\n(.*?)\n\n", SPECS.read_text(), re.DOTALL)[1]
-        self.assertEqual(re.sub(rf"(else )?if {RANGE}|else None|\s", "", found), "")
-        ranges = [tuple(map(int, numbers)) for numbers in re.findall(RANGE, found)]
+        text = re.search(r"\nhex_value b =\n(.*?)\n\n", SPECS.read_text(), re.DOTALL)[1]
+        self.assertEqual(re.sub(rf"(else )?if {RANGE}|else None|\s", "", text), "")
+        ranges = [tuple(map(int, numbers)) for numbers in re.findall(RANGE, text)]
         values = {number: number - less for first, last, less in ranges for number in range(first, last + 1)}
         self.assertEqual({number for number in range(256) if z3.is_true(simple(is_digit(byte(number))))}, {*values})
         self.assertEqual({number: simple(value(byte(number))).as_long() for number in values}, values)

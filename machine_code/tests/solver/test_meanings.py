@@ -52,11 +52,11 @@ class TestMeanings(unittest.TestCase):
     def compare(self, *names):
         compared = set()
         for name in names:
-            found = processor(name)
-            self.addCleanup(found.close)
-            self.assertEqual(list(found.differences()), [])
-            compared |= {form.split()[0] for form in found.forms}
-        missing = found.meanings.HANDLERS.keys() - compared - set(NOT_ALONE)
+            runner = processor(name)
+            self.addCleanup(runner.close)
+            self.assertEqual(list(runner.differences()), [])
+            compared |= {form.split()[0] for form in runner.forms}
+        missing = runner.meanings.HANDLERS.keys() - compared - set(NOT_ALONE)
         # by a condition, which all share
         self.assertEqual([name for name in missing if not name.startswith(("j", "set", "cmov", "b."))], [])
 

@@ -37,10 +37,10 @@ def condition(some):
         z3.If(z3.ULE(a, b), z3.BitVecVal(1, 2), z3.BitVecVal(0, 2)) == 0, z3.Not(z3.Or(a == b, z3.ULE(a, 9)))])
 
 
-def at(made, values, constant=lambda name: name, number=lambda value: z3.BitVecVal(value, BITS)):
+def valued(made, values, constant=lambda name: name, number=lambda value: z3.BitVecVal(value, BITS)):
     """A term where the constants have these values."""
-    found = z3.simplify(z3.substitute(made, *[(constant(x), number(v)) for x, v in zip(NAMES, values)]))
-    return found.as_long() if z3.is_bv(found) or z3.is_int(found) else z3.is_true(found)
+    result = z3.simplify(z3.substitute(made, *[(constant(x), number(v)) for x, v in zip(NAMES, values)]))
+    return result.as_long() if z3.is_bv(result) or z3.is_int(result) else z3.is_true(result)
 
 
 class TestQuestions(unittest.TestCase):
@@ -52,7 +52,7 @@ class TestQuestions(unittest.TestCase):
         linear = 0
         for _ in range(150):
             values = [self.some.randrange(1 << BITS) for _ in NAMES]
-            facts = [fact for fact in (z3.simplify(condition(self.some)) for _ in range(5)) if at(fact, values)]
+            facts = [fact for fact in (z3.simplify(condition(self.some)) for _ in range(5)) if valued(fact, values)]
             goal = z3.simplify(condition(self.some))
             known = integers.Facts(questions.is_impossible_in_integers)
             for fact in [*facts, goal]:
@@ -62,8 +62,8 @@ class TestQuestions(unittest.TestCase):
             linear += 1
             *_, made = known.conditions
             in_integers = dict(constant=lambda name: z3.Int(str(name)), number=z3.IntVal)
-            self.assertEqual(at(made, values, **in_integers), at(goal, values), (facts, goal, values))
-            self.assertTrue(all(at(fact, values, **in_integers) for fact in before.conditions), facts)
+            self.assertEqual(valued(made, values, **in_integers), valued(goal, values), (facts, goal, values))
+            self.assertTrue(all(valued(fact, values, **in_integers) for fact in before.conditions), facts)
         self.assertGreater(linear, 60)
 
     @mock.patch.object(integers, "FEW", BITS - 1)
@@ -78,7 +78,7 @@ class TestQuestions(unittest.TestCase):
         for _ in range(300):
             made, values = condition(self.some), [self.some.randrange(1 << BITS) for _ in NAMES]
             parts = questions.conjuncts(made)
-            self.assertEqual(all(at(part, values) for part in parts), at(made, values), made)
+            self.assertEqual(all(valued(part, values) for part in parts), valued(made, values), made)
 
     def test_what_follows_holds_for_all_values(self):
         answers = {True: 0, False: 0}
@@ -90,7 +90,7 @@ class TestQuestions(unittest.TestCase):
             answer = questions.holds(known, goal)
             answers[answer] += 1
             if answer:
-                self.assertTrue(all(at(claimed, values) for values in self.some.sample(every, 400)), claimed)
+                self.assertTrue(all(valued(claimed, values) for values in self.some.sample(every, 400)), claimed)
         self.assertGreater(min(answers.values()), 3)
 
     def test_all_values(self):

@@ -38,12 +38,12 @@ def is_start(state, text, decoder):
     solver = z3.SolverFor("QF_BV")
     solver.add(*[fact.term for fact in state.facts], base("input") != 0, base("output") != 0)
     solver.add(z3.BitVec("p_n", 64) == len(text))
-    for at, name in state.input.values():
-        if at.as_long() < len(text):
-            solver.add(name == byte(text[at.as_long()]))
-    for (region, at), cell in state.first_cells.items():
+    for offset, name in state.input.values():
+        if offset.as_long() < len(text):
+            solver.add(name == byte(text[offset.as_long()]))
+    for (region, offset), cell in state.first_cells.items():
         if region == "decoder":
-            solver.add(cell == byte(decoder[at]))
+            solver.add(cell == byte(decoder[offset]))
     return solver.check() == z3.sat
 
 
@@ -57,8 +57,8 @@ class TestStarts(unittest.TestCase):
         return (start + "".join(self.some.choices("0123456789abcdefABCDEF", k=self.some.randrange(6)))).encode()
 
     def assert_one_start(self, call, text, decoder=b""):
-        found = sum(is_start(state, text, decoder) for state in starts(call))
-        self.assertEqual(found, 1, (call, text, decoder))
+        count = sum(is_start(state, text, decoder) for state in starts(call))
+        self.assertEqual(count, 1, (call, text, decoder))
 
     def test_texts(self):
         for text in [self.text() for _ in range(20)]:

@@ -53,32 +53,23 @@ WRONG = [
      "an offset in the stack is not known"),
     ("a value from below the stack pointer", "v3", "check",
      {"start": "sub rsp, 64; mov [rsp], rsi; add rsp, 64; sub rsp, 64; mov rsi, [rsp]; add rsp, 64"}, UNWRITTEN),
-    ("a value that is popped twice", "v3", "check",
-     {"start": "push rsi; pop rax; sub rsp, 8; pop rsi"}, UNWRITTEN),
     ("a read of the red zone", "v3", "check", {"start": "mov al, [rsp-8]"}, BELOW),
-    ("a vector below the stack pointer", "v3", "check", {"start": "vmovdqu [rsp-32], xmm0"}, BELOW),
     ("a stack that is too long", "v3", "check", {"start": "sub rsp, 0x800; push rsi; pop rsi; add rsp, 0x800"},
      NOT_IN_STACK),
-    ("a stack pointer that is a length", "v3", "check",
-     {"start": "mov rax, rsp; mov rsp, rsi; mov rsp, rax"}, NOT_IN_STACK),
-    ("the stack is not restored", "v3", "check", {"end": "sub rsp, 8; push rax; pop rcx"}, UNWRITTEN),
     ("a return that pops too much", "v3", "check", {"end": "pop rcx; add rsp, 8; push rcx; sub rsp, 8; add rsp, 8"},
      NOT_IN_STACK),
     ("a return that leaves the stack", "v3", "check", {"end": "pop rcx; push rcx; push rcx"},
      "the stack pointer is not as before"),
     ("a return to another place", "v3", "check", {"end": "add qword ptr [rsp], 2"}, "a return to another place"),
     ("rbx", "v3", "check", {"start": "mov rbx, rsi"}, "rbx is not as before"),
-    ("the upper half of rbx", "v3", "check", {"start": "mov ebx, ebx"}, "rbx is not as before"),
     ("vzeroupper", "v3", "check", {"end": "vpxor ymm0, ymm0, ymm0"}, "vzeroupper is missing"),
     ("vzeroupper after a loop", "v3", "check", {"round": "vpxor ymm0, ymm0, ymm0"}, "vzeroupper is missing"),
     ("the direction flag", "v3", "check", {"start": "std"}, "without a meaning"),
-    ("AVX without a check", "v2", "check", {"start": "vzeroupper"}, "is not what the assembler makes"),
     ("an access that is not aligned", "v2", "check", {"start": "cmp rsi, 16; jb 1f; por xmm0, [rdi]"},
      "may not be aligned"),
     *((f"{move} that is not aligned", "v3", "check", {"start": f"cmp rsi, 16; jb 1f; {move} xmm0, [rdi]"},
        "may not be aligned") for move in ("movaps", "movdqa", "vmovdqa")),
     ("a loop without an end", "v3", "check", {"start": "5: jmp 5b"}, "nothing counts down"),
-    ("a loop that ends for some lengths", "v3", "check", {"start": "5: cmp rsi, 0x80; jae 5b"}, "nothing counts down"),
     ("a loop that turns too often", "v3", "check", {"start": "mov r8d, 6; 5: sub r8, 4; jne 5b"}, AT_HEAD),
     ("more rounds than characters", "v3", "check", {"start": "lea rax, [rsi+2000]; 5: sub rax, 1; jne 5b"},
      "the number of rounds"),
@@ -99,7 +90,6 @@ WRONG = [
     ("one character too much", "v3", "check", {"character": "mov cl, [rdi+1]"}, OUTSIDE),
     ("a character before the text", "v3", "check", {"start": "mov cl, [rdi-1]"}, OUTSIDE),
     ("a character of an empty text", "v3", "check", {"start": "mov cl, [rdi]"}, OUTSIDE),
-    ("a read beyond the file", "v3", "check", {"start": "mov al, [rip+table+0x100000]"}, OUTSIDE),
     ("a read of code", "v3", "check", {"start": "mov al, [rip+0x40]"}, "a place that has no constant"),
     ("an alignment that no loader keeps", "v3", "check",
      {"start": "lea rax, [rip+other]; test eax, 0x1000; je 1f; mov eax, 1; ret",
@@ -156,9 +146,6 @@ WRONG = [
      {"start": "push rsi", "round": "pop rax; sub rsp, 8", "end": "pop rcx"}, "the stack"),
     ("a write into a stack that is kept", "v3", "check",
      {"start": "push rsi", "round": "mov [rsp], rsi", "end": "pop rsi"}, "the stack"),
-    ("a branch by a byte", "v3", "fill", {"character": "cmp al, 9; ja 5f; nop; 5:"}, SECRET),
-    ("an address by a byte", "v3", "fill",
-     {"character": "and eax, 7; lea r10, [rip+table]; mov al, [r10+rax]"}, "an address depends on bytes"),
     ("the output is read", "v3", "fill", {"character": "mov dl, [rcx]"}, "output is read"),
     ("the output is written back", "v3", "fill", {"round": "mov al, [rcx-1]; mov [rcx-1], al"}, "output is read"),
     ("a wrong digit", "v3", "fill", {"character": "xor eax, 1"}, "a wrong character at"),
@@ -186,21 +173,12 @@ WRONG = [
                "cmp byte ptr [rdi+6], 0x30; jb 3f"}, HOLE),
     ("a byte that is not written", "v3", "read", {"store": "cmp rdx, 1; je 6f; mov [rsi], al; 6:"},
      "a byte of the output is left out"),
-    ("x18", "aarch64", "check", {"start": "mov x18, #1"}, "without a meaning"),
     ("x19", "aarch64", "check", {"start": "mov x19, #1"}, "x19 is not as before"),
     ("v8", "aarch64", "check", {"start": "movi v8.16b, #1"}, "v8 is not as before"),
     ("the stack pointer", "aarch64", "check", {"end": "sub sp, sp, #16"}, "sp is not as before"),
     ("a return to another place", "aarch64", "check", {"end": "add x30, x30, #4"}, "a return to another place"),
     ("a stack that is not aligned", "aarch64", "check",
      {"start": "sub sp, sp, #8; str x0, [sp]; add sp, sp, #8"}, "is not aligned"),
-    ("a value from below the stack pointer", "aarch64", "check",
-     {"start": "str x1, [sp, #-16]!; add sp, sp, #16; sub sp, sp, #16; ldr x1, [sp], #16"}, UNWRITTEN),
-    ("a page beyond the file", "aarch64", "check", {"start": "adrp x8, table + 0x100000; ldrb w8, [x8]"}, OUTSIDE),
-    ("the whole result", "aarch64", "check", {"end": "mov w8, #256; orr w0, w0, w8"}, "neither true nor false"),
-    ("a base that is moved and stored", "aarch64", "check",
-     {"start": "sub sp, sp, #16; mov x8, sp; .inst 0xf8000508; add sp, sp, #16"}, "unpredictable|not what the as"),
-    ("dot products", "aarch64", "check", {"start": ".inst 0x6e809400"}, "without a meaning|not what the assembler"),
-    ("flags that are not known", "aarch64", "check", {"start": "b.eq 5f; nop; 5:"}, "a flag that is not known"),
 ]
 RIGHT = [("a loop over bytes", "v3", call, {}) for call in ("check", "fill", "read")] + [
     ("a loop over bytes", "v2", "check", {}), ("a loop over bytes", "aarch64", "check", {}),
@@ -225,8 +203,8 @@ class TestWrong(unittest.TestCase):
                 prove(content, call, **contract)
             except (Refused, ValueError) as refused:
                 # `run` says where a program is refused, of what another function has found.
-                for found in filter(None, (refused, refused.__context__)):
-                    frames = traceback.extract_tb(found.__traceback__)
+                for error in filter(None, (refused, refused.__context__)):
+                    frames = traceback.extract_tb(error.__traceback__)
                     self.refused.setdefault(self._testMethodName, set()).update(
                         (frame.filename, frame.lineno) for frame in frames)
                 raise
@@ -252,11 +230,11 @@ class TestWrong(unittest.TestCase):
 
     def each_part_refuses_a_row(self):
         """The same of a condition, a row of a table, or a state that a contract yields. It takes hours, so that only a
-        run with the variable CONST_HEX_PARTS does it."""
+        run with the variable CONST_HEX_PARTS does it: for the files with these names, or all if it is 1."""
         if len(self.refused) < self.most:
             self.skipTest("not all rows have run")
         unused = [f"{file.name}:{part.lineno} {ast.unparse(part)}" for file, part, new in deletions.parts()
-                  if not self.is_noticed(file, part, new)]
+                  if os.environ["CONST_HEX_PARTS"] in ("1", file.stem) and not self.is_noticed(file, part, new)]
         self.assertEqual(unused, [])
 
     def is_noticed(self, file, part, new):
@@ -309,9 +287,6 @@ for function in wrong_for_c.RIGHT:
 for what, body, said in wrong_messages.OF_MESSAGES:
     _add(f"of messages {what}", "error_message", functools.partial(wrong_messages.message, body), said,
          contracts=wrong_messages.CONTRACTS)
-for what, old, new, said in wrong_messages.OF_WRITE_ENDED:
-    make = functools.partial(edited, "functions_x86_64", "write_ended", old, new)
-    _add(f"of messages {what}", "write_ended", make, said, contracts=wrong_messages.CONTRACTS)
 for function, what, old, new, said, *name in wrong_messages.OF_DISPATCHERS:
     _add(f"of dispatchers {function} {what}", function, functools.partial(wrong_messages.dispatcher, old, new), said,
          contracts=wrong_messages.CONTRACTS, name=next(iter(name), None))

@@ -75,20 +75,21 @@ REASONS = {
         "lanes SUBTRACT_SATURATED: z3.ULT -> z3.ULE",
         # bits, by one byte or by two
         *[f"x86_64 VECTORS.{name}: 1 -> 2" for name in ("por", "pxor", "xorps")],
-        *[f"webassembly : 1 -> 2 ({at})" for at in (4, 5)],
+        *[f"webassembly : 1 -> 2 ({number})" for number in (4, 5)],
         # what follows a branch is not reached
-        "webassembly EFFECTS.br_table: 0 -> 1", "webassembly Reader.effect: 0 -> 1 (3)",
+        "webassembly EFFECTS.br_table: 0 -> 1",
         # what lies above an i32 does not count
         "webassembly : z3.ZeroExt -> z3.SignExt",
         # one after the other, in any order
         "webassembly Reader.read: ('block', 'loop') -> ('loop', 'block')",
-        "webassembly branch_by: [*ways, (z3.UGE(index, len(targets) - 1), targets[-1])] -> "
-        "[(z3.UGE(index, len(targets) - 1), targets[-1]), *ways]",
+        "webassembly branch_by: [*[(index == number, target) for number, target in enumerate(targets)], "
+        "(z3.UGE(index, len(targets)), last)] -> [(z3.UGE(index, len(targets)), last), "
+        "*[(index == number, target) for number, target in enumerate(targets)]]",
         "webassembly select: (True, False) -> (False, True)",
         "webassembly : ('i32.const', 'i64.const') -> ('i64.const', 'i32.const')",
         "webassembly : (('low', 0), ('high', 8)) -> (('high', 8), ('low', 0))",
         # no register has the number 16
-        "x86_64 : 16 -> 17",
+        "x86_64 GENERAL: 16 -> 17",
         # the kind of all operands
         "aarch64 either: 0 -> 1",
         "webassembly State.leave_function: (f'local {number}.', f'operand {number}.') -> "
@@ -99,19 +100,18 @@ REASONS = {
         # an operand was taken before there is another one
         "webassembly State.put: other.pop(name, None) -> pass"),
     "less is known, which refuses more": (
-        "x86_64 by_one.handler: s.flags or {} -> s.flags and {}", "x86_64 by_one.handler: s.flags |= carry -> pass",
+        "x86_64 by_one.handler: s.flags or {} -> s.flags and {}",
         "x86_64 vzeroupper: True -> False", "x86_64 State.put_vector: 16 -> 17",
         "x86_64 VECTORS.movdqu: False -> True",
         "x86_64 State.lane: self.is_legacy and (size or o.size) == 16 -> self.is_legacy or (size or o.size) == 16",
-        "webassembly State.put: (self.vectors, self.general) -> (self.general, self.vectors)",
-        "webassembly Reader.add: self.height - takes -> takes - self.height"),
-    "wrong_forms.py has a flag that an instruction leaves as it was": (
-        "x86_64 by_one.handler: s.flags.pop('c') -> pass",),
+        "webassembly State.put: (self.vectors, self.general) -> (self.general, self.vectors)"),
     "test_wrong.py has programs with calls, returns and jumps": (
         "x86_64 HANDLERS: 'nop' <-> 'jmp'", "x86_64 HANDLERS: 'jmp' <-> 'call'", "x86_64 HANDLERS: 'call' <-> 'ret'",
-        "x86_64 HANDLERS: 'cpuid' <-> 'xgetbv'", "aarch64 HANDLERS: 'bl' <-> 'ret'"),
+        "x86_64 HANDLERS: 'ret' <-> 'cpuid'", "x86_64 HANDLERS: 'cpuid' <-> 'xgetbv'",
+        "aarch64 HANDLERS: 'bl' <-> 'ret'"),
     "test_wrong.py has programs with accesses that are not aligned": (
         "x86_64 VECTORS: 'movdqu' <-> 'movdqa'", "x86_64 VECTORS: 'movdqa' <-> 'movups'",
+        "x86_64 VECTORS: 'movups' <-> 'movaps'",
         "x86_64 State.lane: (size or o.size) == 16 -> (size or o.size) != 16", "x86_64 State.lane: 16 -> 17",
         "x86_64 State.lane: size or o.size -> size and o.size (3)",
         *[f"x86_64 VECTORS.{name}: True -> False" for name in ("movdqa", "movaps")]),
@@ -158,10 +158,11 @@ def _changed(node):
     if isinstance(node, (ast.List, ast.Tuple)) and isinstance(node.ctx, ast.Load) and len(node.elts) == 2:
         yield ast.unparse(node), _with(node, elts=node.elts[::-1])
     if isinstance(node, ast.Dict):
-        for at in range(len(node.values) - 1):
-            if all(node.keys[at : at + 2]) and ast.unparse(node.values[at]) != ast.unparse(node.values[at + 1]):
-                values = [*node.values[:at], node.values[at + 1], node.values[at], *node.values[at + 2 :]]
-                yield " <-> ".join(map(ast.unparse, node.keys[at : at + 2])), _with(node, values=values)
+        for index in range(len(node.values) - 1):
+            one, other = node.values[index : index + 2]
+            if all(node.keys[index : index + 2]) and ast.unparse(one) != ast.unparse(other):
+                values = [*node.values[:index], other, one, *node.values[index + 2 :]]
+                yield " <-> ".join(map(ast.unparse, node.keys[index : index + 2])), _with(node, values=values)
     is_name = isinstance(node, ast.Assign) and isinstance(node.targets[0], (ast.Name, ast.Tuple))
     is_statement = isinstance(node, (ast.Assign, ast.AugAssign, ast.Expr))
     if is_statement and not is_name and not isinstance(node.value, ast.Constant):
@@ -182,46 +183,32 @@ def _is_lane(node):
 Place = collections.namedtuple("Place", "node name lines")
 
 
-class Places(ast.NodeVisitor):
-    """The places of a file, but those of checks and of what is shown elsewhere."""
-
-    def __init__(self, file):
-        self.file, self.found, self.names, self.lines = file, [], [], None
-        self.tree = ast.parse((MEANINGS / f"{file}.py").read_text())
-        self.visit(self.tree)
-
-    def visit(self, node):
-        if _is_check(node) or isinstance(node, ast.Expr) and _is_check(node.value):
-            return
-        is_function, name = isinstance(node, (ast.FunctionDef, ast.Lambda)), getattr(node, "name", None)
-        if isinstance(node, (ast.JoinedStr, ast.Import, ast.ImportFrom)) or is_function and self._is_elsewhere(name):
-            return
-        old = self.names, self.lines
-        is_set = isinstance(node, (ast.Assign, ast.AugAssign)) and not self.names
-        named = ast.unparse(getattr(node, "target", None) or node.targets[0]) if is_set else name
-        self.names = [*self.names, named] if named else self.names
-        self.lines = self.lines or ((node.lineno, node.end_lineno + 1) if is_function else None)
-        if hasattr(node, "lineno") and (self.lines or ".".join(self.names) not in CONSTANTS):
-            self.found.append(Place(node, ".".join(self.names), self.lines))
-        if isinstance(node, ast.Dict):
-            self._visit_entries(node)
-        else:
-            self.generic_visit(node)
-        self.names, self.lines = old
-
-    def _is_elsewhere(self, name):
-        return name in ELSEWHERE and (self.file != "webassembly" or name in ELSEWHERE[:ALL])
-
-    def _visit_entries(self, node):
-        for key, value in zip(node.keys, node.values):
-            name = getattr(key, "value", None)
-            self.names = [*self.names, name] if isinstance(name, str) else self.names
-            self.visit(value)
-            self.names = self.names[:-1] if isinstance(name, str) else self.names
+def places(file, node, names=(), lines=None):
+    """The places in a node of a file, but those of checks and of what is shown elsewhere."""
+    is_function, own = isinstance(node, (ast.FunctionDef, ast.Lambda)), getattr(node, "name", None)
+    is_elsewhere = is_function and own in (ELSEWHERE if file != "webassembly" else ELSEWHERE[:ALL])
+    is_check = isinstance(node, ast.Call) and ast.unparse(node.func) in ("require", "s.must", "self.must")
+    if is_check or is_elsewhere or isinstance(node, (ast.JoinedStr, ast.Import, ast.ImportFrom)):
+        return
+    if isinstance(node, (ast.Assign, ast.AugAssign)) and not names:
+        own = ast.unparse(getattr(node, "target", None) or node.targets[0])
+    names = (*names, own) if own else names
+    lines = lines or ((node.lineno, node.end_lineno + 1) if is_function else None)
+    # A check that is a statement cannot be left out, either.
+    if isinstance(node, ast.Expr) and not [*places(file, node.value)]:
+        return
+    if hasattr(node, "lineno") and (lines or ".".join(names) not in CONSTANTS):
+        yield Place(node, ".".join(names), lines)
+    entries = zip(node.keys, node.values) if isinstance(node, ast.Dict) else ()
+    keys = {value: key.value for key, value in entries if isinstance(key, ast.Constant) and isinstance(key.value, str)}
+    for child in node.values if isinstance(node, ast.Dict) else ast.iter_child_nodes(node):
+        yield from places(file, child, (*names, keys[child]) if child in keys else names, lines)
 
 
-def _is_check(node):
-    return isinstance(node, ast.Call) and ast.unparse(node.func) in ("require", "s.must", "self.must")
+def tree_of(file):
+    """The syntax tree of a file, and its places."""
+    tree = ast.parse((MEANINGS / f"{file}.py").read_text())
+    return tree, [*places(file, tree)]
 
 
 def changes():
@@ -229,40 +216,32 @@ def changes():
     one of the same name has a 2 after it."""
     count = collections.Counter()
     for file in FILES:
-        for at, place in enumerate(Places(file).found):
+        for index, place in enumerate(tree_of(file)[1]):
             for number, (said, _) in enumerate(alternatives(place.node)):
                 what = f"{file} {place.name}: {said}"
                 count[what] += 1
-                yield file, at, number, what if count[what] == 1 else f"{what} ({count[what]})"
+                yield file, index, number, what if count[what] == 1 else f"{what} ({count[what]})"
 
 
-def loaded(file, at, number):
-    """The modules of all files, of which one is changed, and the place of the change."""
+def loaded(file, index, number):
+    """The modules of a file that is changed, and of those that import it; and the place of the change."""
     class Change(ast.NodeTransformer):
         def visit(self, node):
             return new if node is place.node else self.generic_visit(node)
 
+    tree, every = tree_of(file)
+    place = every[index]
+    new = ast.copy_location(list(alternatives(place.node))[number][1], place.node)
+    trees = {file: ast.fix_missing_locations(Change().visit(tree))}
+    trees |= {name: tree_of(name)[0] for name in FILES if file == "lanes" and name != file}
     modules, old = {}, {name: module for name, module in sys.modules.items() if name.startswith("meanings.")}
     try:
-        for name in FILES:
-            code = compiled(name)
-            if name == file:
-                places = Places(name)
-                place = places.found[at]
-                new = ast.copy_location(list(alternatives(place.node))[number][1], place.node)
-                Change().visit(places.tree)
-                code = compile(ast.fix_missing_locations(places.tree), str(MEANINGS / f"{name}.py"), "exec")
+        for name, tree in trees.items():
             modules[name] = sys.modules[f"meanings.{name}"] = types.ModuleType(f"meanings.{name}")
-            exec(code, modules[name].__dict__)
+            exec(compile(tree, str(MEANINGS / f"{name}.py"), "exec"), modules[name].__dict__)
     finally:
         sys.modules |= old
     return modules, place
-
-
-@functools.cache
-def compiled(file):
-    path = MEANINGS / f"{file}.py"
-    return compile(path.read_text(), str(path), "exec")
 
 
 class Compared:
@@ -277,10 +256,9 @@ class Compared:
                           for text, name in self.runner.names.items()]
         else:
             self.runner, self.states = test_meanings.processor(name), test_meanings.STATES
-            self.parts = [(form, i, {form.split()[0]}) for form, found in self.runner.forms.items() for i in found]
-        meanings = sys.modules[f"meanings.{self.kind}"]
+            self.parts = [(form, i, {form.split()[0]}) for form, those in self.runner.forms.items() for i in those]
         # The lines that run when instructions are read, and those that run when one of each form does, in some states.
-        self.reading = traced(lambda: self._read(meanings))
+        self.reading = traced(lambda: self._read(self.runner.meanings))
         of_forms = {form: traced(lambda form=form, i=i: [
             self.runner.difference(i, f"{form} {seed}") for seed in range(0, self.states, 4)])
             for form, i in {form: i for form, i, _ in self.parts}.items()}
@@ -298,32 +276,30 @@ class Compared:
 
     def notices(self, modules, file, place, said):
         """Whether a change is noticed, which is looked for first where its line runs."""
-        meanings, around = modules[self.kind], {(file, at) for at in range(*place.lines or (0, 0))}
+        meanings, around = modules[self.kind], {(file, line) for line in range(*place.lines or (0, 0))}
         # In a table of instructions, one or two are concerned.
         table, _, key = place.name.partition(".")
-        concerned = {key} if key else {*re.findall(r"'([\w.]+)'", said)}
-        concerned = concerned if table in ("HANDLERS", "VECTORS") and not around else set()
+        is_entry = table in ("HANDLERS", "VECTORS") and not around
+        concerned = ({key} if key else {*re.findall(r"'([\w.]+)'", said)}) if is_entry else set()
         is_all = around & self.reading or not around and not concerned
-        # The functions that add instructions for WebAssembly run when the file is loaded, and say how they are read.
-        is_read = is_all or self.name == "webassembly"
-        parts = [at for at, (_, _, mnemonics) in enumerate(self.parts) if is_all or around & self.lines[at]
+        parts = [index for index, (_, _, mnemonics) in enumerate(self.parts) if is_all or around & self.lines[index]
                  or concerned & (mnemonics | {mnemonic.removeprefix("v") for mnemonic in mnemonics})]
-        text = (MEANINGS / f"{file}.py").read_text().splitlines()[place.node.lineno - 1]
-        parts.sort(key=lambda at: ((file, place.node.lineno) not in self.lines[at],
-                                   not any(f'{mnemonic}"' in text for mnemonic in self.parts[at][2])))
+        parts.sort(key=lambda index: (file, place.node.lineno) not in self.lines[index])
         try:
+            # What adds instructions for WebAssembly runs when the file is loaded, and says how they are read.
+            is_read = is_all or self.name == "webassembly"
             code = self._read(meanings) if is_read else copy.copy(self.runner.code)
         except Exception:
-            # So it is in the tool, which refuses what raises (execution/proofs.py). The right meanings can still be read.
+            # As in the tool, what raises is refused (execution/proofs.py). The right meanings can still be read.
             self._read(self.runner.meanings)
             return True
         code.processor = meanings
         with mock.patch.multiple(self.runner, code=code, meanings=meanings):
-            found = any(self._differs(*self.parts[at][:2]) for at in parts)
+            is_noticed = any(self._differs(*self.parts[index][:2]) for index in parts)
         # What has ended would differ from any meaning.
-        if found and self.runner.difference(self.parts[0][1], f"{self.parts[0][0]} 0"):
+        if is_noticed and self.runner.difference(self.parts[0][1], f"{self.parts[0][0]} 0"):
             raise RuntimeError(f"{self.name} differs from its meanings after: {said}")
-        return found
+        return is_noticed
 
     def _differs(self, form, i):
         read = [] if self.name == "webassembly" else [self.runner.code.instructions.get(i.address, i)]
@@ -338,41 +314,33 @@ class Compared:
 
 def traced(function):
     """The lines of meanings that run in a function."""
-    found = set()
+    lines = set()
 
     def trace(frame, event, _):
         if not frame.f_code.co_filename.startswith(str(MEANINGS)):
             return None
-        found.add((pathlib.Path(frame.f_code.co_filename).stem, frame.f_lineno))
+        lines.add((pathlib.Path(frame.f_code.co_filename).stem, frame.f_lineno))
         return trace
 
     sys.settrace(trace)
-    try:
-        function()
-    finally:
-        sys.settrace(None)
-    return found
+    function()
+    sys.settrace(None)
+    return lines
 
 
 compared = functools.cache(Compared)
 
 
-def is_noticed(change):
-    """Whether a comparison notices a change."""
-    file, at, number, said = change
-    try:
-        modules, place = loaded(file, at, number)
-    except Exception:
-        return True  # The tool does not run.
-    return any(compared(name).notices(modules, file, place, said) for name in FILES[file])
-
-
 def task(change):
-    """What a change is, whether it is noticed, and whether that is right."""
-    file, at, _, said = change
-    noticed = is_noticed(change)
-    what = f"{'' if noticed else 'not '}noticed: {said} (line {Places(file).found[at].node.lineno})"
-    return what, noticed != (said in EQUAL)
+    """What a change is, whether a comparison notices it, and whether that is right."""
+    file, index, number, said = change
+    try:
+        modules, place = loaded(file, index, number)
+    except Exception:
+        modules = None  # The tool does not run.
+    is_noticed = not modules or any(compared(name).notices(modules, file, place, said) for name in FILES[file])
+    what = f"{'' if is_noticed else 'not '}noticed: {said} (line {tree_of(file)[1][index].node.lineno})"
+    return what, is_noticed != (said in EQUAL)
 
 
 def main():

@@ -48,12 +48,6 @@ OF_MESSAGES = [
     ("another text", CALL.format("add rdi, 1", ""), "another byte of the text at 0"),
     ("a result of its own", CALL.format("", "mov eax, 20"), "another result"),
 ]
-# What is changed in what writes a text, and what is said of it.
-OF_WRITE_ENDED = [
-    ("a character too much", "dec rax", "nop", "may lie outside"),
-    ("the next character", "[rdi+rcx*1]", "[rdi+rcx*1+1]", "may lie outside|another byte"),
-    ("no NUL at the end", "[rdx+rcx*1+0x1],0x0", "[rdx+rcx*1+0x1],0x1", "another byte"),
-]
 NONNULL, CALL_IT = "\tjne\t\\name\\()_nonnull\n", "\tcall\t\\name\\()_nonnull\n"
 IS_2 = "\tcmp\tBYTE PTR [rip + choice], 2\n\tje\t\\name\\()_v3\n"
 IS_1 = "\tcmp\tBYTE PTR [rip + choice], 1\n\tje\t\\name\\()_v2\n"
@@ -64,14 +58,12 @@ OF_DISPATCHERS = [
     ("check", "it calls twice", CALL_IT, CALL_IT + CALL_IT, "it calls twice", NULL),
     ("check", "it calls nothing", CALL_IT, "", "it calls nothing", NULL),
     ("check", "another argument", NONNULL, f"\tmov\trdi, rsi\n{NONNULL}", "argument 0 is another", NOT_NULL),
-    ("check", "another error", NONNULL, f"\tadd\trdx, 8\n{NONNULL}", "argument 2 is another", NOT_NULL),
     ("check", "another result", CALL_IT, f"{CALL_IT}\txor\teax, eax\n", "the result is another", NULL),
     ("check", "a byte after the call", CALL_IT, f"{CALL_IT}\tmov\tBYTE PTR [rip + choice], 1\n",
      "a byte is stored after the call", NULL),
     ("check", "a byte before the call", CALL_IT, f"\tmov\tBYTE PTR [rip + choice], 1\n{CALL_IT}", "a byte is stored",
      NULL),
     ("check", "an error that is not aligned", LOCAL, "lea\t\\error, [rsp+4]", "is not aligned", NULL),
-    ("check", "an error below the stack", LOCAL, "lea\t\\error, [rsp-8]", "is not above the arguments", NULL),
     ("check", "an error that is too short", LOCAL, "lea\t\\error, [rsp+16]", "a return to another place", NULL),
     ("check", "a stack that is not aligned", "sub\trsp, 24", "sub\trsp, 16", "the stack of a function", NULL),
     ("check", "NULL", NONNULL, NONNULL.replace("jne", "jmp"), "is not above the arguments", NULL),
