@@ -60,7 +60,12 @@ fn interleaved_read(text: &[u8], bytes: &mut [u8]) -> bool
 
 /// Calls `fill` or `interleaved_fill` if the text has two characters for each byte. Returns whether it has.
 #[unsafe(no_mangle)]
-pub extern "C" fn const_hex_rust_fill(is_interleaved: bool, bytes: &[u8], upper: bool, text: &mut [u8]) -> bool
+pub extern "C" fn const_hex_rust_fill(
+    is_interleaved: bool,
+    bytes: &[u8],
+    upper: bool,
+    text: &mut [u8],
+) -> bool
     ensures fits { IsTrue result ↔ (2 * length bytes.now ≡ length text.old) }
     ensures text { IsTrue result → text.new ≡ hex_text upper bytes.now }
     ensures kept { result ≡ false → text.new ≡ text.old }
@@ -96,5 +101,9 @@ pub extern "C" fn const_hex_rust_read(is_interleaved: bool, text: &[u8], bytes: 
     if text.len() % 2 != 0 || bytes.len() != text.len() / 2 {
         return false;
     }
-    if is_interleaved { interleaved_read(text, bytes) } else { read(text, bytes) }
+    if is_interleaved {
+        interleaved_read(text, bytes)
+    } else {
+        read(text, bytes)
+    }
 }

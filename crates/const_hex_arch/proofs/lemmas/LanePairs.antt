@@ -1,8 +1,8 @@
 -- Lanes that are interleaved: the halves of bytes, from two vectors; and the values of two vectors, by pairs.
-use Rattle.std.proofs.Common.{◌≡◌, ℕ, zero, suc, ◌+◌, ◌*◌, ◌/◌, ◌%◌, ◌^◌, ◌<◌, ◌≤◌, Bool, true, false, eqb, ltb, ltb→lt, T, List, [], ◌∷◌, ◌++◌, map, length, replicate, get_or, bit_and, bit_or, refl, sym, ap, subst, ◌∙◌, arith, w8, Fits, eqb→eq}
+use Rattle.std.proofs.Common.{◌≡◌, ℕ, zero, suc, ◌+◌, ◌*◌, ◌/◌, ◌%◌, ◌^◌, ◌<◌, ◌≤◌, Bool, true, false, eqb, T, List, [], ◌∷◌, ◌++◌, map, length, replicate, get_or, bit_and, bit_or, refl, ap, subst, ◌∙◌, arith, w8, Fits, eqb→eq}
 use Rattle.std.specs.List.{range_with_len}
 use Rattle.std.proofs.lemmas.List.{length-map}
-use Rattle.std.proofs.lemmas.Simd.{SwzOk, SwzOk-from_below, swz_l, length-zip2, length-replicate}
+use Rattle.std.proofs.lemmas.Simd.{SwzOk, SwzOk-from_below, swz_l}
 use lib.Lanes.{zip2, Each1, pick_l}
 use Rattle.const_hex_arch.specs.Texts.{hex_digit, hex_text}
 use Rattle.const_hex_arch.specs.Lanes.{halves_of, AllNibbles, byte_pairs}

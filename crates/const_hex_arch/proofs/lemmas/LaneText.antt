@@ -1,9 +1,9 @@
 -- The text of lanes, from tables of 16 digits in each block of 16 lanes.
 use Rattle.std.proofs.Common.{◌≡◌, ℕ, zero, suc, ◌+◌, ◌*◌, ◌/◌, ◌%◌, ◌^◌, ◌<◌, Bool, true, false, eqb, T, List, [], ◌∷◌, ◌++◌, map, length, replicate, get_or, refl, ap, subst, ◌∙◌, arith, w8, Fits, eqb→eq}
 use Rattle.std.specs.List.{range_with_len, concat}
-use Rattle.std.proofs.lemmas.List.{append-nil, take_all, ext_get_or, get_or-map, length-map}
-use Rattle.std.proofs.lemmas.Simd.{Each1-get_or, SwzOk, SwzOk-from_below, length-put_chunk, take_more_put_chunk, swz_l, length-swz_l, get_or-swz_l_below}
-use lib.Lanes.{zip2, Each1, pick_l, put_chunk, number_l, digits_l}
+use Rattle.std.proofs.lemmas.List.{append-nil, ext_get_or, get_or-map, length-map}
+use Rattle.std.proofs.lemmas.Simd.{Each1-get_or, SwzOk, SwzOk-from_below, swz_l, length-swz_l, get_or-swz_l_below}
+use lib.Lanes.{zip2, Each1, pick_l, number_l, digits_l}
 use Rattle.const_hex_arch.specs.Texts.{hex_digit, hex_text}
 use Rattle.const_hex_arch.specs.Lanes.{halves_of}
 use Rattle.const_hex_arch.proofs.lemmas.Tables.{holds_below, every_below, every_pair}
