@@ -1,4 +1,5 @@
-//! Instructions of one call, by valgrind's callgrind. They do not depend on what else the machine does.
+//! Instructions of one call, by valgrind's callgrind, and on AArch64 by QEMU. They do not depend on what else the
+//! machine does.
 //!
 //!     cargo run --release                            # every library
 //!     cargo run --release -- const-hex               # these libraries alone
@@ -15,7 +16,7 @@ use std::{env, io, thread};
 /// The calls of the shorter run, and those that the longer run makes beyond them. The numbers for both runs have as
 /// many digits, so that the arguments take the same space.
 fn calls(size: usize) -> (usize, usize) {
-    if size > 2048 {
+    if size > 2048 || cfg!(target_arch = "aarch64") {
         (10, 20)
     } else {
         (100, 400)
@@ -133,8 +134,14 @@ fn count_one(cell: Cell) -> io::Result<u64> {
 
 /// The instructions of a whole run with so many calls.
 fn collected((call, library, size): Cell, count: usize) -> io::Result<u64> {
-    let output = Command::new("valgrind")
-        .args(["--tool=callgrind", "--callgrind-out-file=/dev/null"])
+    // QEMU prints a line for each instruction.
+    let counter = match cfg!(target_arch = "aarch64") {
+        true => "qemu-aarch64 -L /usr/aarch64-linux-gnu -singlestep -d nochain,exec",
+        false => "valgrind --tool=callgrind --callgrind-out-file=/dev/null",
+    };
+    let mut words = counter.split(' ');
+    let output = Command::new(words.next().unwrap_or_default())
+        .args(words)
         .arg(env::current_exe()?)
         .args([
             "--repeat",
@@ -145,10 +152,12 @@ fn collected((call, library, size): Cell, count: usize) -> io::Result<u64> {
         ])
         .output()?;
     let said = String::from_utf8_lossy(&output.stderr);
-    let number = said
-        .lines()
-        .find_map(|line| line.split("Collected : ").nth(1));
-    number
-        .and_then(|number| number.trim().parse().ok())
-        .ok_or_else(|| io::Error::other(format!("valgrind: {said}")))
+    let number = match said.lines().filter(|line| line.starts_with("Trace")).count() {
+        0 => said
+            .lines()
+            .find_map(|line| line.split("Collected : ").nth(1))
+            .and_then(|number| number.trim().parse().ok()),
+        lines => Some(lines as u64),
+    };
+    number.ok_or_else(|| io::Error::other(format!("{counter}: {said}")))
 }
