@@ -119,13 +119,13 @@ def _read_relocations(image, dynamic):
     for tags in {RELA, RELA_SIZE, RELA_ENTRY}, {CALLS, CALLS_SIZE, CALLS_KIND}, {RELR, RELR_SIZE, RELR_ENTRY}:
         if dynamic.keys() & tags not in (set(), tags) or dynamic.get(CALLS_KIND, RELA) != RELA:
             raise ValueError("a table of relocations without a size, or without a known form")
-    entries = [entry for table, size in ((RELA, RELA_SIZE), (CALLS, CALLS_SIZE)) for entry in struct.iter_unpack(
-        "<QII8x", image.content(dynamic.get(table, 0), dynamic.get(size, 0)))]
-    # glibc takes so many for relative ones, whatever they are.
+    first, calls = [[*struct.iter_unpack("<QII8x", image.content(dynamic.get(table, 0), dynamic.get(size, 0)))]
+                    for table, size in ((RELA, RELA_SIZE), (CALLS, CALLS_SIZE))]
+    # glibc takes so many for relative ones, whatever they are, also after the end of the table.
     count = dynamic.get(RELATIVE_COUNT, 0)
-    if [kind for _, kind, _ in entries[:count]] != [RELATIVE[image.machine]] * count:
+    if [kind for _, kind, _ in first[:count]] != [RELATIVE[image.machine]] * count:
         raise ValueError(f"fewer than {count} relative relocations at the start of their table")
-    for place, kind, symbol in entries:
+    for place, kind, symbol in first + calls:
         [size] = image.numbers("<Q", dynamic[SYMBOLS] + 24 * symbol + 16)
         size = SIZES[image.machine].get(kind, size if kind == COPY[image.machine] else None)
         if size is None:

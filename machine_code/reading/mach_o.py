@@ -31,7 +31,9 @@ NO_LINK, LINKS = 0xFFFF, (2, 6)
 DEBUG, TYPE, IN_SECTION, RESOLVED = 0xE0, 0xE, 0xE, 0x100  # of symbols
 # Kinds of sections: variables of threads, which dyld writes, and others that are harmless: up to GB_ZEROFILL,
 # 16BYTE_LITERALS, DTRACE_DOF, and from THREAD_LOCAL_REGULAR to INIT_FUNC_OFFSETS. In one it finds what replaces others.
+# To some, dyld or the runtime of Objective-C writes by their names.
 VARIABLES, HARMLESS_SECTIONS, REPLACING = 0x13, {*range(13), 14, 15, *range(0x11, 0x17)}, b"__interpose"
+WRITTEN_BY_NAME = b"__dyld", b"__objc_"
 
 
 def read(data):
@@ -85,7 +87,7 @@ def _add_segment(image, data, command):
     for section in range(command + 72, command + 72 + 80 * count, 80):
         if data[section + 64] not in HARMLESS_SECTIONS or data.startswith(REPLACING, section):
             raise ValueError("a section of a kind that is not known here, or with functions that replace others")
-        if data[section + 64] == VARIABLES:
+        if data[section + 64] == VARIABLES or data.startswith(WRITTEN_BY_NAME, section):
             image.change(*struct.unpack_from("<QQ", data, section + 32), FIXED_UP)
     return address
 

@@ -31,9 +31,9 @@ def read(data):
     image.add_segment(data, 0, headers, 0, headers, HEADERS)
     sections = [struct.unpack_from("<8sIIIIIIHHI", data, place) for place in range(table, table + 40 * count, 40)]
     for _, in_memory, address, size, offset, *_, flags in sections:
-        # What ends in a part of the file is read with all of that part.
-        if address % PAGE or offset % IN_FILE or size % IN_FILE or alignment < PAGE or in_file < IN_FILE:
-            raise ValueError("a section that begins in a page, or begins or ends in a part of the file")
+        # What ends in a part of the file is read with all of that part. Without a size in memory that in the file counts.
+        if address % PAGE or offset % IN_FILE or size % IN_FILE or alignment < PAGE or in_file < IN_FILE or not in_memory:
+            raise ValueError("a section that begins in a page, begins or ends in a part of the file, or is empty")
         # An offset of 0 means that nothing is read from the file.
         image.add_segment(data, address, in_memory, offset, offset and min(size, in_memory),
                           KINDS.get(flags & ~NO_MEANING, OTHER))
@@ -63,9 +63,12 @@ def _change(image, place, size):
 
 def _read_relocations(image, address, size):
     """The places that the loader writes, by pages."""
-    block, places = address, []
-    while block < address + size:
+    block, places, end = address, [], address + size
+    while block < end:
         page, length = image.numbers("<II", block, ALL)
+        # Of others, a loader may find the next block elsewhere.
+        if length % 4 or length < 8 or block + length > end:
+            raise ValueError("a block of relocations of a part of a word, or beyond their end")
         for entry in image.numbers(f"<{length // 2 - 4}H", block + 8, ALL):
             if entry >> 12 not in (PADDING, ADDRESS):
                 raise ValueError(f"a relocation of the kind {entry >> 12}")
@@ -73,6 +76,7 @@ def _read_relocations(image, address, size):
         block += length
     for place in places:
         _change(image, place, 8)
+    # None of them may have been changed by another one.
     image.content(address, size, ALL)
     return places
 

@@ -187,7 +187,8 @@ DATA = (".bss; .space 64; .data; .balign 8; .hidden more; .globl more; more: .qu
         ".quad other; .text; other: ret")
 MORE = {"hashes": shared("-Wl,--hash-style=both"), "sysv": shared("-Wl,--hash-style=sysv"),
         "relocations": shared(more=DATA), "packed": shared("-Wl,-z,pack-relative-relocs", more=DATA),
-        "later": shared("-Wl,-z,lazy", more="call other@PLT"), "marks": shared("-Wl,-z,ibt")}
+        "later": shared("-Wl,-z,lazy", more="call other@PLT"), "marks": shared("-Wl,-z,ibt"),
+        "both": shared("-Wl,-z,lazy", more=DATA + "; call elsewhere@PLT")}
 CHANGED_MORE = [
     ("both tables", "hashes", lambda file: None, VERSION, "accepted"),
     ("tables that differ", "hashes", hashes("<I", None, 0), "", TABLES),
@@ -207,6 +208,8 @@ CHANGED_MORE = [
     ("a copy over the choice", "relocations", copy_over_the_choice, CHECK, WRITTEN),
     ("a relocation that counts as relative", "relocations", relocation(0, "more", 1), "", "fewer than 1 relative"),
     ("more relative relocations than are there", "relocations", tag(0x6FFFFFF9, 4), "", "fewer than 4 relative"),
+    ("relative relocations that reach into another table", "both", lambda file: (
+        put("<Q", file.table(23) + 8, 8)(file), tag(0x6FFFFFF9, 4)(file)), "", "fewer than 4 relative"),
     ("a table without a size", "relocations", tag(8, 21, -8), "", PARTS),
     ("a table with a part of a relocation", "relocations", tag(8, 40), "", "cut or damaged"),
     ("a table without a size", "packed", tag(35, 21, -8), "", PARTS),

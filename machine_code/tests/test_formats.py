@@ -135,6 +135,7 @@ PES = [
     ("code in a page", section(".text", 12, lambda old: old + 16), "begins in a page"),
     # The loader reads the whole part, so a byte that seems to be 0 is another one.
     ("a section that ends in a part of the file", section(".data", 16, lambda old: 16), "ends in a part"),
+    ("a section of no size", section(".data", 8, lambda old: 0), "or is empty"),
     ("sections over the headers", head("<I", 84, 4097), "share a page"),
     ("sections in a page", head("<I", 56, 512), "begins in a page"),
     ("parts of the file that are small", head("<I", 60, 16), "begins in a page"),
@@ -146,7 +147,9 @@ PES = [
     ("a relocation of the relocations", base_relocation(".reloc"), NOWHERE),
     ("a relocation of the headers", base_relocation(lambda file: 256), MUST_NOT),
     ("a relocation of exports", base_relocation(".edata", 16), NOWHERE),
-    ("relocations without an end", put("<I", content(5, 4), 0), "cut or damaged"),
+    ("a block of relocations of a part of a word", put("<I", content(5, 4), 11), "a part of a word"),
+    ("a block of relocations beyond their end", put("<I", lambda file: file.table(5) + 4, 8), "beyond their end"),
+    ("relocations without an end", put("<I", content(5, 4), 0), "a part of a word"),
     ("a number for threads over a constant", put("<Q", content(9, 16), lambda file: (
         file.numbers("<Q", file.head + 48)[0] + place_of(file, CONSTANT_OF_FILL))), NO_CONSTANT),
     ("a number for threads at an unknown place", base_relocation(THREADS, 4), "twice"),
@@ -298,6 +301,7 @@ MACH_OS = [
         "__LINKEDIT", 56, "<II", 3, 3)(file), NOWHERE),
     ("functions that replace others", segment("__DATA", 136, "<B", 13), REPLACE),
     ("a name of those that replace others", segment("__DATA", 72, "<16s", b"__interpose"), REPLACE),
+    ("a choice where dyld writes", segment("__DATA", 152, "<16s", b"__dyld"), NO_CHOICE),
     ("a choice in a variable of threads", segment("__DATA", 216, "<B", 0x13), NO_CHOICE),
     ("code that can be written", segment("__TEXT", 56, "<II", 7, 7), "a segment that is 7"),
     ("code that is encrypted", segment("__TEXT", 68, "<I", 8), "a segment that is 5, 8"),

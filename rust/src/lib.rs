@@ -83,9 +83,9 @@ pub use crate::serde::{deserialize, serialize, serialize_upper};
 pub use crate::traits::ToHexExt;
 pub use crate::traits::{FromHex, ToHex};
 
+use crate::proved::codec::body::{find_invalid_character, strip_even};
 use crate::proved::codec::encoders::encode_full_to_slice;
 use crate::proved::codec::{checks, decoders};
-use crate::proved::codec::body::{find_invalid_character, strip_even};
 #[cfg(feature = "alloc")]
 use alloc::{string::String, vec::Vec};
 
@@ -173,11 +173,11 @@ encoders! {
 
 /// Returns the text of bytes.
 #[cfg(feature = "alloc")]
-#[allow(unsafe_code)]
 #[inline(always)]
 fn owned(data: &[u8], prefix: bool, upper: bool) -> String {
-    // SAFETY: the text is ASCII: `0x`, and digits, of which this is proved.
-    unsafe { String::from_utf8_unchecked(kernel::encode(data, prefix, upper)) }
+    let mut text = String::new();
+    append(data, prefix, upper, &mut text);
+    text
 }
 
 /// Appends the text of bytes to a string.
@@ -185,7 +185,7 @@ fn owned(data: &[u8], prefix: bool, upper: bool) -> String {
 #[allow(unsafe_code)]
 #[inline]
 fn append(data: &[u8], prefix: bool, upper: bool, output: &mut String) {
-    // SAFETY: what is appended is ASCII, as in `owned`.
+    // SAFETY: what is appended is ASCII: `0x`, and digits, of which this is proved.
     kernel::encode_append(data, prefix, upper, unsafe { output.as_mut_vec() });
 }
 
@@ -212,7 +212,12 @@ fn text_in<'a>(data: &[u8], prefix: bool, upper: bool, output: &'a mut [u8]) -> 
 #[inline]
 pub fn decode<T: AsRef<[u8]>>(data: T) -> Result<Vec<u8>, FromHexError> {
     let text = data.as_ref();
-    kernel::decode(strip_even(text)?).map_err(|bytes| invalid(text, bytes))
+    let digits = strip_even(text)?;
+    let mut bytes = Vec::new();
+    match kernel::decode_append(digits, &mut bytes) {
+        true => Ok(bytes),
+        false => Err(invalid(text, bytes)),
+    }
 }
 
 /// Returns the error for an invalid text, and drops the vector for its bytes.
@@ -293,7 +298,9 @@ pub fn decode_to_array<T: AsRef<[u8]>, const N: usize>(input: T) -> Result<[u8; 
     if digits.len() != N << 1 {
         return Err(FromHexError::InvalidStringLength);
     }
-    kernel::Space::new().bytes(digits).ok_or_else(|| find_invalid_character(text))
+    kernel::Space::new()
+        .bytes(digits)
+        .ok_or_else(|| find_invalid_character(text))
 }
 
 /// Returns `Ok` if a text can be decoded, or else [`FromHexError::OddLength`] or

@@ -1,6 +1,10 @@
 //! A call takes no more instructions than const-hex takes. Only in a release build for Linux: on x86-64 with
 //! valgrind, and on AArch64 with QEMU: `cargo test --release --test instructions`.
-#![cfg(all(not(debug_assertions), any(target_arch = "x86_64", target_arch = "aarch64"), target_os = "linux"))]
+#![cfg(all(
+    not(debug_assertions),
+    any(target_arch = "x86_64", target_arch = "aarch64"),
+    target_os = "linux"
+))]
 
 use const_hex_proved as hex;
 use std::fmt::{Error, Result, Write};
@@ -99,5 +103,7 @@ fn counted(call: &str, bytes: usize, times: usize) -> i64 {
         return said.lines().filter(|line| line.starts_with("Trace")).count() as i64;
     }
     let count = said.split("Collected : ").nth(1).and_then(|rest| rest.lines().next());
-    count.and_then(|count| count.parse().ok()).unwrap_or_else(|| panic!("{said}"))
+    count
+        .and_then(|count| count.parse().ok())
+        .unwrap_or_else(|| panic!("{said}"))
 }
