@@ -54,9 +54,8 @@ class Operand:
 
 def _operands(text):
     """Those of an instruction. What stands after an address is added to its base afterwards."""
-    # Two registers in braces are two operands.
-    operands = [Operand(part.strip()) for whole in OPERAND.findall(text)
-                for part in (whole.split(", ") if whole[0] == "{" else [whole])]
+    # Two registers in braces, which are loaded or stored, are two operands.
+    operands = [Operand(part.strip()) for part in OPERAND.findall(re.sub(r"^{(.*?), (.*?)}", r"{\1}, {\2}", text))]
     if len(operands) > 1 and operands[-2].kind == "memory":
         *operands, after = operands
         operands[-1].after = after

@@ -1,6 +1,7 @@
 //! The kernel for the Rust crate in `rust/`, which takes the machine code of these functions.
 //!
-//! `c/asm/freeze` writes what `rt` makes of `fill`, `check` and `read`. They require that the lengths fit, which
+//! `c/asm/freeze` writes what `rt` makes of `fill`, `check` and `read`, for AArch64 of `interleaved_fill`,
+//! `check` and `interleaved_read`. They require that the lengths fit, which
 //! their callers make sure of, and which registers hold their arguments is left to the compiler:
 //! `machine_code` proves their code with the arguments where `rust/src/kernel/machine_code.rs` passes them.
 //! `rt` compiles them only because exported functions call them.

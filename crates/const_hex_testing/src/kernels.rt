@@ -1,5 +1,6 @@
 //! The kernels by which calls are tested. `Compact` is not among them: it differs from `Plain` only in
-//! how it fills a text, which its contract says.
+//! how it fills a text, which its contract says. Nor is `Interleaved`: the tests of C and of Rust run
+//! its machine code on AArch64.
 
 use std::alloc::AllocError;
 

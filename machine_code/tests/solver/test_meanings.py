@@ -25,15 +25,16 @@ MORE = {
         vpinsrd xmm0, xmm1, eax, 2; vxorps ymm0, ymm1, ymm2; vmovaps ymm0, ymm1; vmovups ymm0, [rax]""",
     "aarch64": """
         adds x0, x1, x2; cmn w1, w2; subs x0, x1, x2; eor w0, w1, w2; mvn x0, x1
-        csinv w0, w1, w2, hi; lsl x0, x1, #3; cbnz w0, 1f; nop; nop; 1: nop; st1 {v0.b}[2], [x1]
+        csinv w0, w1, w2, hi; lsl x0, x1, #3; cbnz w0, 1f; nop; nop; 1: nop; neg w0, w1
         ldrh w0, [x1]; strh w0, [x1]; ldurb w0, [x1, #-1]; sturb w0, [x1, #-1]; umulh x0, x1, x2; msub x0, x1, x2, x3
         msub w0, w1, w2, wzr; movk x0, #0xcccd; movk x0, #0x1234, lsl #48; movk w0, #0x7374, lsl #16
         bfxil w0, w1, #2, #1; bfxil x0, x1, #0, #9; adds x0, x1, w2, uxtw; cmp x0, x1, lsr #1
         tbz x0, #63, 1f; nop; nop; 1: nop; tbnz w0, #3, 1f; nop; nop; 1: nop
         b.ls 1f; nop; nop; 1: nop; b.gt 1f; nop; nop; 1: nop
         cset w0, eq; cset w0, ne; cset w0, cs; cset w0, cc; cset w0, hi; cset w0, ls; cset w0, gt; cset w0, le
-        movi v0.8h, #49; movi v0.4s, #49; movi v0.8b, #49; xtn v0.4h, v1.4s; uzp2 v0.8h, v1.8h, v2.8h
-        zip1 v0.8h, v1.8h, v2.8h; uxtl v0.4s, v1.4h; uxtl2 v0.4s, v1.8h
+        movi v0.8h, #49; movi v0.4s, #49; movi v0.8b, #49; xtn v0.4h, v1.4s; uzp2 v0.8h, v1.8h, v2.8h; uzp1 v0.8h, v1.8h, v2.8h
+        zip1 v0.8h, v1.8h, v2.8h; zip2 v0.8h, v1.8h, v2.8h; shl v0.8h, v1.8h, #3
+        st2 {v0.8h, v1.8h}, [x1]; st2 {v0.8b, v1.8b}, [x1], #16; ld1 {v0.8b, v1.8b}, [x1]
         adrp x0, more + 16; add x0, x0, :lo12:more + 16; ldr q0, [x0, :lo12:more + 16]
         .section .rodata.more, "a"; .balign 16; more: .skip 16; .ascii "0123456789abcdef" """,
 }

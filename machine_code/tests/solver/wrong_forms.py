@@ -84,7 +84,7 @@ WRONG = [
     )),
     ("a wide register, of which the rest is cleared", "v3", "vpxor ymm0, ymm0, ymm0; vpxor xmm0, xmm0, xmm0", WIDE),
     ("a wide register on one of two ways", "v3", "vzeroupper; cmp rsp, 64; je 1f; vpxor ymm0, ymm0, ymm0; 1:", WIDE),
-    ("two vectors of LD1", "aarch64", "ld1 {v0.8b, v1.8b}, [x0]", NO_MEANING),
+    ("a table in two vectors", "aarch64", "tbl v0.16b, {v0.16b, v1.16b}, v2.16b", NO_MEANING),
     ("a shift by a register", "aarch64", "lsl x9, x9, x1", "a shift"),
     ("a sum with a register that is extended", "aarch64", "add w9, w9, w9, uxtw", "a shift"),
     ("all bits of a register", "aarch64", "bfxil w9, w9, #0, #32", "all bits"),
@@ -104,7 +104,7 @@ WRONG = [
     ("a part of a pointer", "aarch64", "mov x0, sp; ret", WRONG_VERSION),
     ("an exclusive or of vectors", "aarch64", "movi v0.16b, #1; eor v0.16b, v0.16b, v0.16b",
      "a general register is needed"),
-    ("a product by one element", "aarch64", "movi v0.8h, #1; mul v0.8h, v0.8h, v0.h[0]", "vectors are needed"),
+    ("a sum of registers", "aarch64", "movi v0.8h, #1; add d0, d0, d0", "vectors are needed"),
     *((f"a base that is moved by 0 and a register of {text}", "aarch64",
        f"sub sp, sp, #16; mov x10, sp; .inst {code}; add sp, sp, #16", "unpredictable") for text, code in (
         ("ldrb w10, [x10], #0", "0x3840054a"), ("ldrb w10, [x10, #0]!", "0x38400d4a"),

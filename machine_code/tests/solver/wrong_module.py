@@ -66,7 +66,6 @@ WRONG = [
     ("a table", {"part": "(table 1 funcref)"}, r"not known here: \(table"),
     ("a global that the engine may change", {"part": '(export "__stack_pointer" (global 0))'},
      "__stack_pointer, which the engine may change"),
-    ("a memory that is not exported", {'(export "memory") ': ""}, "the memory is not exported"),
     ("another type", {"(param i32 i32)": "(param i32 i64)", "local.get 1": "local.get 1 i32.wrap_i64",
                       "local.tee 1": "local.set 2 local.get 2"}, "a function of another type"),
 ]

@@ -12,7 +12,8 @@ use alloc::vec::Vec;
 fn reserve(vector: &mut Vec<u8>, count: usize) {
     match Layout::array::<u8>(count) {
         _ if vector.capacity() > 0 => vector.reserve(count),
-        Ok(layout) if count > 0 => {
+        // Rust 1.63 makes layouts of more than `isize::MAX` bytes, which no vector may have.
+        Ok(layout) if count > 0 && count <= isize::MAX as usize => {
             // SAFETY: the layout has a size, and a vector with a capacity of so many bytes has this layout.
             unsafe {
                 let space = alloc(layout);

@@ -11,8 +11,8 @@ use crate::arch::lanes32::Lanes32;
 use crate::arch::{Kernel, loops};
 use std::simd::prelude::*;
 
-/// As [`Lanes32`], for a processor that interleaves the lanes of two vectors by one instruction. It decodes no
-/// pair of a remainder that has an invalid character.
+/// As [`Lanes32`], for a processor that interleaves the lanes of two vectors by one instruction. It decodes
+/// as `decode_all` of [`Lanes32`].
 ///
 /// ```rust
 /// let mut bytes = [0; 4];

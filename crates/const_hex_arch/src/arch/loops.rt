@@ -2,8 +2,8 @@
 //!
 //! `V` has the `N` lanes of a step, and `S` 16 lanes for what is shorter. Neither a contract nor a
 //! test notices which steps are taken where others give the same result: compare a change with "Steps
-//! and remainders" in docs/DESIGN.md. The code was reviewed against that table, step by step; only the
-//! remainders differ from the steps of const-hex (docs/DECISIONS.md).
+//! and remainders" in docs/DESIGN.md. The code was reviewed against that table, step by step; how the
+//! steps differ from those of const-hex is in docs/DECISIONS.md.
 
 ghost use Rattle.std.specs.Prelude.{◌≡◌, ◌*◌, ◌≤◌, ◌↔◌, IsTrue, false, length};
 ghost use Rattle.const_hex_arch.specs.Texts.{hex_text, AllDigits, Spells, Partial};
@@ -89,12 +89,12 @@ pub(crate) fn check_in_steps<const N: usize, V: LaneOps<N>>(input: &[u8]) -> boo
 }
 
 /// Decodes the input and returns true. Returns false if some character is invalid; then the front
-/// of the output may already be decoded. Two steps share one test. If it fails, single steps take
-/// over, so that the first of the two is decoded if it is valid. A step with an invalid character
-/// writes nothing. After the steps of `N` lanes, one of 16 is decoded if 16 bytes are left. The
-/// remainder is covered by the last 16 bytes of the output, some of which are decoded twice. Fewer
-/// than 16 bytes are a remainder as a whole. If the remainder has an invalid character, its pairs
-/// before that one are decoded only if `PAIRS` is true.
+/// of the output may already be decoded. Two steps share one test. A step with an invalid character
+/// writes nothing. After the steps of `N` lanes, one of 16 is decoded if 16 bytes are left. The last
+/// 16 bytes of the output cover the remainder, some of them again. Less than 16 bytes, and without
+/// `PAIRS` also 16, are a remainder as a whole. With `PAIRS` a valid first one of two steps is
+/// decoded if their test fails, and the pairs of the remainder before an invalid character. Without
+/// it the call ends there.
 #[inline(always)]
 pub(crate) fn decode_in_steps<const N: usize, const PAIRS: bool, V: LaneOps<N>, S: LaneOps<16>>(
     input: &[u8],
