@@ -60,7 +60,7 @@
  *
  * FORMAL VERIFICATION
  *
- * The functions are written in Rattle, a dialect of Rust, and a prover has checked that every
+ * But for c/asm/dispatch.S, the functions are written in Rattle, a dialect of Rust, and a prover has checked that every
  * function meets its contract: it is memory-safe, terminates, and returns and writes what the contract
  * says, for all inputs. The contracts are in crates/const_hex_c; this header states them in prose.
  *

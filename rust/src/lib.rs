@@ -200,8 +200,8 @@ fn text_in<'a>(data: &[u8], prefix: bool, upper: bool, output: &'a mut [u8]) -> 
     Ok(unsafe { core::str::from_utf8_unchecked_mut(output) })
 }
 
-/// Returns the bytes that a text decodes to, or the errors of [`check`]. Allocates, also for a text that is invalid,
-/// but not for one of odd length or without digits.
+/// Returns the bytes that a text decodes to, or the errors of [`check`]. Allocates unless the text has an odd length
+/// or no digits, even if a character is invalid.
 ///
 /// ```
 /// # use const_hex_proved::{decode, FromHexError};
