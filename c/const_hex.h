@@ -183,9 +183,9 @@ struct const_hex_error {
  * CONST_HEX_MESSAGE_SIZE bytes are always enough.
  *
  * Returns the number of bytes written, without the NUL. If message_size is 0, nothing is written and the
- * result is 0. No function of this library sets an error of kind 4, whose message is "out of memory", nor one of
- * another unknown kind, or of kind CONST_HEX_INVALID_CHARACTER with an error->byte greater than 255: the message of
- * these two is empty.
+ * result is 0. No function of this library sets kind 4, whose message is "out of memory". The message is empty for
+ * any other unknown kind, and for CONST_HEX_INVALID_CHARACTER with an error->byte greater than 255; no function sets
+ * these either.
  *
  *     char message[CONST_HEX_MESSAGE_SIZE];
  *     const_hex_error_message(&error, message, sizeof message);
