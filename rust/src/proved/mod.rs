@@ -55,7 +55,7 @@ pub use self::formatting::text::*;
 //    1  and writes a text to memory that is not cleared
 //    1  before it reads a chunk
 //   51  deleted: attribute
-//  229  deleted: contract
+//  230  deleted: contract
 //  209  deleted: ghost item
 //    4  deleted: model
 //    2  each value may be dropped

@@ -5,7 +5,9 @@ ghost use Rattle.const_hex_arch.specs.Texts.{AllDigits};
 ghost use Rattle.const_hex.specs.Results.{ChecksText};
 ghost use Rattle.const_hex.specs.declared.error.FromHexError.{FromHexError};
 
-use crate::codec::body::{find_first_bad, find_invalid_character, strip_even};
+use crate::codec::body::{
+    find_first_bad, find_invalid_character, invalid_character, strip_even,
+};
 use crate::error::FromHexError;
 use const_hex_arch::{FixedKernel, Kernel};
 
@@ -56,11 +58,15 @@ pub fn check_with<K: Kernel>(input: &[u8]) -> Result<(), FromHexError>
 pub fn const_check(input: &[u8]) -> Result<(), FromHexError>
     ensures { ChecksText input.now result }
 {
-    match strip_even(input) {
-        Ok(body) if const_check_raw(body) => Ok(()),
-        Ok(_) => Err(find_invalid_character(input)),
-        Err(error) => Err(error),
+    let body = match strip_even(input) {
+        Ok(body) => body,
+        Err(error) => return Err(error),
+    };
+    let (byte, index) = find_first_bad(body);
+    if index == body.len() {
+        return Ok(());
     }
+    Err(invalid_character(byte, index + (input.len() - body.len())))
 }
 
 /// Whether every byte is a digit. No prefix is allowed, and the length does not matter. Does not
@@ -89,6 +95,6 @@ pub fn check_raw(input: &[u8]) -> bool
 pub fn const_check_raw(input: &[u8]) -> bool
     ensures { IsTrue result ↔ AllDigits input.now }
 {
-    let (_, index) = find_first_bad(input, 0);
+    let (_, index) = find_first_bad(input);
     index == input.len()
 }

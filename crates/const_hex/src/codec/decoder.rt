@@ -7,7 +7,9 @@ ghost use Rattle.const_hex.specs.Decoding.{HasRead, counted, error_of, listed, p
 ghost use Rattle.const_hex.specs.declared.error.FromHexError.{FromHexError};
 ghost use Rattle.const_hex.specs.declared.error.FromHexError.TheVariants.{OddLength, InvalidStringLength, InvalidHexCharacter};
 
-use crate::codec::body::{decode_body, find_first_bad, is_prefix, strip_prefix};
+use crate::codec::body::{
+    decode_body, find_first_bad, invalid_character, is_prefix, strip_prefix,
+};
 use crate::error::FromHexError;
 use const_hex_arch::{FixedKernel, Kernel};
 
@@ -210,10 +212,7 @@ impl Decoder {
         if self.state <= WAITING {
             return None;
         }
-        Some(FromHexError::InvalidHexCharacter {
-            c: char::from(self.byte),
-            index: self.index,
-        })
+        Some(invalid_character(self.byte, self.index))
     }
 
     /// The digit that waits for its other half.
@@ -273,17 +272,14 @@ impl Decoder {
         ensures ended { error_of self.new ≡ Some result }
         ensures length { result ≢ InvalidStringLength }
     {
-        let (byte, index) = find_first_bad(digits, 0);
+        let (byte, index) = find_first_bad(digits);
         let index = self.index.saturating_add(skipped).saturating_add(index);
         *self = Decoder {
             index,
             byte,
             state: FAILED,
         };
-        FromHexError::InvalidHexCharacter {
-            c: char::from(byte),
-            index,
-        }
+        invalid_character(byte, index)
     }
 }
 

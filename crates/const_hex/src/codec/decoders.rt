@@ -3,9 +3,9 @@
 ghost use Rattle.std.specs.Prelude.{◌≡◌, ◌*◌, false, length, IsTrue, Ok};
 ghost use Rattle.const_hex.specs.Results.{body_of, ReadsSized, all_digits, DecodesToSlice, DecodesToFront, DecodesToArray};
 
-use crate::codec::body::{decode_body, find_invalid_character, strip_even};
+use crate::codec::body::{are_digits, decode_body, find_invalid_character, strip_even};
 use crate::error::FromHexError;
-use const_hex_arch::{FixedKernel, Kernel, NIL, value_at};
+use const_hex_arch::{FixedKernel, Kernel, value_at};
 
 /// Decodes a text, with or without a prefix, in either case, to exactly the bytes of the output.
 ///
@@ -156,18 +156,17 @@ pub fn const_decode_to_array<const N: usize>(input: &[u8]) -> Result<[u8; N], Fr
         Ok(body) => body,
         Err(error) => return Err(error),
     };
-    if body.len() / 2 != N {
+    if body.len() != 2 * N {
         return Err(FromHexError::InvalidStringLength);
     }
     let mut bytes = [0; N];
     let mut index = 0;
     'pairs: while index < N {
-        let high = value_at(body[2 * index]);
-        let low = value_at(body[2 * index + 1]);
-        if high == NIL || low == NIL {
+        let (first, second) = (body[2 * index], body[2 * index + 1]);
+        if !are_digits(first, second) {
             return Err(find_invalid_character(input));
         }
-        bytes[index] = high * 16 + low;
+        bytes[index] = value_at(first) * 16 + value_at(second);
         index += 1;
     }
     Ok(bytes)

@@ -37,36 +37,41 @@ pub(crate) const fn is_prefix(first: u8, second: u8) -> bool {
 /// Whether both bytes are digits.
 // NIL alone has the highest bit, so one test serves for both.
 #[inline(always)]
-const fn are_digits(first: u8, second: u8) -> bool {
+pub(crate) const fn are_digits(first: u8, second: u8) -> bool {
     value_at(first) | value_at(second) < 128
 }
 
 /// The error that names the first byte after the prefix that is not a digit, and its position in the
 /// whole text. The text must have such a byte, and an even length.
-// If the text begins with two digits, as most do, the search begins after them, and no prefix is
-// looked for. A text of two characters, of which one is invalid, begins with neither.
+// A first byte that is not a digit is asked for before anything else: no prefix begins with it.
 #[cold]
 pub(crate) const fn find_invalid_character(text: &[u8]) -> FromHexError {
-    let start = match text {
-        [first, second, _, _, ..] if are_digits(*first, *second) || is_prefix(*first, *second) => {
-            2
+    if let [first, ..] = text {
+        if value_at(*first) == NIL {
+            return invalid_character(*first, 0);
         }
-        _ => 0,
-    };
-    let (byte, index) = find_first_bad(text, start);
+    }
+    let body = strip_prefix(text);
+    let (byte, index) = find_first_bad(body);
+    invalid_character(byte, index + (text.len() - body.len()))
+}
+
+/// The error that names a byte and its position.
+#[inline(always)]
+pub(crate) fn invalid_character(byte: u8, index: usize) -> FromHexError {
     FromHexError::InvalidHexCharacter {
         c: byte as char,
         index,
     }
 }
 
-/// The first byte from the start that is not a digit, and its index in the text. If there is none, a
-/// NUL character and the index after the last byte.
+/// The first byte that is not a digit, and its index. If there is none, a NUL character and the
+/// length of the text.
 // A caller that has already seen an invalid character may get the latter, if another process has
 // removed it from shared memory in between. Nothing is read out of bounds then.
 #[inline(always)]
-pub(crate) const fn find_first_bad(text: &[u8], start: usize) -> (u8, usize) {
-    let mut index = skip_digits(text, start);
+pub(crate) const fn find_first_bad(text: &[u8]) -> (u8, usize) {
+    let mut index = skip_digits(text);
     'digits: while index < text.len() {
         let byte = text[index];
         if value_at(byte) == NIL {
@@ -77,12 +82,12 @@ pub(crate) const fn find_first_bad(text: &[u8], start: usize) -> (u8, usize) {
     (0, index)
 }
 
-/// Skips digits from the start on, two pairs per iteration while four bytes are left, and stops
-/// before the first pair that has another byte. Returns the index there.
+/// Skips digits, two pairs per iteration while four bytes are left, and stops before the first pair
+/// that has another byte. Returns the index there.
 // With the last index at which four bytes are left, LLVM needs no test of an index in Rust either.
 #[inline(always)]
-const fn skip_digits(text: &[u8], start: usize) -> usize {
-    let mut index = start;
+const fn skip_digits(text: &[u8]) -> usize {
+    let mut index = 0;
     if let Some(last) = text.len().checked_sub(4) {
         'fours: while index <= last {
             if !are_digits(text[index], text[index + 1]) {

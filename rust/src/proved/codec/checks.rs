@@ -2,7 +2,9 @@
 //! Whether a text can be decoded.
 
 use crate::std_shim::prelude::*;
-use crate::proved::codec::body::{find_first_bad, find_invalid_character, strip_even};
+use crate::proved::codec::body::{
+    find_first_bad, find_invalid_character, invalid_character, strip_even,
+};
 use crate::proved::error::FromHexError;
 use crate::proved::{FixedKernel, Kernel};
 
@@ -32,11 +34,15 @@ pub fn check_with<K: Kernel>(input: &[u8]) -> Result<(), FromHexError> {
 /// `check`.
 #[inline]
 pub const fn const_check(input: &[u8]) -> Result<(), FromHexError> {
-    match strip_even(input) {
-        Ok(body) if const_check_raw(body) => Ok(()),
-        Ok(_) => Err(find_invalid_character(input)),
-        Err(error) => Err(error),
+    let body = match strip_even(input) {
+        Ok(body) => body,
+        Err(error) => return Err(error),
+    };
+    let (byte, index) = find_first_bad(body);
+    if index == body.len() {
+        return Ok(());
     }
+    Err(invalid_character(byte, index + (input.len() - body.len())))
 }
 
 /// Whether every byte is a digit. No prefix is allowed, and the length does not matter. Does not
@@ -52,6 +58,6 @@ pub fn check_raw(input: &[u8]) -> bool {
 /// `check_raw`.
 #[inline]
 pub const fn const_check_raw(input: &[u8]) -> bool {
-    let (_, index) = find_first_bad(input, 0);
+    let (_, index) = find_first_bad(input);
     index == input.len()
 }

@@ -2,7 +2,9 @@
 //! Decoding a text that arrives in chunks.
 
 use crate::std_shim::prelude::*;
-use crate::proved::codec::body::{decode_body, find_first_bad, is_prefix, strip_prefix};
+use crate::proved::codec::body::{
+    decode_body, find_first_bad, invalid_character, is_prefix, strip_prefix,
+};
 use crate::proved::error::FromHexError;
 use crate::proved::{FixedKernel, Kernel};
 
@@ -138,10 +140,7 @@ impl Decoder {
         if self.state <= WAITING {
             return None;
         }
-        Some(FromHexError::InvalidHexCharacter {
-            c: char::from(self.byte),
-            index: self.index,
-        })
+        Some(invalid_character(self.byte, self.index))
     }
 
     /// The digit that waits for its other half.
@@ -183,17 +182,14 @@ impl Decoder {
     /// read.
     #[cold]
     fn fail(&mut self, skipped: usize, digits: &[u8]) -> FromHexError {
-        let (byte, index) = find_first_bad(digits, 0);
+        let (byte, index) = find_first_bad(digits);
         let index = self.index.saturating_add(skipped).saturating_add(index);
         *self = Decoder {
             index,
             byte,
             state: FAILED,
         };
-        FromHexError::InvalidHexCharacter {
-            c: char::from(byte),
-            index,
-        }
+        invalid_character(byte, index)
     }
 }
 

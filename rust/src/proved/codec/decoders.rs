@@ -2,9 +2,9 @@
 //! Decoding a whole text.
 
 use crate::std_shim::prelude::*;
-use crate::proved::codec::body::{decode_body, find_invalid_character, strip_even};
+use crate::proved::codec::body::{are_digits, decode_body, find_invalid_character, strip_even};
 use crate::proved::error::FromHexError;
-use crate::proved::{FixedKernel, Kernel, NIL, value_at};
+use crate::proved::{FixedKernel, Kernel, value_at};
 
 /// Decodes a text, with or without a prefix, in either case, to exactly the bytes of the output.
 ///
@@ -108,18 +108,17 @@ pub const fn const_decode_to_array<const N: usize>(input: &[u8]) -> Result<[u8; 
         Ok(body) => body,
         Err(error) => return Err(error),
     };
-    if body.len() / 2 != N {
+    if body.len() != 2 * N {
         return Err(FromHexError::InvalidStringLength);
     }
     let mut bytes = [0; N];
     let mut index = 0;
     'pairs: while index < N {
-        let high = value_at(body[2 * index]);
-        let low = value_at(body[2 * index + 1]);
-        if high == NIL || low == NIL {
+        let (first, second) = (body[2 * index], body[2 * index + 1]);
+        if !are_digits(first, second) {
             return Err(find_invalid_character(input));
         }
-        bytes[index] = high * 16 + low;
+        bytes[index] = value_at(first) * 16 + value_at(second);
         index += 1;
     }
     Ok(bytes)

@@ -1,10 +1,9 @@
-use Rattle.std.proofs.Common.{◌-◌, ◌≤◌, length, take, drop}
+use Rattle.std.proofs.Common.{◌-◌, ◌≤◌, length, take}
 use Rattle.const_hex_arch.specs.Texts.{AllDigits}
 use Rattle.const_hex.proofs.codec.body.find_first_bad.Given as goal
 
 abbrev pub invariant-digits : goal.invariant-digits
-invariant-digits l =
-    AllDigits (take (l.index - l.start) (drop l.start l.text)) × (l.start ≤ l.index) × (l.index ≤ length l.text)
+invariant-digits l = AllDigits (take l.index l.text) × (l.index ≤ length l.text)
 
 abbrev pub decreases-digits : goal.decreases-digits
 decreases-digits l = length l.text - l.index

@@ -1,4 +1,3 @@
-use native.Mathlib.Numerals.{unary_clauses}
 use Rattle.std.proofs.Common.{◌≡◌, ◌+◌, arith}
 use Rattle.const_hex.specs.Decoding.{counted, position_of}
 use Rattle.const_hex.proofs.codec.decoder.Decoder.fail.Goals as goal
@@ -9,4 +8,4 @@ returns-clause-names c = λ n.
     let p = c.find_first_bad-byte.result.1 in
     let index : c.saturating_add-index.result ≡ counted (position_of c.args.self.now + c.args.skipped + p) =
     omega (arith, c.saturating_add-index.ensures, c.saturating_add.ensures) in
-    (p, simp unary_clauses at (h.bad n), cc (h.byte, index, c.from.ensures))
+    (p, h.bad n, cc (h.byte, index, c.invalid_character.ensures))
