@@ -1,7 +1,7 @@
 //! A text in an array.
 
 use crate::proved::codec::encoders::encode_full_to_slice;
-use crate::proved::tables::digit_at;
+use crate::proved::tables::pair_at;
 #[cfg(feature = "alloc")]
 use alloc::{string::String, vec::Vec};
 use core::{fmt, mem::transmute, str};
@@ -68,8 +68,7 @@ impl<const N: usize, const PREFIX: bool> Buffer<N, PREFIX> {
         let mut buffer = Self::new();
         let mut index = 0;
         while index < N {
-            let byte = array[index];
-            buffer.digits[index] = [digit_at(upper, byte / 16), digit_at(upper, byte % 16)];
+            buffer.digits[index] = pair_at(upper, array[index]);
             index += 1;
         }
         buffer

@@ -28,8 +28,8 @@
 //! ```
 
 use crate::display::print;
-use crate::proved::text_length;
-use crate::text_in;
+use crate::kernel::Space;
+use crate::proved::text::ascii_text;
 use ::serde::de::{Deserialize, Deserializer, Error, Visitor};
 use ::serde::{Serialize, Serializer};
 #[cfg(feature = "alloc")]
@@ -87,7 +87,7 @@ macro_rules! fields {
             T::Error: fmt::Display,
         {
             fn deserialize<D: Deserializer<'de>>(deserializer: D) -> Result<Self, D::Error> {
-                deserializer.deserialize_str(Text(|text| T::from_hex(text).map(Read)))
+                deserializer.deserialize_str(Text(|text: &[u8]| T::from_hex(text).map(Read)))
             }
         }
 
@@ -160,14 +160,13 @@ struct Digits<'a, const UPPER: bool, const PREFIX: bool>(&'a [u8]);
 impl<const UPPER: bool, const PREFIX: bool> Serialize for Digits<'_, UPPER, PREFIX> {
     #[inline]
     fn serialize<S: Serializer>(&self, serializer: S) -> Result<S::Ok, S::Error> {
-        let mut text = [0; 2 + 2 * 128];
-        match text.get_mut(..text_length(PREFIX, self.0.len())) {
-            Some(text) => {
-                let text = text_in(self.0, PREFIX, UPPER, text);
-                serializer.serialize_str(text.expect("it has the text's length"))
+        // What has a longer text is printed.
+        match self.0.len() <= 128 {
+            true => {
+                let mut space = Space::<{ 2 + 2 * 128 }>::new();
+                serializer.serialize_str(ascii_text(space.text(self.0, PREFIX, UPPER)))
             }
-            // It is longer, so it is printed.
-            None => serializer.collect_str(self),
+            false => serializer.collect_str(self),
         }
     }
 }
@@ -179,9 +178,9 @@ impl<const UPPER: bool, const PREFIX: bool> fmt::Display for Digits<'_, UPPER, P
 }
 
 /// Reads a text by a function.
-struct Text<T, E>(fn(&[u8]) -> Result<T, E>);
+struct Text<F>(F);
 
-impl<T, E: fmt::Display> Visitor<'_> for Text<T, E> {
+impl<T, E: fmt::Display, F: FnOnce(&[u8]) -> Result<T, E>> Visitor<'_> for Text<F> {
     type Value = T;
 
     fn expecting(&self, f: &mut fmt::Formatter<'_>) -> fmt::Result {

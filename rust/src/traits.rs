@@ -1,5 +1,6 @@
 //! Traits of types that are read from hexadecimal text, or written as it.
 
+use crate::kernel::Space;
 use crate::proved::{tables::pair_at, FixedKernel, Kernel};
 use crate::FromHexError;
 #[cfg(all(feature = "alloc", target_has_atomic = "ptr"))]
@@ -180,48 +181,64 @@ to_hex! {
 /// Collects the digits of bytes.
 #[inline]
 fn digits<const UPPER: bool, T: FromIterator<char>>(bytes: &[u8]) -> T {
-    Characters::<UPPER> {
-        bytes,
-        text: [0; 64],
-        at: 0,
-        end: 0,
+    match bytes {
+        [byte] => pair_at(UPPER, *byte).iter().map(character).collect(),
+        _ if bytes.len() <= PART => {
+            let mut space = Space::<{ 2 * PART }>::new();
+            space.text(bytes, false, UPPER).iter().map(character).collect()
+        }
+        _ => Characters::<UPPER>::new(bytes).collect(),
     }
-    .collect()
 }
 
-/// The digits of bytes, of which 32 are encoded at a time: those of the text from `at` to `end`, and those of `bytes`.
+/// The digit as a character. A string that sees here that it is ASCII need not find out how many bytes it has.
+#[inline(always)]
+fn character(digit: &u8) -> char {
+    (digit & 0x7F) as char
+}
+
+/// How many bytes are encoded at a time.
+const PART: usize = 32;
+
+/// The digits of bytes: those of the text from `at` to `end`, and those of `bytes`.
 struct Characters<'a, const UPPER: bool> {
     bytes: &'a [u8],
-    text: [u8; 64],
+    text: [u8; 2 * PART],
     at: usize,
     end: usize,
 }
 
-impl<const UPPER: bool> Characters<'_, UPPER> {
-    /// Returns the digits of the next bytes, or none if there are no more.
+impl<'a, const UPPER: bool> Characters<'a, UPPER> {
+    fn new(bytes: &'a [u8]) -> Self {
+        let text = [0; 2 * PART];
+        Characters { bytes, text, at: 0, end: 0 }
+    }
+
+    /// Encodes the next bytes, if there are more.
     #[inline]
-    fn encode(&mut self) -> &[u8] {
-        let (part, rest) = self.bytes.split_at(self.bytes.len().min(32));
-        self.bytes = rest;
-        let text = &mut self.text[..2 * part.len()];
-        FixedKernel::fill(part, UPPER, text);
-        text
+    fn encode(&mut self) {
+        let (part, rest) = self.bytes.split_at(self.bytes.len().min(PART));
+        let end = 2 * part.len();
+        FixedKernel::fill(part, UPPER, &mut self.text[..end]);
+        (self.bytes, self.at, self.end) = (rest, 0, end);
     }
 }
 
-// A string that sees here that a digit is ASCII need not find out how many bytes it has.
 impl<const UPPER: bool> Iterator for Characters<'_, UPPER> {
     type Item = char;
 
     #[inline]
     fn next(&mut self) -> Option<char> {
         if self.at == self.end {
-            self.at = 0;
-            self.end = self.encode().len();
+            self.encode();
+            if self.end == 0 {
+                return None;
+            }
         }
-        let digit = self.text[..self.end].get(self.at)?;
+        // It is below `end`. Without the remainder this would be tested.
+        let digit = &self.text[self.at % (2 * PART)];
         self.at += 1;
-        Some((*digit & 0x7F) as char)
+        Some(character(digit))
     }
 
     #[inline]
@@ -232,27 +249,20 @@ impl<const UPPER: bool> Iterator for Characters<'_, UPPER> {
 
     #[inline]
     fn fold<A, F: FnMut(A, char) -> A>(mut self, mut result: A, mut f: F) -> A {
-        while self.at < self.end {
-            result = f(result, (self.text[self.at] & 0x7F) as char);
-            self.at += 1;
-        }
-        // Up to seven bytes take fewer instructions by a table than by vectors.
-        if self.bytes.len() < 8 {
-            for byte in self.bytes {
-                let [high, low] = pair_at(UPPER, *byte);
-                result = f(result, (high & 0x7F) as char);
-                result = f(result, (low & 0x7F) as char);
-            }
-            return result;
-        }
-        while !self.bytes.is_empty() {
-            let mut text = self.encode();
-            while let [high, low, rest @ ..] = text {
-                result = f(result, (*high & 0x7F) as char);
-                result = f(result, (*low & 0x7F) as char);
+        loop {
+            let mut text = &self.text[self.at..self.end];
+            while let [first, second, rest @ ..] = text {
+                result = f(result, character(first));
+                result = f(result, character(second));
                 text = rest;
             }
+            if let [last] = text {
+                result = f(result, character(last));
+            }
+            self.encode();
+            if self.end == 0 {
+                return result;
+            }
         }
-        result
     }
 }

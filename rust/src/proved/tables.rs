@@ -86,7 +86,7 @@ pub const fn value_at(b: u8) -> u8 {
 
 /// Both digits of a byte, by one look-up.
 #[inline]
-pub(crate) fn pair_at(upper: bool, b: u8) -> [u8; 2] {
+pub(crate) const fn pair_at(upper: bool, b: u8) -> [u8; 2] {
     let at = 2 * b as usize;
     if upper {
         [PAIRS_UPPER[at], PAIRS_UPPER[at + 1]]

@@ -58,7 +58,7 @@ pub(crate) const fn find_invalid_character(text: &[u8]) -> FromHexError {
 
 /// The error that names a byte and its position.
 #[inline(always)]
-pub(crate) fn invalid_character(byte: u8, index: usize) -> FromHexError {
+pub(crate) const fn invalid_character(byte: u8, index: usize) -> FromHexError {
     FromHexError::InvalidHexCharacter {
         c: byte as char,
         index,
