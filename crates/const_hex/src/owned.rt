@@ -5,7 +5,7 @@ ghost use Rattle.const_hex_arch.specs.Texts.{full_text};
 ghost use Rattle.const_hex.specs.Results.{Decodes, Encodes, IsOdd, Reads};
 ghost use Rattle.const_hex.specs.declared.error.FromHexError.TheVariants.{OddLength, NoMemory};
 
-use crate::codec::body::{decode_body, find_invalid_character, strip_even};
+use crate::codec::body::{find_invalid_character, strip_even};
 use crate::error::FromHexError;
 use const_hex_arch::{FixedKernel, Kernel, fill_text, text_length};
 use std::alloc::{AllocError, Global};
@@ -146,7 +146,7 @@ fn decode_owned<K: Kernel>(alloc: Global, input: &[u8]) -> Result<Vec<u8>, FromH
 {
     let digits = strip_even(input)?;
     let mut bytes = vec![in alloc; 0u8; digits.len() / 2]?;
-    if !decode_body::<K>(digits, &mut bytes) {
+    if !K::decode_all(digits, &mut bytes) {
         return Err(find_invalid_character(input));
     }
     Ok(bytes)

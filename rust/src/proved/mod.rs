@@ -55,14 +55,14 @@ pub use self::formatting::text::*;
 //    1  and writes a text to memory that is not cleared
 //    1  before it reads a chunk
 //   51  deleted: attribute
-//  230  deleted: contract
+//  231  deleted: contract
 //  209  deleted: ghost item
 //    4  deleted: model
 //    2  each value may be dropped
 //    6  kernels that no target uses are left out, and callers that nothing exports
 //   15  the allocator is a value
 //    1  the kernel is chosen for the processor
-//   15  what a constant calls is constant
+//   16  what a constant calls is constant
 //    2  what allocates is there with the feature alloc
 //    3  what hexfilter uses of const_hex is a module of std_shim
 //    7  what is for C calls the kernel for the processor

@@ -20,7 +20,8 @@ pub fn text_length(prefix: bool, count: usize) -> usize {
 pub fn fill_text<K: Kernel>(input: &[u8], prefix: bool, upper: bool, output: &mut [u8]) {
     let (front, digits) = output.split_at_mut(if prefix { 2 } else { 0 });
     if prefix {
-        front.copy_from_slice(b"0x");
+        front[0] = b'0';
+        front[1] = b'x';
     }
     K::fill(input, upper, digits);
 }

@@ -3,7 +3,7 @@
 
 ghost use Rattle.std.specs.Prelude.{◌≡◌, ◌-◌, ◌*◌, ◌%◌, ◌≤◌, ◌==◌, ◌&&◌, ◌||◌, ◌↔◌, true, false, length, take, drop, slice_index, Err, IfErr, IfOk, IsTrue};
 ghost use Rattle.const_hex_arch.specs.Texts.{AllDigits, IsDigit, FirstBad, Spells, Partial};
-ghost use Rattle.const_hex.specs.Results.{IsEven, IsOdd, Reads, body_of};
+ghost use Rattle.const_hex.specs.Results.{IsEven, IsOdd, NamesFirstBad, Reads, body_of};
 ghost use Rattle.const_hex.specs.declared.error.FromHexError.TheVariants.{OddLength, InvalidHexCharacter};
 
 use crate::error::FromHexError;
@@ -56,21 +56,32 @@ pub(crate) fn are_digits(first: u8, second: u8) -> bool
 
 /// The error that names the first byte after the prefix that is not a digit, and its position in the
 /// whole text. The text must have such a byte, and an even length.
-// A first byte that is not a digit is asked for before anything else: no prefix begins with it.
-#[cold]
+#[inline(always)]
 pub(crate) fn find_invalid_character(text: &[u8]) -> FromHexError
     requires even { IsEven (length text.now) }
     requires bad { AllDigits (body_of text.now) → ⊥ }
     ensures { Reads text.now (Err result) }
 {
+    let (byte, index) = locate_invalid(text);
+    invalid_character(byte, index)
+}
+
+/// The first byte after the prefix that is not a digit, and its position in the whole text.
+// A first byte that is not a digit is asked for before anything else: no prefix begins with it. The
+// result is no error: that would not fit into two registers.
+#[cold]
+#[inline(never)]
+fn locate_invalid(text: &[u8]) -> (u8, usize)
+    ensures { (AllDigits (body_of text.now) → ⊥) → NamesFirstBad text.now result.0 result.1 }
+{
     if let [first, ..] = text {
         if value_at(*first) == NIL {
-            return invalid_character(*first, 0);
+            return (*first, 0);
         }
     }
     let body = strip_prefix(text);
     let (byte, index) = find_first_bad(body);
-    invalid_character(byte, index + (text.len() - body.len()))
+    (byte, index + (text.len() - body.len()))
 }
 
 /// The error that names a byte and its position.

@@ -5,9 +5,7 @@ ghost use Rattle.const_hex_arch.specs.Texts.{AllDigits};
 ghost use Rattle.const_hex.specs.Results.{ChecksText};
 ghost use Rattle.const_hex.specs.declared.error.FromHexError.{FromHexError};
 
-use crate::codec::body::{
-    find_first_bad, find_invalid_character, invalid_character, strip_even,
-};
+use crate::codec::body::{find_first_bad, find_invalid_character, invalid_character, strip_even};
 use crate::error::FromHexError;
 use const_hex_arch::{FixedKernel, Kernel};
 

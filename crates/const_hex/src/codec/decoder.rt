@@ -7,9 +7,7 @@ ghost use Rattle.const_hex.specs.Decoding.{HasRead, counted, error_of, listed, p
 ghost use Rattle.const_hex.specs.declared.error.FromHexError.{FromHexError};
 ghost use Rattle.const_hex.specs.declared.error.FromHexError.TheVariants.{OddLength, InvalidStringLength, InvalidHexCharacter};
 
-use crate::codec::body::{
-    decode_body, find_first_bad, invalid_character, is_prefix, strip_prefix,
-};
+use crate::codec::body::{decode_body, find_first_bad, invalid_character, is_prefix, strip_prefix};
 use crate::error::FromHexError;
 use const_hex_arch::{FixedKernel, Kernel};
 

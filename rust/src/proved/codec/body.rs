@@ -43,17 +43,26 @@ pub(crate) const fn are_digits(first: u8, second: u8) -> bool {
 
 /// The error that names the first byte after the prefix that is not a digit, and its position in the
 /// whole text. The text must have such a byte, and an even length.
-// A first byte that is not a digit is asked for before anything else: no prefix begins with it.
-#[cold]
+#[inline(always)]
 pub(crate) const fn find_invalid_character(text: &[u8]) -> FromHexError {
+    let (byte, index) = locate_invalid(text);
+    invalid_character(byte, index)
+}
+
+/// The first byte after the prefix that is not a digit, and its position in the whole text.
+// A first byte that is not a digit is asked for before anything else: no prefix begins with it. The
+// result is no error: that would not fit into two registers.
+#[cold]
+#[inline(never)]
+const fn locate_invalid(text: &[u8]) -> (u8, usize) {
     if let [first, ..] = text {
         if value_at(*first) == NIL {
-            return invalid_character(*first, 0);
+            return (*first, 0);
         }
     }
     let body = strip_prefix(text);
     let (byte, index) = find_first_bad(body);
-    invalid_character(byte, index + (text.len() - body.len()))
+    (byte, index + (text.len() - body.len()))
 }
 
 /// The error that names a byte and its position.

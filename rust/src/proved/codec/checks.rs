@@ -2,9 +2,7 @@
 //! Whether a text can be decoded.
 
 use crate::std_shim::prelude::*;
-use crate::proved::codec::body::{
-    find_first_bad, find_invalid_character, invalid_character, strip_even,
-};
+use crate::proved::codec::body::{find_first_bad, find_invalid_character, invalid_character, strip_even};
 use crate::proved::error::FromHexError;
 use crate::proved::{FixedKernel, Kernel};
 

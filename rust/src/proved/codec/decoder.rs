@@ -2,9 +2,7 @@
 //! Decoding a text that arrives in chunks.
 
 use crate::std_shim::prelude::*;
-use crate::proved::codec::body::{
-    decode_body, find_first_bad, invalid_character, is_prefix, strip_prefix,
-};
+use crate::proved::codec::body::{decode_body, find_first_bad, invalid_character, is_prefix, strip_prefix};
 use crate::proved::error::FromHexError;
 use crate::proved::{FixedKernel, Kernel};
 

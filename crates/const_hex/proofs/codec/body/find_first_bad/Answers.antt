@@ -23,9 +23,10 @@ returns-then-value_at-clause-all c =
 
 pub digits-preserved : goal.digits-preserved
 digits-preserved c =
-    let is = c.digits-test.true in
-    (digits_more c.args.text.now c.digits.index c.digits.invariant.0 (omega (arith, is)) (λ e. c.if-value_at.false (c.value_at.ensures ∙ e)),
-     omega (arith, is))
+    let is = c.digits-test.true in (
+      digits_more c.args.text.now c.digits.index c.digits.invariant.0 (omega (arith, is)) (λ e. c.if-value_at.false (c.value_at.ensures ∙ e)),
+      omega (arith, is),
+    )
 
 -- no byte is left
 all : (c : goal.After-digits) → AllDigits c.args.text.now

@@ -18,6 +18,8 @@ returns-then-not-are_digits-2-clause-digits c = first_two (goal.at.returns-then-
 pub fours-preserved : goal.fours-preserved
 fours-preserved c =
     let before = (goal.at.fours-preserved c).Else-not-are_digits in
-    let (third, fourth) = c.are_digits-in-fours.ensures.0 c.if-not-are_digits-2.false in
-    (two_more c.args.text.now (c.fours.index + 2) (c.fours.index + 3) (c.fours.index + 4) (omega (arith, long before))
-     (omega arith) (omega arith) third fourth (first_two before), long before)
+    let (third, fourth) = c.are_digits-in-fours.ensures.0 c.if-not-are_digits-2.false in (
+      two_more c.args.text.now (c.fours.index + 2) (c.fours.index + 3) (c.fours.index + 4) (omega (arith, long before))
+          (omega arith) (omega arith) third fourth (first_two before),
+      long before,
+    )

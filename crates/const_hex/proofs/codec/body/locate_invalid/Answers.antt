@@ -4,7 +4,7 @@ use Rattle.std.proofs.lemmas.List.Elements.{All-nil}
 use Rattle.const_hex_arch.specs.Texts.{FirstBad, IsDigit, value_or_nil, hex_value}
 use Rattle.const_hex_arch.proofs.lemmas.Digits.{value_not_found}
 use Rattle.const_hex.specs.Results.{body_of}
-use Rattle.const_hex.proofs.codec.body.find_invalid_character.Goals as goal
+use Rattle.const_hex.proofs.codec.body.locate_invalid.Goals as goal
 
 -- no prefix begins with a byte that is not a digit
 no_prefix : (t : List ℕ) → value_or_nil (hex_value (get_or t 0 0)) ≡ 255 → body_of t ≡ t
@@ -18,15 +18,13 @@ first t long e = record {
 }
 
 pub returns-then-value_at : goal.returns-then-value_at
-returns-then-value_at c =
+returns-then-value_at c = λ _.
     let t = c.args.text.now in
     let nil = sym c.value_at.ensures ∙ c.if-value_at.true in
-    rw (c.invalid_character.ensures, no_prefix t nil)
-    (c.requires.even, (0, first t c.in-len1-up.len_at_least nil, refl, omega arith))
+    rw (no_prefix t nil) (0, first t c.in-len1-up.len_at_least nil, refl, omega arith)
 
 pub returns : goal.returns
-returns c =
+returns c = λ bad.
     let found = c.find_first_bad-byte in
     let body = c.strip_prefix-body.ensures.body in
-    rw (c.invalid_character-2.ensures, ← body)
-    (c.requires.even, (found.result.1, found.ensures.bad (rw body c.requires.bad), found.ensures.byte, refl))
+    rw (← body) (found.result.1, found.ensures.bad (rw body bad), found.ensures.byte, refl)
