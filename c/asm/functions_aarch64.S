@@ -6,85 +6,56 @@
 /* const_hex_c::const_hex_check_nonnull */
 	hidden SYMBOL(const_hex_check_nonnull)
 	function SYMBOL(const_hex_check_nonnull)
-	sub sp, sp, #0x40
+	stp x29, x30, [sp, #-48]!
 	cmp x0, #0x0
 	mov w8, #0x1000
-	stp x29, x30, [sp, #16]
+	str x21, [sp, #16]
 	csel x8, x8, xzr, eq
-	str x21, [sp, #32]
-	add x29, sp, #0x10
-	stp x20, x19, [sp, #48]
-	stp xzr, xzr, [sp]
+	stp x20, x19, [sp, #32]
+	mov x29, sp
 	tbnz w1, #0, 3f
 	add x19, x0, x8
 	mov x21, x2
-	subs x8, x1, #0x2
-	mov x2, x1
+	subs x9, x1, #0x2
+	mov x8, x1
 	mov x0, x19
 	b.cc 2f
-	ldrh w9, [x19]
+	ldrh w8, [x19]
 	mov w10, #0x7830
-	mov x2, x1
-	mov x0, x19
-	orr w9, w9, #0x2000
-	cmp w9, w10
-	b.ne 2f
-	add x0, x19, #0x2
-	mov x2, x8
+	add x11, x19, #0x2
+	orr w8, w8, #0x2000
+	cmp w8, w10
+	csel x8, x9, x1, eq
+	csel x0, x11, x19, eq
 2:
 	mov x20, x1
-	mov x1, x2
+	mov x1, x8
 	bl SYMBOL(const_hex_kernel_check)
-	cbz w0, 5f
+	tbz w0, #0, 5f
 	mov w0, #0x1
-	ldp x20, x19, [sp, #48]
-	ldr x21, [sp, #32]
-	ldp x29, x30, [sp, #16]
-	add sp, sp, #0x40
+	ldp x20, x19, [sp, #32]
+	ldr x21, [sp, #16]
+	ldp x29, x30, [sp], #48
 	ret
 3:
 	mov w8, wzr
-	mov x9, xzr
-	mov w10, #0x1
+	mov x1, xzr
+	mov w9, #0x1
 4:
 	mov w0, wzr
-	stp w10, w8, [x2]
-	str x9, [x2, #8]
-	ldp x20, x19, [sp, #48]
-	ldr x21, [sp, #32]
-	ldp x29, x30, [sp, #16]
-	add sp, sp, #0x40
+	stp w9, w8, [x2]
+	str x1, [x2, #8]
+	ldp x20, x19, [sp, #32]
+	ldr x21, [sp, #16]
+	ldp x29, x30, [sp], #48
 	ret
 5:
-	mov x0, sp
-	mov x1, x19
-	mov x2, x20
-	bl const_hex_body_find_invalid_character
-	ldrb w8, [sp]
-	cmp w8, #0x1
-	b.gt 6f
+	mov x0, x19
+	mov x1, x20
+	bl const_hex_body_locate_invalid
+	mov w9, #0x3
+	and w8, w0, #0xff
 	mov x2, x21
-	cbnz w8, 7f
-	mov w10, #0x1
-	mov x9, x8
-	b 4b
-6:
-	cmp w8, #0x2
-	mov x2, x21
-	b.ne 8f
-	ldr w8, [sp, #4]
-	ldr x9, [sp, #8]
-	mov w10, #0x3
-	b 4b
-7:
-	mov w8, wzr
-	mov x9, xzr
-	mov w10, #0x2
-	b 4b
-8:
-	mov w8, wzr
-	mov x9, xzr
-	mov w10, #0x4
 	b 4b
 	end SYMBOL(const_hex_check_nonnull)
 
@@ -105,17 +76,15 @@
 /* const_hex_c::const_hex_decode_exact_nonnull */
 	hidden SYMBOL(const_hex_decode_exact_nonnull)
 	function SYMBOL(const_hex_decode_exact_nonnull)
-	sub sp, sp, #0x40
+	stp x29, x30, [sp, #-48]!
 	mov w8, #0x1000
 	cmp x0, #0x0
-	stp x29, x30, [sp, #16]
+	str x21, [sp, #16]
 	csel x9, x8, xzr, eq
 	cmp x2, #0x0
-	str x21, [sp, #32]
+	stp x20, x19, [sp, #32]
 	csel x8, x8, xzr, eq
-	stp x20, x19, [sp, #48]
-	add x29, sp, #0x10
-	stp xzr, xzr, [sp]
+	mov x29, sp
 	tbnz w1, #0, 3f
 	add x19, x0, x9
 	subs x9, x1, #0x2
@@ -133,81 +102,59 @@
 	mov x10, x9
 2:
 	cmp x3, x10, lsr #1
-	b.ne 5f
+	b.ne 4f
 	mov x20, x1
 	add x1, x2, x8
 	mov x2, x3
 	mov x21, x4
 	bl SYMBOL(const_hex_kernel_read)
-	cbz w0, 4f
+	tbz w0, #0, 6f
 	mov w0, #0x1
-	ldp x20, x19, [sp, #48]
-	ldr x21, [sp, #32]
-	ldp x29, x30, [sp, #16]
-	add sp, sp, #0x40
+	ldp x20, x19, [sp, #32]
+	ldr x21, [sp, #16]
+	ldp x29, x30, [sp], #48
 	ret
 3:
 	mov w8, wzr
-	mov x9, xzr
-	mov w10, #0x1
-	b 6f
+	mov x1, xzr
+	mov w9, #0x1
+	b 5f
 4:
-	mov x0, sp
-	mov x1, x19
-	mov x2, x20
-	bl const_hex_body_find_invalid_character
-	ldrb w8, [sp]
-	cmp w8, #0x1
-	b.gt 7f
-	mov x4, x21
-	cbnz w8, 5f
-	mov w10, #0x1
-	mov x9, x8
-	b 6f
+	mov w8, wzr
+	mov x1, xzr
+	mov w9, #0x2
 5:
-	mov w8, wzr
-	mov x9, xzr
-	mov w10, #0x2
-6:
 	mov w0, wzr
-	stp w10, w8, [x4]
-	str x9, [x4, #8]
-	ldp x20, x19, [sp, #48]
-	ldr x21, [sp, #32]
-	ldp x29, x30, [sp, #16]
-	add sp, sp, #0x40
+	stp w9, w8, [x4]
+	str x1, [x4, #8]
+	ldp x20, x19, [sp, #32]
+	ldr x21, [sp, #16]
+	ldp x29, x30, [sp], #48
 	ret
-7:
-	cmp w8, #0x2
+6:
+	mov x0, x19
+	mov x1, x20
+	bl const_hex_body_locate_invalid
+	mov w9, #0x3
+	and w8, w0, #0xff
 	mov x4, x21
-	b.ne 8f
-	ldr w8, [sp, #4]
-	ldr x9, [sp, #8]
-	mov w10, #0x3
-	b 6b
-8:
-	mov w8, wzr
-	mov x9, xzr
-	mov w10, #0x4
-	b 6b
+	b 5b
 	end SYMBOL(const_hex_decode_exact_nonnull)
 
 /* const_hex_c::const_hex_decode_nonnull */
 	hidden SYMBOL(const_hex_decode_nonnull)
 	function SYMBOL(const_hex_decode_nonnull)
-	sub sp, sp, #0x50
+	stp x29, x30, [sp, #-64]!
 	cmp x0, #0x0
 	mov w8, #0x1000
-	stp x29, x30, [sp, #16]
+	str x23, [sp, #16]
 	csel x9, x8, xzr, eq
 	cmp x2, #0x0
-	str x23, [sp, #32]
+	stp x22, x21, [sp, #32]
 	csel x8, x8, xzr, eq
-	stp x22, x21, [sp, #48]
-	add x29, sp, #0x10
-	stp x20, x19, [sp, #64]
-	stp xzr, xzr, [sp]
-	tbnz w1, #0, 4f
+	stp x20, x19, [sp, #48]
+	mov x29, sp
+	tbnz w1, #0, 3f
 	add x19, x0, x9
 	subs x9, x1, #0x2
 	mov x10, x1
@@ -225,72 +172,50 @@
 2:
 	lsr x20, x10, #1
 	cmp x3, x20
-	b.cs 6f
+	b.cs 5f
+	mov w8, wzr
+	mov x1, xzr
 	str xzr, [x4]
+	mov w9, #0x2
+	b 4f
 3:
 	mov w8, wzr
-	mov x9, xzr
-	mov w10, #0x2
-	b 5f
-4:
-	mov w8, wzr
-	mov x9, xzr
+	mov x1, xzr
 	str xzr, [x4]
-	mov w10, #0x1
-5:
+	mov w9, #0x1
+4:
 	mov w0, wzr
-	stp w10, w8, [x5]
-	str x9, [x5, #8]
-	ldp x20, x19, [sp, #64]
-	ldr x23, [sp, #32]
-	ldp x22, x21, [sp, #48]
-	ldp x29, x30, [sp, #16]
-	add sp, sp, #0x50
+	stp w9, w8, [x5]
+	str x1, [x5, #8]
+	ldp x20, x19, [sp, #48]
+	ldr x23, [sp, #16]
+	ldp x22, x21, [sp, #32]
+	ldp x29, x30, [sp], #64
 	ret
-6:
+5:
 	mov x21, x1
 	add x1, x2, x8
 	mov x2, x20
 	mov x23, x4
 	mov x22, x5
 	bl SYMBOL(const_hex_kernel_read)
-	cbz w0, 7f
+	cbz w0, 6f
 	str x20, [x23]
 	mov w0, #0x1
-	ldp x20, x19, [sp, #64]
-	ldr x23, [sp, #32]
-	ldp x22, x21, [sp, #48]
-	ldp x29, x30, [sp, #16]
-	add sp, sp, #0x50
+	ldp x20, x19, [sp, #48]
+	ldr x23, [sp, #16]
+	ldp x22, x21, [sp, #32]
+	ldp x29, x30, [sp], #64
 	ret
-7:
-	mov x0, sp
-	mov x1, x19
-	mov x2, x21
-	bl const_hex_body_find_invalid_character
-	ldrb w8, [sp]
-	ldr w11, [sp, #4]
-	ldr x9, [sp, #8]
+6:
+	mov x0, x19
+	mov x1, x21
+	bl const_hex_body_locate_invalid
+	and w8, w0, #0xff
+	mov w9, #0x3
+	mov x5, x22
 	str xzr, [x23]
-	cmp w8, #0x1
-	b.gt 8f
-	mov x5, x22
-	cbnz w8, 3b
-	mov w10, #0x1
-	mov x9, x8
-	b 5b
-8:
-	cmp w8, #0x2
-	mov x5, x22
-	b.ne 9f
-	mov w10, #0x3
-	mov w8, w11
-	b 5b
-9:
-	mov w8, wzr
-	mov x9, xzr
-	mov w10, #0x4
-	b 5b
+	b 4b
 	end SYMBOL(const_hex_decode_nonnull)
 
 /* const_hex_c::const_hex_decoder_finish_nonnull */
@@ -513,12 +438,13 @@
 /* const_hex_c::const_hex_encode */
 	exported SYMBOL(const_hex_encode)
 	function SYMBOL(const_hex_encode)
-	mov w9, #0x1000
+	mov w10, #0x1000
 	cmp x0, #0x0
-	csel x8, x9, xzr, eq
+	mov x8, x3
+	csel x9, x10, xzr, eq
 	cmp x2, #0x0
-	csel x9, x9, xzr, eq
-	add x9, x2, x9
+	csel x10, x10, xzr, eq
+	add x3, x2, x10
 	tbnz x1, #63, 2f
 	lsl x11, x1, #1
 	and w10, w4, #0x2
@@ -526,39 +452,31 @@
 	b.cc 4f
 2:
 	mov w0, wzr
-	cbz x3, 3f
+	cbz x8, 3f
 	tbnz w4, #2, 3f
 	mov w0, wzr
-	strb wzr, [x9]
+	strb wzr, [x3]
 3:
 	ret
 4:
 	cmp w4, #0x3
 	b.hi 5f
-	cmp x11, x3
+	cmp x11, x8
 	b.cs 2b
-	strb wzr, [x9, x11]
+	strb wzr, [x3, x11]
 	b 6f
 5:
 	cmp w4, #0x7
 	b.hi 2b
-	cmp x11, x3
+	cmp x11, x8
 	b.hi 2b
 6:
-	cbnz w10, 7f
-	mov x3, x9
-	b 8f
+	cbz w10, 7f
+	mov w8, #0x7830
+	strh w8, [x3], #2
 7:
-	adrp_label x10, const_hex_constant_1
-	add_label x10, x10, const_hex_constant_1
-	add x3, x9, #0x2
-	sub x10, x9, x10
-	cmp x10, #0x1
-	mov w10, #0x7830
-	strh w10, [x9]
-8:
 	stp x29, x30, [sp, #-16]!
-	add x0, x0, x8
+	add x0, x0, x9
 	and w2, w4, #0x1
 	mov x29, sp
 	bl SYMBOL(const_hex_kernel_fill)
@@ -600,20 +518,20 @@
 	b.eq 2f
 	cmp w8, #0x1
 	b.ne 4f
-	adrp_label x0, const_hex_constant_2
-	add_label x0, x0, const_hex_constant_2
+	adrp_label x0, const_hex_constant_1
+	add_label x0, x0, const_hex_constant_1
 	add x2, x1, x9
 	mov w1, #0x14
 	b const_hex_message_write_ended
 2:
-	adrp_label x0, const_hex_constant_3
-	add_label x0, x0, const_hex_constant_3
+	adrp_label x0, const_hex_constant_2
+	add_label x0, x0, const_hex_constant_2
 	add x2, x1, x9
 	mov w1, #0x15
 	b const_hex_message_write_ended
 3:
-	adrp_label x0, const_hex_constant_4
-	add_label x0, x0, const_hex_constant_4
+	adrp_label x0, const_hex_constant_3
+	add_label x0, x0, const_hex_constant_3
 	add x2, x1, x9
 	mov w1, #0xd
 	b const_hex_message_write_ended
@@ -667,8 +585,8 @@
 7:
 	mov w10, #0x3b
 8:
-	adrp_label x14, const_hex_constant_5
-	add_label x14, x14, const_hex_constant_5
+	adrp_label x14, const_hex_constant_4
+	add_label x14, x14, const_hex_constant_4
 	mov x13, sp
 	ldr x15, [x14]
 	ldur x14, [x14, #6]
@@ -706,8 +624,8 @@
 	b.cs 22f
 14:
 	and x11, x8, #0xf
-	adrp_label x13, const_hex_constant_6
-	add_label x13, x13, const_hex_constant_6
+	adrp_label x13, const_hex_constant_5
+	add_label x13, x13, const_hex_constant_5
 	ldrb w14, [x13, x11]
 	sub x12, x10, #0x11
 	mov w15, #0x7d00
@@ -752,8 +670,8 @@
 20:
 	strh w11, [x8, x10]
 21:
-	adrp_label x11, const_hex_constant_7
-	add_label x11, x11, const_hex_constant_7
+	adrp_label x11, const_hex_constant_6
+	add_label x11, x11, const_hex_constant_6
 	mov x8, sp
 	ldr q0, [x11]
 	mov w11, #0x7265
@@ -797,133 +715,102 @@
 	ret
 	end SYMBOL(const_hex_version)
 
-/* const_hex::codec::body::find_invalid_character */
-	function const_hex_body_find_invalid_character
-	subs x10, x2, #0x4
-	adrp_label x8, const_hex_constant_8
-	add_label x8, x8, const_hex_constant_8
-	b.cs 4f
-	mov x9, xzr
+/* const_hex::codec::body::locate_invalid */
+	function const_hex_body_locate_invalid
+	cbz x1, 2f
+	ldrb w8, [x0]
+	adrp_label x10, const_hex_constant_7
+	add_label x10, x10, const_hex_constant_7
+	ldrb w9, [x10, x8]
+	cmp w9, #0xff
+	b.eq 3f
+	cmp x1, #0x1
+	b.ne 4f
+	mov x11, xzr
+	mov w9, #0x1
+	b 9f
 2:
-	cmp x9, x2
-	b.cs 6f
-3:
-	ldrb w10, [x1, x9]
-	ldrb w11, [x8, x10]
-	cmp w11, #0xff
-	b.eq 12f
-	add x9, x9, #0x1
-	cmp x2, x9
-	b.ne 3b
-	b 15f
-4:
-	ldrb w9, [x1]
-	ldrb w11, [x1, #1]
-	ldrb w12, [x8, x9]
-	ldrb w13, [x8, x11]
-	orr w12, w13, w12
-	tbz w12, #7, 5f
-	orr w9, w9, w11, lsl #8
-	mov w11, #0x7830
-	orr w9, w9, #0x2000
-	cmp w9, w11
-	b.ne 18f
-5:
-	cmp x10, #0x2
-	b.cs 8f
-	mov w9, #0x2
-	cmp x9, x2
-	b.cc 14f
-	b 17f
-6:
-	mov w10, wzr
-7:
-	mov w8, #0x2
-	str x9, [x0, #8]
-	stp w8, w10, [x0]
+	mov w8, wzr
+	sub x9, x1, xzr
+	mov w0, w8
+	add x1, x9, xzr
 	ret
-8:
-	mov x9, xzr
-9:
-	add x11, x1, x9
-	ldrb w12, [x11, #2]
-	ldrb w13, [x11, #3]
-	ldrb w12, [x8, x12]
-	ldrb w13, [x8, x13]
-	orr w12, w13, w12
+3:
+	mov x1, xzr
+	mov w0, w8
+	ret
+4:
+	ldrb w9, [x0, #1]
+	orr w8, w8, w9, lsl #8
+	mov w9, #0x7830
+	orr w8, w8, #0x2000
+	cmp w8, w9
+	b.ne 5f
+	sub x9, x1, #0x2
+	add x0, x0, #0x2
+	subs x8, x9, #0x4
+	mov x11, xzr
+	csel x8, xzr, x8, cc
+	b.cs 6f
+	b 8f
+5:
+	mov x9, x1
+	subs x8, x1, #0x4
+	mov x11, xzr
+	csel x8, xzr, x8, cc
+	b.cc 8f
+6:
+	mov x11, xzr
+7:
+	add x12, x0, x11
+	ldrb w13, [x12]
+	ldrb w14, [x12, #1]
+	ldrb w13, [x10, x13]
+	ldrb w14, [x10, x14]
+	orr w13, w14, w13
+	tbnz w13, #7, 8f
+	ldrb w13, [x12, #2]
+	ldrb w12, [x12, #3]
+	ldrb w13, [x10, x13]
+	ldrb w12, [x10, x12]
+	orr w12, w12, w13
 	tbnz w12, #7, 13f
-	ldrb w12, [x11, #4]
-	ldrb w11, [x11, #5]
-	ldrb w12, [x8, x12]
-	ldrb w11, [x8, x11]
-	orr w11, w11, w12
-	tbnz w11, #7, 16f
-	add x12, x9, #0x6
-	add x11, x9, #0x4
-	cmp x12, x10
-	mov x9, x11
-	b.ls 9b
-	add x9, x11, #0x2
-	cmp x9, x2
-	b.cc 14f
-	b 17f
+	add x11, x11, #0x4
+	cmp x11, x8
+	b.ls 7b
+8:
+	cmp x11, x9
+	b.cs 14f
+9:
+	ldrb w8, [x0, x11]
+	ldrb w12, [x10, x8]
+	cmp w12, #0xff
+	b.eq 12f
+	add x11, x11, #0x1
+	cmp x9, x11
+	b.ne 9b
+	mov w8, wzr
+	mov x11, x9
+	sub x9, x1, x9
+	mov w0, w8
+	add x1, x9, x11
+	ret
 12:
-	mov w8, #0x2
-	str x9, [x0, #8]
-	stp w8, w10, [x0]
+	sub x9, x1, x9
+	mov w0, w8
+	add x1, x9, x11
 	ret
 13:
-	add x9, x9, #0x2
-	cmp x9, x2
-	b.cs 17f
+	add x11, x11, #0x2
+	cmp x11, x9
+	b.cc 9b
 14:
-	ldrb w10, [x1, x9]
-	ldrb w11, [x8, x10]
-	cmp w11, #0xff
-	b.eq 7b
-	add x9, x9, #0x1
-	cmp x2, x9
-	b.ne 14b
-15:
-	mov w10, wzr
-	mov w8, #0x2
-	str x2, [x0, #8]
-	stp w8, w10, [x0]
+	mov w8, wzr
+	sub x9, x1, x9
+	mov w0, w8
+	add x1, x9, x11
 	ret
-16:
-	add x9, x9, #0x4
-	cmp x9, x2
-	b.cc 14b
-17:
-	mov w10, wzr
-	mov w8, #0x2
-	str x9, [x0, #8]
-	stp w8, w10, [x0]
-	ret
-18:
-	mov x9, xzr
-19:
-	add x11, x1, x9
-	ldrb w12, [x11]
-	ldrb w13, [x11, #1]
-	ldrb w12, [x8, x12]
-	ldrb w13, [x8, x13]
-	orr w12, w13, w12
-	tbnz w12, #7, 2b
-	ldrb w12, [x11, #2]
-	ldrb w11, [x11, #3]
-	ldrb w12, [x8, x12]
-	ldrb w11, [x8, x11]
-	orr w11, w11, w12
-	tbnz w11, #7, 20f
-	add x9, x9, #0x4
-	cmp x9, x10
-	b.ls 19b
-	b 2b
-20:
-	add x9, x9, #0x2
-	b 2b
-	end const_hex_body_find_invalid_character
+	end const_hex_body_locate_invalid
 
 /* const_hex::codec::decoder::decode_after */
 	function const_hex_decoder_decode_after
@@ -994,8 +881,8 @@
 	subs x9, x4, #0x4
 	mov x8, xzr
 	csel x10, xzr, x9, cc
-	adrp_label x9, const_hex_constant_8
-	add_label x9, x9, const_hex_constant_8
+	adrp_label x9, const_hex_constant_7
+	add_label x9, x9, const_hex_constant_7
 	b.cc 3f
 	mov x8, xzr
 2:
@@ -1079,30 +966,27 @@
 	end const_hex_message_write_ended
 
 	constant const_hex_constant_1, 0
-	.byte 0x30, 0x78
-
-	constant const_hex_constant_2, 0
 	.byte 0x6f, 0x64, 0x64, 0x20, 0x6e, 0x75, 0x6d, 0x62, 0x65, 0x72, 0x20, 0x6f, 0x66, 0x20, 0x64, 0x69
 	.byte 0x67, 0x69, 0x74, 0x73
 
-	constant const_hex_constant_3, 0
+	constant const_hex_constant_2, 0
 	.byte 0x69, 0x6e, 0x76, 0x61, 0x6c, 0x69, 0x64, 0x20, 0x73, 0x74, 0x72, 0x69, 0x6e, 0x67, 0x20, 0x6c
 	.byte 0x65, 0x6e, 0x67, 0x74, 0x68
 
-	constant const_hex_constant_4, 0
+	constant const_hex_constant_3, 0
 	.byte 0x6f, 0x75, 0x74, 0x20, 0x6f, 0x66, 0x20, 0x6d, 0x65, 0x6d, 0x6f, 0x72, 0x79
 
-	constant const_hex_constant_5, 0
+	constant const_hex_constant_4, 0
 	.byte 0x27, 0x20, 0x61, 0x74, 0x20, 0x70, 0x6f, 0x73, 0x69, 0x74, 0x69, 0x6f, 0x6e, 0x20
 
-	constant const_hex_constant_6, 4
+	constant const_hex_constant_5, 4
 	.byte 0x30, 0x31, 0x32, 0x33, 0x34, 0x35, 0x36, 0x37, 0x38, 0x39, 0x61, 0x62, 0x63, 0x64, 0x65, 0x66
 
-	constant const_hex_constant_7, 0
+	constant const_hex_constant_6, 0
 	.byte 0x69, 0x6e, 0x76, 0x61, 0x6c, 0x69, 0x64, 0x20, 0x63, 0x68, 0x61, 0x72, 0x61, 0x63, 0x74, 0x65
 	.byte 0x72, 0x20, 0x27
 
-	constant const_hex_constant_8, 0
+	constant const_hex_constant_7, 0
 	.byte 0xff, 0xff, 0xff, 0xff, 0xff, 0xff, 0xff, 0xff, 0xff, 0xff, 0xff, 0xff, 0xff, 0xff, 0xff, 0xff
 	.byte 0xff, 0xff, 0xff, 0xff, 0xff, 0xff, 0xff, 0xff, 0xff, 0xff, 0xff, 0xff, 0xff, 0xff, 0xff, 0xff
 	.byte 0xff, 0xff, 0xff, 0xff, 0xff, 0xff, 0xff, 0xff, 0xff, 0xff, 0xff, 0xff, 0xff, 0xff, 0xff, 0xff

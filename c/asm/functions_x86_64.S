@@ -10,12 +10,9 @@
 	push   r15
 	push   r14
 	push   rbx
-	sub    rsp,0x10
 	xor    eax,eax
 	test   rdi,rdi
 	sete   cl
-	xorps  xmm0,xmm0
-	movaps XMMWORD PTR [rsp],xmm0
 	test   sil,0x1
 	jne    3f
 	mov    r15,rdx
@@ -40,63 +37,37 @@
 	mov    rdi,rcx
 	mov    rsi,rax
 	call   SYMBOL(const_hex_kernel_check)
-	test   al,al
-	je     6f
+	mov    ecx,eax
 	mov    al,0x1
-	jmp    5f
-3:
-	xor    eax,eax
-	mov    ecx,0x1
-	xor    esi,esi
-4:
-	mov    DWORD PTR [rdx],ecx
-	mov    DWORD PTR [rdx+0x4],eax
-	mov    QWORD PTR [rdx+0x8],rsi
-	xor    eax,eax
-5:
-	add    rsp,0x10
+	test   cl,cl
+	je     5f
 	pop    rbx
 	pop    r14
 	pop    r15
 	ret
-6:
-	mov    rdi,rsp
-	mov    rsi,r14
-	mov    rdx,rbx
-	call   const_hex_body_find_invalid_character
-	movzx  eax,BYTE PTR [rsp]
-	lea    rcx,[rip + const_hex_constant_1]
-	movsxd rdx,DWORD PTR [rcx+rax*4]
-	add    rdx,rcx
-	jmp    rdx
-7:
-	mov    ecx,0x1
-	mov    rsi,rax
-	jmp    14f
-8:
-	mov    eax,DWORD PTR [rsp+0x4]
-	mov    rsi,QWORD PTR [rsp+0x8]
-	mov    ecx,0x3
-	jmp    14f
-9:
+3:
 	xor    eax,eax
-	mov    ecx,0x4
-	jmp    13f
-12:
+	mov    esi,0x1
+	xor    ecx,ecx
+4:
+	mov    DWORD PTR [rdx],esi
+	mov    DWORD PTR [rdx+0x4],eax
+	mov    QWORD PTR [rdx+0x8],rcx
 	xor    eax,eax
-	mov    ecx,0x2
-13:
-	xor    esi,esi
-14:
+	pop    rbx
+	pop    r14
+	pop    r15
+	ret
+5:
+	mov    rdi,r14
+	mov    rsi,rbx
+	call   const_hex_body_locate_invalid
+	mov    rcx,rdx
+	movzx  eax,al
+	mov    esi,0x3
 	mov    rdx,r15
 	jmp    4b
 	end SYMBOL(const_hex_check_nonnull)
-
-	constant const_hex_constant_1, 2
-	.long 7b - const_hex_constant_1
-	.long 12b - const_hex_constant_1
-	.long 8b - const_hex_constant_1
-	.long 9b - const_hex_constant_1
 
 /* const_hex_c::const_hex_check_raw */
 	exported SYMBOL(const_hex_check_raw)
@@ -118,15 +89,12 @@
 	push   r15
 	push   r14
 	push   rbx
-	sub    rsp,0x10
 	xor    eax,eax
 	test   rdi,rdi
 	sete   r11b
 	xor    r9d,r9d
 	test   rdx,rdx
 	sete   r10b
-	xorps  xmm0,xmm0
-	movaps XMMWORD PTR [rsp],xmm0
 	test   sil,0x1
 	jne    3f
 	mov    al,r11b
@@ -147,7 +115,7 @@
 2:
 	shr    r11,1
 	cmp    r11,rcx
-	jne    6f
+	jne    4f
 	mov    r14,rdi
 	mov    rbx,rsi
 	mov    r15,r8
@@ -158,61 +126,41 @@
 	mov    rsi,rdx
 	mov    rdx,rcx
 	call   SYMBOL(const_hex_kernel_read)
-	test   al,al
-	je     4f
+	mov    ecx,eax
 	mov    al,0x1
-	jmp    9f
-3:
-	xor    eax,eax
-	mov    ecx,0x1
-	jmp    7f
-4:
-	mov    rdi,rsp
-	mov    rsi,r14
-	mov    rdx,rbx
-	call   const_hex_body_find_invalid_character
-	movzx  eax,BYTE PTR [rsp]
-	lea    rcx,[rip + const_hex_constant_2]
-	movsxd rdx,DWORD PTR [rcx+rax*4]
-	add    rdx,rcx
-	mov    r8,r15
-	jmp    rdx
-5:
-	mov    ecx,0x1
-	mov    rdx,rax
-	jmp    8f
-6:
-	xor    eax,eax
-	mov    ecx,0x2
-7:
-	xor    edx,edx
-8:
-	mov    DWORD PTR [r8],ecx
-	mov    DWORD PTR [r8+0x4],eax
-	mov    QWORD PTR [r8+0x8],rdx
-	xor    eax,eax
-9:
-	add    rsp,0x10
+	test   cl,cl
+	je     7f
 	pop    rbx
 	pop    r14
 	pop    r15
 	ret
-12:
-	mov    eax,DWORD PTR [rsp+0x4]
-	mov    rdx,QWORD PTR [rsp+0x8]
-	mov    ecx,0x3
-	jmp    8b
-13:
+3:
 	xor    eax,eax
-	mov    ecx,0x4
-	jmp    7b
+	mov    ecx,0x1
+	jmp    5f
+4:
+	xor    eax,eax
+	mov    ecx,0x2
+5:
+	xor    edx,edx
+6:
+	mov    DWORD PTR [r8],ecx
+	mov    DWORD PTR [r8+0x4],eax
+	mov    QWORD PTR [r8+0x8],rdx
+	xor    eax,eax
+	pop    rbx
+	pop    r14
+	pop    r15
+	ret
+7:
+	mov    rdi,r14
+	mov    rsi,rbx
+	call   const_hex_body_locate_invalid
+	movzx  eax,al
+	mov    ecx,0x3
+	mov    r8,r15
+	jmp    6b
 	end SYMBOL(const_hex_decode_exact_nonnull)
-
-	constant const_hex_constant_2, 2
-	.long 5b - const_hex_constant_2
-	.long 6b - const_hex_constant_2
-	.long 12b - const_hex_constant_2
-	.long 13b - const_hex_constant_2
 
 /* const_hex_c::const_hex_decode_nonnull */
 	hidden SYMBOL(const_hex_decode_nonnull)
@@ -223,17 +171,15 @@
 	push   r13
 	push   r12
 	push   rbx
-	sub    rsp,0x18
+	push   rax
 	xor    eax,eax
 	test   rdi,rdi
 	sete   bl
 	xor    r10d,r10d
 	test   rdx,rdx
 	sete   r11b
-	xorps  xmm0,xmm0
-	movaps XMMWORD PTR [rsp],xmm0
 	test   sil,0x1
-	jne    4f
+	jne    3f
 	mov    al,bl
 	shl    eax,0xc
 	add    rdi,rax
@@ -252,25 +198,24 @@
 2:
 	shr    rbx,1
 	cmp    rcx,rbx
-	jae    7f
+	jae    6f
 	mov    QWORD PTR [r8],0x0
-3:
 	xor    eax,eax
 	mov    ecx,0x2
-	jmp    5f
-4:
+	jmp    4f
+3:
 	mov    QWORD PTR [r8],0x0
 	xor    eax,eax
 	mov    ecx,0x1
-5:
+4:
 	xor    edx,edx
-6:
+5:
 	mov    DWORD PTR [r9],ecx
 	mov    DWORD PTR [r9+0x4],eax
 	mov    QWORD PTR [r9+0x8],rdx
 	xor    eax,eax
-	jmp    8f
-7:
+	jmp    7f
+6:
 	mov    r15,rdi
 	mov    r14,rsi
 	mov    r13,r8
@@ -283,11 +228,11 @@
 	mov    rdx,rbx
 	call   SYMBOL(const_hex_kernel_read)
 	test   al,al
-	je     9f
+	je     8f
 	mov    QWORD PTR [r13+0x0],rbx
 	mov    al,0x1
-8:
-	add    rsp,0x18
+7:
+	add    rsp,0x8
 	pop    rbx
 	pop    r12
 	pop    r13
@@ -295,39 +240,16 @@
 	pop    r15
 	pop    rbp
 	ret
-9:
-	mov    rdi,rsp
-	mov    rsi,r15
-	mov    rdx,r14
-	call   const_hex_body_find_invalid_character
-	movzx  eax,BYTE PTR [rsp]
-	mov    esi,DWORD PTR [rsp+0x4]
-	mov    rdx,QWORD PTR [rsp+0x8]
+8:
+	mov    rdi,r15
+	mov    rsi,r14
+	call   const_hex_body_locate_invalid
+	movzx  eax,al
 	mov    QWORD PTR [r13+0x0],0x0
-	lea    rcx,[rip + const_hex_constant_3]
-	movsxd rdi,DWORD PTR [rcx+rax*4]
-	add    rdi,rcx
-	mov    r9,r12
-	jmp    rdi
-12:
-	mov    ecx,0x1
-	mov    rdx,rax
-	jmp    6b
-13:
 	mov    ecx,0x3
-	mov    eax,esi
-	jmp    6b
-14:
-	xor    eax,eax
-	mov    ecx,0x4
+	mov    r9,r12
 	jmp    5b
 	end SYMBOL(const_hex_decode_nonnull)
-
-	constant const_hex_constant_3, 2
-	.long 12b - const_hex_constant_3
-	.long 3b - const_hex_constant_3
-	.long 13b - const_hex_constant_3
-	.long 14b - const_hex_constant_3
 
 /* const_hex_c::const_hex_decoder_finish_nonnull */
 	hidden SYMBOL(const_hex_decoder_finish_nonnull)
@@ -555,7 +477,7 @@
 	mov    rcx,QWORD PTR [rsp+0x18]
 	mov    rdx,QWORD PTR [rsp+0x8]
 	mov    QWORD PTR [rdx],0x0
-	lea    rdx,[rip + const_hex_constant_4]
+	lea    rdx,[rip + const_hex_constant_1]
 	movsxd rdi,DWORD PTR [rdx+rax*4]
 	add    rdi,rdx
 	jmp    rdi
@@ -577,24 +499,25 @@
 	jmp    22b
 	end SYMBOL(const_hex_decoder_update_nonnull)
 
-	constant const_hex_constant_4, 2
-	.long 23b - const_hex_constant_4
-	.long 12b - const_hex_constant_4
-	.long 24b - const_hex_constant_4
-	.long 25b - const_hex_constant_4
+	constant const_hex_constant_1, 2
+	.long 23b - const_hex_constant_1
+	.long 12b - const_hex_constant_1
+	.long 24b - const_hex_constant_1
+	.long 25b - const_hex_constant_1
 
 /* const_hex_c::const_hex_encode */
 	exported SYMBOL(const_hex_encode)
 	function SYMBOL(const_hex_encode)
 	push   rbx
+	mov    rax,rcx
 	xor    r9d,r9d
 	test   rdi,rdi
 	sete   r10b
-	xor    eax,eax
+	xor    ecx,ecx
 	test   rdx,rdx
-	sete   al
-	shl    eax,0xc
-	add    rax,rdx
+	sete   cl
+	shl    ecx,0xc
+	add    rcx,rdx
 	test   rsi,rsi
 	js     2f
 	mov    edx,r8d
@@ -606,11 +529,11 @@
 2:
 	and    r8d,0x4
 	shr    r8d,0x2
-	test   rcx,rcx
-	sete   cl
-	or     cl,r8b
+	test   rax,rax
+	sete   al
+	or     al,r8b
 	jne    3f
-	mov    BYTE PTR [rax],0x0
+	mov    BYTE PTR [rcx],0x0
 3:
 	xor    eax,eax
 	pop    rbx
@@ -618,14 +541,14 @@
 4:
 	cmp    r8d,0x3
 	ja     5f
-	cmp    r11,rcx
+	cmp    r11,rax
 	jae    2b
-	mov    BYTE PTR [rax+r11*1],0x0
+	mov    BYTE PTR [rcx+r11*1],0x0
 	jmp    6f
 5:
 	cmp    r8d,0x8
 	setae  bl
-	cmp    r11,rcx
+	cmp    r11,rax
 	seta   r11b
 	or     r11b,bl
 	jne    2b
@@ -634,17 +557,10 @@
 	shl    r9d,0xc
 	add    rdi,r9
 	test   edx,edx
-	jne    7f
-	mov    rcx,rax
-	jmp    8f
+	je     7f
+	mov    WORD PTR [rcx],0x7830
+	add    rcx,0x2
 7:
-	lea    rcx,[rax+0x2]
-	lea    rdx,[rip + const_hex_constant_5]
-	mov    r9,rax
-	sub    r9,rdx
-	cmp    r9,0x1
-	mov    WORD PTR [rax],0x7830
-8:
 	and    r8d,0x1
 	mov    edx,r8d
 	call   SYMBOL(const_hex_kernel_fill)
@@ -691,15 +607,15 @@
 	je     2f
 	cmp    eax,0x1
 	jne    4f
-	lea    rdi,[rip + const_hex_constant_6]
+	lea    rdi,[rip + const_hex_constant_2]
 	mov    esi,0x14
 	jmp    const_hex_message_write_ended
 2:
-	lea    rdi,[rip + const_hex_constant_7]
+	lea    rdi,[rip + const_hex_constant_3]
 	mov    esi,0x15
 	jmp    const_hex_message_write_ended
 3:
-	lea    rdi,[rip + const_hex_constant_8]
+	lea    rdi,[rip + const_hex_constant_4]
 	mov    esi,0xd
 	jmp    const_hex_message_write_ended
 4:
@@ -758,7 +674,7 @@
 	movzx  eax,r9b
 	cmp    al,0x27
 	ja     12f
-	lea    rdx,[rip + const_hex_constant_9]
+	lea    rdx,[rip + const_hex_constant_5]
 	movsxd rsi,DWORD PTR [rdx+rax*4]
 	add    rsi,rdx
 	mov    rdx,r10
@@ -779,7 +695,7 @@
 14:
 	mov    edi,eax
 	and    edi,0xf
-	lea    rsi,[rip + const_hex_constant_10]
+	lea    rsi,[rip + const_hex_constant_6]
 	movzx  edi,BYTE PTR [rdi+rsi*1]
 	or     edi,0x7d00
 	mov    WORD PTR [rsp+r8*1-0x11],di
@@ -818,7 +734,7 @@
 21:
 	lea    rdi,[rsp+r8*1]
 	add    rdi,0xffffffffffffffed
-	movups xmm0,XMMWORD PTR [rip + const_hex_constant_11]
+	movups xmm0,XMMWORD PTR [rip + const_hex_constant_7]
 	movups XMMWORD PTR [rsp+r8*1-0x13],xmm0
 	mov    DWORD PTR [rsp+r8*1-0x4],0x27207265
 	mov    esi,0x4e
@@ -848,47 +764,47 @@
 	jmp    21b
 	end SYMBOL(const_hex_error_message)
 
-	constant const_hex_constant_9, 2
-	.long 9b - const_hex_constant_9
-	.long 13b - const_hex_constant_9
-	.long 13b - const_hex_constant_9
-	.long 13b - const_hex_constant_9
-	.long 13b - const_hex_constant_9
-	.long 13b - const_hex_constant_9
-	.long 13b - const_hex_constant_9
-	.long 13b - const_hex_constant_9
-	.long 13b - const_hex_constant_9
-	.long 16b - const_hex_constant_9
-	.long 17b - const_hex_constant_9
-	.long 13b - const_hex_constant_9
-	.long 13b - const_hex_constant_9
-	.long 18b - const_hex_constant_9
-	.long 13b - const_hex_constant_9
-	.long 13b - const_hex_constant_9
-	.long 13b - const_hex_constant_9
-	.long 13b - const_hex_constant_9
-	.long 13b - const_hex_constant_9
-	.long 13b - const_hex_constant_9
-	.long 13b - const_hex_constant_9
-	.long 13b - const_hex_constant_9
-	.long 13b - const_hex_constant_9
-	.long 13b - const_hex_constant_9
-	.long 13b - const_hex_constant_9
-	.long 13b - const_hex_constant_9
-	.long 13b - const_hex_constant_9
-	.long 13b - const_hex_constant_9
-	.long 13b - const_hex_constant_9
-	.long 13b - const_hex_constant_9
-	.long 13b - const_hex_constant_9
-	.long 13b - const_hex_constant_9
-	.long 13b - const_hex_constant_9
-	.long 13b - const_hex_constant_9
-	.long 13b - const_hex_constant_9
-	.long 13b - const_hex_constant_9
-	.long 13b - const_hex_constant_9
-	.long 13b - const_hex_constant_9
-	.long 13b - const_hex_constant_9
-	.long 15b - const_hex_constant_9
+	constant const_hex_constant_5, 2
+	.long 9b - const_hex_constant_5
+	.long 13b - const_hex_constant_5
+	.long 13b - const_hex_constant_5
+	.long 13b - const_hex_constant_5
+	.long 13b - const_hex_constant_5
+	.long 13b - const_hex_constant_5
+	.long 13b - const_hex_constant_5
+	.long 13b - const_hex_constant_5
+	.long 13b - const_hex_constant_5
+	.long 16b - const_hex_constant_5
+	.long 17b - const_hex_constant_5
+	.long 13b - const_hex_constant_5
+	.long 13b - const_hex_constant_5
+	.long 18b - const_hex_constant_5
+	.long 13b - const_hex_constant_5
+	.long 13b - const_hex_constant_5
+	.long 13b - const_hex_constant_5
+	.long 13b - const_hex_constant_5
+	.long 13b - const_hex_constant_5
+	.long 13b - const_hex_constant_5
+	.long 13b - const_hex_constant_5
+	.long 13b - const_hex_constant_5
+	.long 13b - const_hex_constant_5
+	.long 13b - const_hex_constant_5
+	.long 13b - const_hex_constant_5
+	.long 13b - const_hex_constant_5
+	.long 13b - const_hex_constant_5
+	.long 13b - const_hex_constant_5
+	.long 13b - const_hex_constant_5
+	.long 13b - const_hex_constant_5
+	.long 13b - const_hex_constant_5
+	.long 13b - const_hex_constant_5
+	.long 13b - const_hex_constant_5
+	.long 13b - const_hex_constant_5
+	.long 13b - const_hex_constant_5
+	.long 13b - const_hex_constant_5
+	.long 13b - const_hex_constant_5
+	.long 13b - const_hex_constant_5
+	.long 13b - const_hex_constant_5
+	.long 15b - const_hex_constant_5
 
 /* const_hex_c::const_hex_version */
 	exported SYMBOL(const_hex_version)
@@ -897,108 +813,93 @@
 	ret
 	end SYMBOL(const_hex_version)
 
-/* const_hex::codec::body::find_invalid_character */
-	function const_hex_body_find_invalid_character
-	cmp    rdx,0x4
-	jae    4f
-	xor    eax,eax
-2:
-	cmp    rax,rdx
-	jae    13f
-	.byte 0x66, 0x66, 0x66, 0x66, 0x66, 0x66, 0x2e, 0xf, 0x1f, 0x84, 0x0, 0x0, 0x0, 0x0, 0x0  /* data16 data16 data16 data16 data16 cs nop WORD PTR [rax+rax*1+0x0] */
-3:
-	movzx  r8d,BYTE PTR [rsi+rax*1]
-	lea    rcx,[rip + const_hex_constant_12]
-	cmp    BYTE PTR [r8+rcx*1],0xff
-	je     14f
-	inc    rax
-	cmp    rdx,rax
-	jne    3b
+/* const_hex::codec::body::locate_invalid */
+	function const_hex_body_locate_invalid
+	mov    rdx,rsi
+	test   rsi,rsi
+	je     2f
+	movzx  eax,BYTE PTR [rdi]
+	lea    rsi,[rip + const_hex_constant_8]
+	cmp    BYTE PTR [rax+rsi*1],0xff
+	je     3f
+	cmp    rdx,0x1
+	jne    4f
+	mov    ecx,0x1
+	xor    r8d,r8d
 	jmp    9f
+2:
+	xor    ecx,ecx
+	xor    r8d,r8d
+	xor    eax,eax
+	sub    rdx,rcx
+	add    rdx,r8
+	ret
+3:
+	xor    edx,edx
+	ret
 4:
-	movzx  eax,BYTE PTR [rsi]
-	movzx  r8d,BYTE PTR [rsi+0x1]
-	lea    rcx,[rip + const_hex_constant_12]
-	movzx  r8d,BYTE PTR [r8+rcx*1]
-	or     r8b,BYTE PTR [rax+rcx*1]
-	jns    5f
-	movzx  eax,WORD PTR [rsi]
+	movzx  eax,WORD PTR [rdi]
 	or     eax,0x2000
 	cmp    eax,0x7830
-	jne    15f
+	jne    5f
+	lea    rcx,[rdx-0x2]
+	add    rdi,0x2
+	jmp    6f
 5:
-	lea    r8,[rdx-0x4]
-	mov    eax,0x2
-	cmp    r8,0x2
-	jb     7f
+	mov    rcx,rdx
 6:
-	movzx  r9d,BYTE PTR [rsi+rax*1]
-	movzx  r10d,BYTE PTR [rsi+rax*1+0x1]
-	movzx  r10d,BYTE PTR [r10+rcx*1]
-	or     r10b,BYTE PTR [r9+rcx*1]
-	js     7f
-	movzx  r9d,BYTE PTR [rsi+rax*1+0x2]
-	movzx  r10d,BYTE PTR [rsi+rax*1+0x3]
-	movzx  r10d,BYTE PTR [r10+rcx*1]
-	or     r10b,BYTE PTR [r9+rcx*1]
-	js     12f
-	add    rax,0x4
-	cmp    rax,r8
-	jbe    6b
+	xor    r8d,r8d
+	mov    rax,rcx
+	sub    rax,0x4
+	cmovb  rax,r8
+	jb     8f
+	mov    r8d,0x2
+	.byte 0x66, 0x90  /* xchg   ax,ax */
 7:
-	cmp    rax,rdx
-	jae    13f
-	.byte 0xf, 0x1f, 0x44, 0x0, 0x0  /* nop    DWORD PTR [rax+rax*1+0x0] */
-8:
-	movzx  r8d,BYTE PTR [rsi+rax*1]
-	cmp    BYTE PTR [r8+rcx*1],0xff
-	je     14f
-	inc    rax
-	cmp    rdx,rax
-	jne    8b
-9:
-	xor    r8d,r8d
-	mov    rax,rdx
-	jmp    14f
-12:
-	add    rax,0x2
-	cmp    rax,rdx
-	jb     8b
-13:
-	xor    r8d,r8d
-14:
-	movzx  ecx,r8b
-	mov    DWORD PTR [rdi],0x2
-	mov    DWORD PTR [rdi+0x4],ecx
-	mov    QWORD PTR [rdi+0x8],rax
-	ret
-15:
-	lea    r8,[rdx-0x4]
-	mov    eax,0x2
-	.byte 0x66, 0x66, 0x66, 0x66, 0x2e, 0xf, 0x1f, 0x84, 0x0, 0x0, 0x0, 0x0, 0x0  /* data16 data16 data16 cs nop WORD PTR [rax+rax*1+0x0] */
-16:
-	movzx  r9d,BYTE PTR [rsi+rax*1-0x2]
-	movzx  r10d,BYTE PTR [rsi+rax*1-0x1]
-	movzx  r10d,BYTE PTR [r10+rcx*1]
-	or     r10b,BYTE PTR [r9+rcx*1]
-	js     17f
-	movzx  r9d,BYTE PTR [rsi+rax*1]
-	movzx  r10d,BYTE PTR [rsi+rax*1+0x1]
-	movzx  r10d,BYTE PTR [r10+rcx*1]
-	or     r10b,BYTE PTR [r9+rcx*1]
-	js     2b
-	lea    r9,[rax+0x4]
-	add    rax,0x2
-	cmp    rax,r8
-	mov    rax,r9
-	jbe    16b
+	movzx  r9d,BYTE PTR [rdi+r8*1-0x2]
+	movzx  r10d,BYTE PTR [rdi+r8*1-0x1]
+	movzx  r10d,BYTE PTR [r10+rsi*1]
+	or     r10b,BYTE PTR [r9+rsi*1]
+	js     13f
+	movzx  r9d,BYTE PTR [rdi+r8*1]
+	movzx  r10d,BYTE PTR [rdi+r8*1+0x1]
+	movzx  r10d,BYTE PTR [r10+rsi*1]
+	or     r10b,BYTE PTR [r9+rsi*1]
+	js     8f
+	lea    r9,[r8+0x4]
+	add    r8,0x2
+	cmp    r8,rax
+	mov    r8,r9
+	jbe    7b
 	add    r9,0xfffffffffffffffe
-	mov    rax,r9
-	jmp    2b
-17:
-	add    rax,0xfffffffffffffffe
-	jmp    2b
-	end const_hex_body_find_invalid_character
+	mov    r8,r9
+8:
+	cmp    r8,rcx
+	jae    14f
+	.byte 0xf, 0x1f, 0x80, 0x0, 0x0, 0x0, 0x0  /* nop    DWORD PTR [rax+0x0] */
+9:
+	movzx  eax,BYTE PTR [rdi+r8*1]
+	cmp    BYTE PTR [rax+rsi*1],0xff
+	je     12f
+	inc    r8
+	cmp    rcx,r8
+	jne    9b
+	xor    eax,eax
+	mov    r8,rcx
+12:
+	sub    rdx,rcx
+	add    rdx,r8
+	ret
+13:
+	add    r8,0xfffffffffffffffe
+	cmp    r8,rcx
+	jb     9b
+14:
+	xor    eax,eax
+	sub    rdx,rcx
+	add    rdx,r8
+	ret
+	end const_hex_body_locate_invalid
 
 /* const_hex::codec::decoder::decode_after */
 	function const_hex_decoder_decode_after
@@ -1082,7 +983,7 @@
 2:
 	movzx  r11d,BYTE PTR [rcx+rax*1-0x2]
 	movzx  ebx,BYTE PTR [rcx+rax*1-0x1]
-	lea    r10,[rip + const_hex_constant_12]
+	lea    r10,[rip + const_hex_constant_8]
 	movzx  ebx,BYTE PTR [rbx+r10*1]
 	or     bl,BYTE PTR [r11+r10*1]
 	js     5f
@@ -1104,7 +1005,7 @@
 	.byte 0x66, 0x90  /* xchg   ax,ax */
 4:
 	movzx  r9d,BYTE PTR [rcx+rax*1]
-	lea    r10,[rip + const_hex_constant_12]
+	lea    r10,[rip + const_hex_constant_8]
 	cmp    BYTE PTR [r9+r10*1],0xff
 	je     7f
 	inc    rax
@@ -1166,28 +1067,25 @@
 	ret
 	end const_hex_message_write_ended
 
-	constant const_hex_constant_5, 0
-	.byte 0x30, 0x78
-
-	constant const_hex_constant_6, 0
+	constant const_hex_constant_2, 0
 	.byte 0x6f, 0x64, 0x64, 0x20, 0x6e, 0x75, 0x6d, 0x62, 0x65, 0x72, 0x20, 0x6f, 0x66, 0x20, 0x64, 0x69
 	.byte 0x67, 0x69, 0x74, 0x73
 
-	constant const_hex_constant_7, 0
+	constant const_hex_constant_3, 0
 	.byte 0x69, 0x6e, 0x76, 0x61, 0x6c, 0x69, 0x64, 0x20, 0x73, 0x74, 0x72, 0x69, 0x6e, 0x67, 0x20, 0x6c
 	.byte 0x65, 0x6e, 0x67, 0x74, 0x68
 
-	constant const_hex_constant_8, 0
+	constant const_hex_constant_4, 0
 	.byte 0x6f, 0x75, 0x74, 0x20, 0x6f, 0x66, 0x20, 0x6d, 0x65, 0x6d, 0x6f, 0x72, 0x79
 
-	constant const_hex_constant_10, 4
+	constant const_hex_constant_6, 4
 	.byte 0x30, 0x31, 0x32, 0x33, 0x34, 0x35, 0x36, 0x37, 0x38, 0x39, 0x61, 0x62, 0x63, 0x64, 0x65, 0x66
 
-	constant const_hex_constant_11, 0
+	constant const_hex_constant_7, 0
 	.byte 0x69, 0x6e, 0x76, 0x61, 0x6c, 0x69, 0x64, 0x20, 0x63, 0x68, 0x61, 0x72, 0x61, 0x63, 0x74, 0x65
 	.byte 0x72, 0x20, 0x27
 
-	constant const_hex_constant_12, 0
+	constant const_hex_constant_8, 0
 	.byte 0xff, 0xff, 0xff, 0xff, 0xff, 0xff, 0xff, 0xff, 0xff, 0xff, 0xff, 0xff, 0xff, 0xff, 0xff, 0xff
 	.byte 0xff, 0xff, 0xff, 0xff, 0xff, 0xff, 0xff, 0xff, 0xff, 0xff, 0xff, 0xff, 0xff, 0xff, 0xff, 0xff
 	.byte 0xff, 0xff, 0xff, 0xff, 0xff, 0xff, 0xff, 0xff, 0xff, 0xff, 0xff, 0xff, 0xff, 0xff, 0xff, 0xff
