@@ -5,7 +5,7 @@
  * local error in place of NULL.
  *
  * On x86-64 there are two kernels, for x86-64-v2 and x86-64-v3. The first call asks the CPU which of them it can run,
- * and stores the answer in the byte `choice`. There is no lock: threads that ask at the same time get the same answer,
+ * by the code of the Rust crate, and stores the answer in the byte `choice`. There is no lock: threads that ask at the same time get the same answer,
  * and store the same byte. No address of code is stored where a program can write.
  */
 #include "assembly.h"
@@ -13,66 +13,23 @@
 #if defined(__x86_64__) && !defined(__ILP32__)
 	.intel_syntax noprefix
 
-	/* 0 until the CPU was asked, and then 2 if it has x86-64-v3, or 1. */
+	/* 0 until the CPU was asked, and then 3 if it has x86-64-v3, or 2. The functions need x86-64-v2 in any case. */
 	variable choice
 
-	/* Asks the CPU, stores the answer in `choice`, and returns it in al. It keeps all registers for arguments. The
-	 * functions need x86-64-v2 in any case, so only what x86-64-v3 adds to it is asked for, and whether the system
-	 * saves the registers of AVX. */
-	function ask
-	push	rbx
-	push	rcx
-	push	rdx
-	xor	eax, eax
-	cpuid
-	cmp	eax, 7
-	jb	2f
-	mov	eax, 1
-	cpuid
-	and	ecx, 0x38401000		/* FMA, MOVBE, OSXSAVE, AVX, F16C */
-	cmp	ecx, 0x38401000
-	jne	2f
-	mov	eax, 7
-	xor	ecx, ecx
-	cpuid
-	and	ebx, 0x128		/* BMI1, AVX2, BMI2 */
-	cmp	ebx, 0x128
-	jne	2f
-	mov	eax, 0x80000000
-	cpuid
-	cmp	eax, 0x80000001
-	jb	2f
-	mov	eax, 0x80000001
-	cpuid
-	and	ecx, 0x20		/* LZCNT */
-	je	2f
-	xor	ecx, ecx
-	xgetbv
-	and	eax, 6			/* the registers of SSE and of AVX */
-	cmp	eax, 6
-	jne	2f
-	mov	eax, 2
-	jmp	3f
-2:
-	mov	eax, 1
-3:
-	mov	BYTE PTR [rip + choice], al
-	pop	rdx
-	pop	rcx
-	pop	rbx
-	ret
-	end ask
+#define const_hex_1_0_0_build SYMBOL(const_hex_kernel_build)
+#include "../../rust/src/asm/build.s"
 
 	/* A function of the kernel, which jumps to that for this CPU. */
 	.macro kernel name
 	hidden \name
 	function \name
-	cmp	BYTE PTR [rip + choice], 2
+	cmp	BYTE PTR [rip + choice], 3
 	je	\name\()_v3
-	cmp	BYTE PTR [rip + choice], 1
+	cmp	BYTE PTR [rip + choice], 2
 	je	\name\()_v2
-	call	ask
-	cmp	al, 2
+	call	const_hex_1_0_0_build
+	mov	BYTE PTR [rip + choice], al
+	cmp	al, 3
 	je	\name\()_v3
 	jmp	\name\()_v2
 	end \name

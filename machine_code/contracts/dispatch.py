@@ -16,9 +16,10 @@ from execution.state import fresh, simple, split, word
 from meanings.x86_64 import reported
 from solver.questions import require
 
-# The byte that stands for each kernel.
-BUILDS = {"_v2": 1, "_v3": 2}
-# What x86-64-v3 needs beyond x86-64-v2, by the x86-64 psABI: the leaf of `cpuid`, the register, and the bits.
+# The number of each build. Portable code is 1.
+BUILDS = {"_v2": 2, "_v3": 3}
+# What x86-64-v2 needs, by the x86-64 psABI, and x86-64-v3 beyond that: the leaf of `cpuid`, the register, and the bits.
+FEATURES_OF_V2 = [(1, "rcx", 1 | 1 << 9 | 1 << 13 | 1 << 19 | 1 << 20 | 1 << 23)]  # SSE3 to SSE4.2, CX16, POPCNT
 FEATURES = [
     (1, "rcx", 1 << 12 | 1 << 22 | 1 << 27 | 1 << 28 | 1 << 29),  # FMA, MOVBE, OSXSAVE, AVX, F16C
     (7, "rbx", 1 << 3 | 1 << 5 | 1 << 8),  # BMI1, AVX2, BMI2
@@ -28,11 +29,27 @@ LEAVES = {0: 7, 0x80000000: 0x80000001}  # what `cpuid` of these leaves has to r
 SAVED_REGISTERS = 6  # of `xgetbv`: the system saves the registers of SSE and AVX
 
 
+def reports(features):
+    """Whether the CPU reports features."""
+    return z3.And(*[reported("cpuid", leaf, register) & bits == bits for leaf, register, bits in features])
+
+
 def has_v3():
-    """Whether the CPU has all that x86-64-v3 needs, and the system saves its registers."""
-    features = [reported("cpuid", leaf, register) & bits == bits for leaf, register, bits in FEATURES]
+    """Whether the CPU has all that x86-64-v3 needs beyond x86-64-v2, and the system saves its registers."""
     leaves = [z3.UGE(reported("cpuid", leaf, "rax"), least) for leaf, least in LEAVES.items()]
-    return z3.And(*features, *leaves, reported("xgetbv", 0, "rax") & SAVED_REGISTERS == SAVED_REGISTERS)
+    is_saved = reported("xgetbv", 0, "rax") & SAVED_REGISTERS == SAVED_REGISTERS
+    return z3.And(reports(FEATURES), *leaves, is_saved)
+
+
+class Build(Function):
+    """build(): which build the CPU can run."""
+
+    function, level, is_in_module, is_unrolled = "kernel_build", "dispatch", False, True
+    symbol, is_called, arguments = r"const_hex_(\d+_\d+_\d+|kernel)_build", True, ()
+
+    def returns(self, state):
+        number = z3.If(reports(FEATURES_OF_V2), z3.If(has_v3(), z3.BitVecVal(BUILDS["_v3"], 32), BUILDS["_v2"]), 1)
+        state.must(state.result(32) == number, "the build is not the one for this CPU")
 
 
 class Dispatched(Function):
@@ -73,10 +90,10 @@ class Dispatched(Function):
 
 
 class Kernel(Dispatched):
-    """A function of the kernel, for this CPU. It is the one that the stored byte names; another thread may store it at
-    any time. If it names none, the CPU is asked, and the byte is stored."""
+    """A function of the kernel, for this CPU, which has x86-64-v2. It is the one that the stored byte names; another
+    thread may store it at any time. If it names none, the CPU is asked, and the byte is stored."""
 
-    is_called, ends = True, tuple(BUILDS)
+    is_called, ends, requires = True, tuple(BUILDS), (reports(FEATURES_OF_V2),)
 
     def must_choose(self, state, end):
         number = BUILDS[end]
@@ -118,4 +135,4 @@ class OrNull(Dispatched):
 
 OR_NULL = [OrNull(name, FUNCTIONS[name].parameters, is_null) for name in sorted(WITH_ERROR)
            for is_null in (False, True)]
-CHOICES = [Kernel(name, parameters) for name, parameters in KERNELS.items()]
+CHOICES = [*(Kernel(name, parameters) for name, parameters in KERNELS.items()), Build()]

@@ -1,5 +1,7 @@
 """Wrong messages and dispatchers: small programs for const_hex_error_message, and changes of c/asm/dispatch.S."""
 
+import re
+
 from contracts.dispatch import CHOICES, OR_NULL
 from contracts.messages import MESSAGES
 from tests.library import ASM, linked as assembled
@@ -49,10 +51,11 @@ OF_MESSAGES = [
     ("a result of its own", CALL.format("", "mov eax, 20"), "another result"),
 ]
 NONNULL, CALL_IT = "\tjne\t\\name\\()_nonnull\n", "\tcall\t\\name\\()_nonnull\n"
-IS_2 = "\tcmp\tBYTE PTR [rip + choice], 2\n\tje\t\\name\\()_v3\n"
-IS_1 = "\tcmp\tBYTE PTR [rip + choice], 1\n\tje\t\\name\\()_v2\n"
+IS_3 = "\tcmp\tBYTE PTR [rip + choice], 3\n\tje\t\\name\\()_v3\n"
+IS_2 = "\tcmp\tBYTE PTR [rip + choice], 2\n\tje\t\\name\\()_v2\n"
 LOCAL = "mov\t\\error, rsp"
 NULL, NOT_NULL = "the error is NULL", "the error is not NULL"
+OTHER_BUILD = "the build is not the one for this CPU"
 # The function, what is wrong, what is changed, and what is said of it; of which contract.
 OF_DISPATCHERS = [
     ("check", "it calls twice", CALL_IT, CALL_IT + CALL_IT, "it calls twice", NULL),
@@ -69,26 +72,28 @@ OF_DISPATCHERS = [
     ("check", "NULL", NONNULL, NONNULL.replace("jne", "jmp"), "is not above the arguments", NULL),
     ("decoder_update", "another argument in the stack", "QWORD PTR [rsp], rax", "QWORD PTR [rsp], rsp",
      "is not above the arguments", NULL),
-    ("kernel_fill", "another kernel", IS_2, IS_2.replace("_v3", "_v2"), "not the one that is stored"),
-    ("kernel_fill", "the byte is read twice", IS_2,
-     "\tcmp\tBYTE PTR [rip + choice], 0\n\tje\t7f\n\tcmp\tBYTE PTR [rip + choice], 1\n\tjne\t\\name\\()_v3\n7:\n",
+    ("kernel_fill", "another kernel", IS_3, IS_3.replace("_v3", "_v2"), "not the one that is stored"),
+    ("kernel_fill", "the byte is read twice", IS_3,
+     "\tcmp\tBYTE PTR [rip + choice], 0\n\tje\t7f\n\tcmp\tBYTE PTR [rip + choice], 2\n\tjne\t\\name\\()_v3\n7:\n",
      "not the one that is stored"),
-    ("kernel_fill", "asked again", IS_1, "", "asked although a kernel is stored"),
-    ("kernel_fill", "another kernel is stored", "choice], al", "choice], 1", "another kernel is stored"),
-    ("kernel_fill", "no look at AVX2", "ebx, 0x128", "ebx, 0x108", "not the one for this CPU"),
-    ("kernel_fill", "no look at LZCNT", "\tje\t2f\n", "\tnop\n", "not the one for this CPU"),
-    ("kernel_fill", "no look at the registers of AVX", "\tcmp\teax, 6\n\tjne", "\tcmp\teax, 2\n\tjb",
-     "not the one for this CPU"),
-    ("kernel_fill", "no look at the number of leaves", "cmp\teax, 7", "cmp\teax, 6", "not the one for this CPU"),
-    ("kernel_fill", "v2 for a CPU with v3", "mov\teax, 2", "mov\teax, 1", "not the one for this CPU"),
-    ("kernel_fill", "no look at OSXSAVE", "0x38401000", "0x30401000", "a CPU that may not have it"),
-    ("kernel_fill", "another leaf", "mov\teax, 7", "mov\teax, 6", "another leaf of cpuid"),
-    ("kernel_fill", "another part of a leaf", "xor\tecx, ecx\n\tcpuid", "mov\tecx, 1\n\tcpuid", "part of one"),
-    ("kernel_fill", "other registers", "xor\tecx, ecx\n\txgetbv", "mov\tecx, 1\n\txgetbv",
-     "another register of xgetbv"),
+    ("kernel_fill", "asked again", IS_2, "", "asked although a kernel is stored"),
+    ("kernel_fill", "another kernel is stored", "choice], al", "choice], 2", "another kernel is stored"),
+    ("kernel_fill", "v3 for a CPU without LZCNT", "\tje\t3f\n", "\tnop\n", "not the one for this CPU"),
     ("kernel_fill", "an argument is lost", "push\trdx", "push\trcx", "argument 2 is another"),
-    ("kernel_fill", "AVX in the dispatcher", "\tpush\trbx", "\tvzeroupper\n\tpush\trbx", "is not what the assembler"),
-    ("kernel_fill", "another byte is kept", IS_2, IS_2.replace("choice", "choice + 1"), "a place that has no constant"),
+    ("kernel_fill", "another byte is kept", IS_3, IS_3.replace("choice", "choice + 1"), "a place that has no constant"),
+    ("kernel_build", "no look at POPCNT", "0x982201", "0x182201", OTHER_BUILD),
+    ("kernel_build", "no look at AVX2", "ebx, 0x128", "ebx, 0x108", OTHER_BUILD),
+    ("kernel_build", "no look at LZCNT", "\tje\t3f\n", "\tnop\n", OTHER_BUILD),
+    ("kernel_build", "no look at the registers of AVX", "\tcmp\teax, 6\n\tjne", "\tcmp\teax, 2\n\tjb", OTHER_BUILD),
+    ("kernel_build", "no look at the number of leaves", "cmp\teax, 7", "cmp\teax, 6", OTHER_BUILD),
+    ("kernel_build", "v2 for a CPU with v3", "mov\teax, 3", "mov\teax, 2", OTHER_BUILD),
+    ("kernel_build", "v3 for a CPU with v2", "mov\teax, 2", "mov\teax, 3", OTHER_BUILD),
+    ("kernel_build", "no look at OSXSAVE", "0x38401000", "0x30401000", "a CPU that may not have it"),
+    ("kernel_build", "another leaf", "mov\teax, 7", "mov\teax, 6", "another leaf of cpuid"),
+    ("kernel_build", "another part of a leaf", "xor\tecx, ecx\n\tcpuid", "mov\tecx, 1\n\tcpuid", "part of one"),
+    ("kernel_build", "other registers", "xor\tecx, ecx\n\txgetbv", "mov\tecx, 1\n\txgetbv",
+     "another register of xgetbv"),
+    ("kernel_build", "AVX", "\tpush\trbx", "\tvzeroupper\n\tpush\trbx", "is not what the assembler"),
 ]
 CONTRACTS = [*OR_NULL, *CHOICES, *MESSAGES]
 
@@ -98,6 +103,6 @@ def message(body):
 
 
 def dispatcher(old="", new=""):
-    text = (ASM / "dispatch.S").read_text()
+    text = re.sub('#include "(.*[.]s)"', lambda file: (ASM / file[1]).read_text(), (ASM / "dispatch.S").read_text())
     assert old in text, old
     return assembled(text.replace(old, new))

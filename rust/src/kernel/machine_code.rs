@@ -15,6 +15,7 @@ macro_rules! assembled {
             include_str!($directives),
             include_str!("../asm/x86_64_v2.s"),
             include_str!("../asm/x86_64_v3.s"),
+            include_str!("../asm/build.s"),
             include_str!("../asm/end.s"),
             options(raw)
         );
@@ -116,6 +117,11 @@ functions! {
 mod choice {
     use core::sync::atomic::{AtomicU8, Ordering::Relaxed};
 
+    extern "sysv64" {
+        /// Asks the CPU for the build. `machine_code` has proved that, too.
+        fn const_hex_1_0_0_build() -> u32;
+    }
+
     macro_rules! has_all {
         ($($feature:tt)+) => { $(cfg!(target_feature = $feature))&&+ };
     }
@@ -136,42 +142,11 @@ mod choice {
         }
     }
 
-    /// Asks the CPU for the build. The operating system has to keep the registers of AVX, too.
+    /// Asks the CPU for the build.
     #[cold]
     pub fn ask() {
-        use core::arch::x86_64::{__cpuid, __cpuid_count};
-
-        // `_xgetbv` could be inlined only into a function that requires its feature.
-        let kept_registers = || {
-            let kept: u32;
-            // SAFETY: the CPU has the instruction if it has reported OSXSAVE, which is asked for first.
-            unsafe { core::arch::asm!("xgetbv", in("ecx") 0, out("eax") kept, out("edx") _, options(nomem, nostack)) };
-            kept
-        };
-        // SSE3, SSSE3, CMPXCHG16B, SSE4.1, SSE4.2 and POPCNT; then FMA, MOVBE, OSXSAVE, AVX and F16C; then BMI1, AVX2
-        // and BMI2; and LZCNT.
-        const V2: u32 = 1 | 1 << 9 | 1 << 13 | 1 << 19 | 1 << 20 | 1 << 23;
-        const V3: u32 = 1 << 12 | 1 << 22 | 1 << 27 | 1 << 28 | 1 << 29;
-        const V3_OF_7: u32 = 1 << 3 | 1 << 5 | 1 << 8;
-        const LZCNT: u32 = 1 << 5;
-        let has = |found: u32, wanted: u32| found & wanted == wanted;
-        // SAFETY: each x86-64 CPU has the instruction `cpuid`.
-        #[allow(unused_unsafe)]
-        let build = unsafe {
-            let features = __cpuid(1).ecx;
-            let has_v3 = has(features, V3)
-                && __cpuid(0).eax >= 7
-                && has(__cpuid_count(7, 0).ebx, V3_OF_7)
-                && __cpuid(0x8000_0000).eax > 0x8000_0000
-                && has(__cpuid(0x8000_0001).ecx, LZCNT)
-                && kept_registers() & 6 == 6;
-            match has(features, V2) {
-                true if has_v3 => 3,
-                true => 2,
-                false => 1,
-            }
-        };
-        BUILD.store(build, Relaxed);
+        // SAFETY: it requires nothing.
+        BUILD.store(unsafe { const_hex_1_0_0_build() } as u8, Relaxed);
     }
 
     #[cfg(test)]
