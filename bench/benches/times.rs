@@ -1,8 +1,19 @@
 //! Times of one call, by criterion: a group for each call, a line for each library.
 
-use const_hex_bench::{cases, CALLS, SIZES};
+use const_hex_bench::{cases, SIZES};
 use criterion::{criterion_group, criterion_main, BenchmarkId, Criterion, Throughput};
 use std::time::Duration;
+
+/// The calls that are measured.
+const CALLS: [&str; 7] = [
+    "encode_to_slice",
+    "encode",
+    "encode_hex",
+    "decode_to_slice",
+    "decode",
+    "check",
+    "decode, last character invalid",
+];
 
 fn times(criterion: &mut Criterion) {
     for call in CALLS {

@@ -1,5 +1,7 @@
 //! Calls of hexadecimal codecs on prepared input, each as its user writes it.
 
+#[cfg(feature = "c")]
+mod c;
 mod libraries;
 
 pub use libraries::cases;
@@ -10,36 +12,26 @@ pub const SIZES: [usize; 13] = [
     1, 4, 16, 20, 32, 33, 64, 65, 128, 256, 2048, 16_384, 131_072,
 ];
 
-/// The calls that are compared. For those that end in `_invalid`, the last character of the text is invalid.
-pub const CALLS: [&str; 9] = [
-    "encode_to_slice",
-    "encode",
-    "encode_hex",
-    "decode_to_slice",
-    "decode",
-    "check",
-    "decode_to_slice_invalid",
-    "decode_invalid",
-    "check_invalid",
-];
-
 /// One call of one library, on input of one size.
 pub struct Case {
-    pub call: &'static str,
+    pub call: String,
     pub library: &'static str,
+    pub size: usize,
     prepare: Box<dyn Fn() -> Box<dyn Repeats>>,
 }
 
 impl Case {
     /// A case of the call that `prepare` returns, with its buffers.
     fn new<F: FnMut() + 'static>(
-        call: &'static str,
+        call: String,
         library: &'static str,
+        size: usize,
         prepare: impl Fn() -> F + 'static,
     ) -> Case {
         Case {
             call,
             library,
+            size,
             prepare: Box::new(move || Box::new(prepare())),
         }
     }

@@ -3,195 +3,223 @@
 use crate::Case;
 use std::hint::black_box;
 
-/// Every call of every library, for `size` bytes.
+/// Every call of every library, for `size` bytes. Those of const-hex and const-hex-proved take turns.
 pub fn cases(size: usize) -> Vec<Case> {
     let bytes: Vec<u8> = (0..size)
         .map(|i| (i.wrapping_mul(2_654_435_761) >> 7) as u8)
         .collect();
     let text = const_hex::encode(&bytes).into_bytes();
-    let mut invalid = text.clone();
-    invalid[2 * size - 1] = b'g';
-    let input = Input {
+    let mut cases = Cases {
         bytes,
         text,
-        invalid,
+        list: Vec::new(),
     };
-    let mut cases = Vec::new();
-    cases.extend(of_const_hex(&input));
-    cases.extend(of_proved(&input));
-    cases.extend(of_hex(&input));
-    cases.extend(of_data_encoding(&input));
+    macro_rules! both {
+        ($calls:ident $($argument:tt)*) => {
+            $calls!(const_hex, "const-hex", cases $($argument)*);
+            $calls!(const_hex_proved, "const-hex-proved", cases $($argument)*);
+        };
+    }
+    both!(with_names_of_hex);
+    both!(with_names_of_const_hex);
+    macro_rules! known_lengths {
+        ($($size:literal)+) => {
+            match size {
+                $($size => { both!(with_arrays $size); })+
+                _ => {}
+            }
+        };
+    }
+    known_lengths!(1 4 16 20 32 33 64 65 128 256 2048);
+    with_names_of_hex!(hex, "hex", cases);
+    of_data_encoding(&mut cases);
     #[cfg(feature = "c")]
-    cases.extend(c::cases(&input));
-    cases
+    crate::c::cases(&mut cases);
+    cases.list
 }
 
-/// Bytes, their text in lowercase, and this text with an invalid last character.
-struct Input {
+/// The texts that are decoded: what is added to a call's name.
+const TEXTS: [&str; 5] = [
+    "",
+    ", a prefix",
+    ", first character invalid",
+    ", last character invalid",
+    ", odd length",
+];
+
+/// The cases for bytes, and for texts that are made of their text in lowercase.
+pub(crate) struct Cases {
     bytes: Vec<u8>,
     text: Vec<u8>,
-    invalid: Vec<u8>,
+    list: Vec<Case>,
 }
 
-impl Input {
-    /// A case that calls `run` on the bytes and on a buffer for the text.
-    fn encoding<T>(
-        &self,
-        names: (&'static str, &'static str),
+impl Cases {
+    /// Adds a case that calls `run` on the bytes and on a buffer for the text.
+    pub(crate) fn encoding<T>(
+        &mut self,
+        call: &str,
+        library: &'static str,
         run: impl Fn(&[u8], &mut [u8]) -> T + Copy + 'static,
-    ) -> Case {
-        case(names, &self.bytes, self.text.len(), run)
+    ) {
+        let size = self.text.len();
+        self.add(call, library, self.bytes.clone(), size, run);
     }
 
-    /// A case that calls `run` on a text and on a buffer for the bytes.
-    fn decoding<T>(
-        &self,
-        names: (&'static str, &'static str),
-        run: impl Fn(&[u8], &mut [u8]) -> T + Copy + 'static,
-    ) -> Case {
-        let text = if names.0.ends_with("_invalid") {
-            &self.invalid
-        } else {
-            &self.text
-        };
-        case(names, text, self.bytes.len(), run)
-    }
-}
-
-/// A case that calls `run` on a copy of the input and on a buffer of so many bytes.
-fn case<T>(
-    (call, library): (&'static str, &'static str),
-    input: &[u8],
-    size: usize,
-    run: impl Fn(&[u8], &mut [u8]) -> T + Copy + 'static,
-) -> Case {
-    let (input, output) = (input.to_vec(), vec![0; size]);
-    Case::new(call, library, move || {
-        let (input, mut output) = (input.clone(), output.clone());
-        move || {
-            black_box(run(black_box(&input), black_box(&mut output)));
+    /// Adds a case for each kind of text, which calls `run` on the text and on a buffer for the bytes.
+    pub(crate) fn decoding<T: 'static, E: 'static>(
+        &mut self,
+        call: &str,
+        library: &'static str,
+        run: impl Fn(&[u8], &mut [u8]) -> Result<T, E> + Copy + 'static,
+    ) {
+        let last = self.text.len() - 1;
+        for kind in TEXTS {
+            let mut text = self.text.clone();
+            match kind {
+                ", a prefix" => text = [b"0x", &text[..]].concat(),
+                ", first character invalid" => text[0] = b'g',
+                ", last character invalid" => text[last] = b'g',
+                ", odd length" => text.truncate(last),
+                _ => {}
+            }
+            let (call, size) = (format!("{call}{kind}"), self.bytes.len());
+            match run(&text, &mut vec![0; size]).is_ok() {
+                true => self.add(&call, library, text, size, move |text, bytes| {
+                    run(text, bytes).ok().unwrap()
+                }),
+                false => self.add(&call, library, text, size, move |text, bytes| {
+                    run(text, bytes).err().unwrap()
+                }),
+            }
         }
-    })
+    }
+
+    /// Adds a case that calls `run` on a copy of the input and on a buffer of so many bytes.
+    fn add<T>(
+        &mut self,
+        call: &str,
+        library: &'static str,
+        input: Vec<u8>,
+        size: usize,
+        run: impl Fn(&[u8], &mut [u8]) -> T + Copy + 'static,
+    ) {
+        let output = vec![0; size];
+        let prepare = move || {
+            let (input, mut output) = (input.clone(), output.clone());
+            move || {
+                black_box(run(black_box(&input), black_box(&mut output)));
+            }
+        };
+        let case = Case::new(call.to_string(), library, self.bytes.len(), prepare);
+        self.list.push(case);
+    }
 }
 
 /// The calls of a crate that has the names of `hex`. `encode_hex` is that of its trait `ToHex`.
 macro_rules! with_names_of_hex {
-    ($library:ident, $name:literal, $input:ident) => {
-        vec![
-            $input.encoding(("encode_to_slice", $name), |bytes, text| {
-                $library::encode_to_slice(bytes, text).unwrap()
-            }),
-            $input.encoding(("encode", $name), |bytes, _| $library::encode(bytes)),
-            $input.decoding(("decode_to_slice", $name), |text, bytes| {
-                $library::decode_to_slice(text, bytes).unwrap()
-            }),
-            $input.decoding(("decode", $name), |text, _| $library::decode(text).unwrap()),
-            $input.decoding(("decode_to_slice_invalid", $name), |text, bytes| {
-                $library::decode_to_slice(text, bytes).unwrap_err()
-            }),
-            $input.decoding(("decode_invalid", $name), |text, _| {
-                $library::decode(text).unwrap_err()
-            }),
-            $input.encoding(("encode_hex", $name), |bytes, _| {
-                $library::ToHex::encode_hex::<String>(&bytes)
-            }),
-        ]
-    };
+    ($library:ident, $name:literal, $cases:ident) => {{
+        $cases.encoding("encode_to_slice", $name, |bytes, text| {
+            $library::encode_to_slice(bytes, text).unwrap()
+        });
+        $cases.encoding("encode", $name, |bytes, _| $library::encode(bytes));
+        $cases.decoding("decode_to_slice", $name, |text, bytes| {
+            $library::decode_to_slice(text, bytes)
+        });
+        $cases.decoding("decode", $name, |text, _| $library::decode(text));
+        #[allow(deprecated)]
+        $cases.encoding("encode_hex", $name, |bytes, _| {
+            $library::ToHex::encode_hex::<String>(&bytes)
+        });
+        #[allow(deprecated)]
+        $cases.encoding("encode_hex to Vec<char>", $name, |bytes, _| {
+            $library::ToHex::encode_hex::<Vec<char>>(&bytes)
+        });
+    }};
 }
+use with_names_of_hex;
 
-#[allow(deprecated)] // `ToHex`
-fn of_const_hex(input: &Input) -> Vec<Case> {
-    let mut cases = with_names_of_hex!(const_hex, "const-hex", input);
-    for call in ["check", "check_invalid"] {
-        cases.push(input.decoding((call, "const-hex"), |text, _| {
-            const_hex::check(text).is_ok()
-        }));
-    }
-    cases
+/// The calls that only const-hex has, and those of its feature `serde`, with serde_json.
+macro_rules! with_names_of_const_hex {
+    ($library:ident, $name:literal, $cases:ident) => {{
+        $cases.encoding("encode_upper_prefixed", $name, |bytes, _| {
+            $library::encode_upper_prefixed(bytes)
+        });
+        $cases.decoding("check", $name, |text, _| $library::check(text));
+        $cases.decoding("check_raw", $name, |text, _| {
+            match $library::check_raw(text) {
+                true => Ok(()),
+                false => Err(()),
+            }
+        });
+        $cases.decoding("const_check", $name, |text, _| $library::const_check(text));
+        $cases.encoding("serialize", $name, |bytes, _| {
+            let mut json = Vec::new();
+            $library::serialize(bytes, &mut serde_json::Serializer::new(&mut json)).unwrap();
+            json
+        });
+        let text = [b"\"", &$cases.text[..], b"\""].concat();
+        $cases.add("deserialize", $name, text, 0, |text, _| {
+            let mut json = serde_json::Deserializer::from_slice(text);
+            $library::deserialize::<_, Vec<u8>>(&mut json).unwrap()
+        });
+    }};
 }
+use with_names_of_const_hex;
 
-fn of_proved(input: &Input) -> Vec<Case> {
-    let name = "const-hex-proved";
-    let mut cases = with_names_of_hex!(const_hex_proved, "const-hex-proved", input);
-    for call in ["check", "check_invalid"] {
-        cases.push(input.decoding((call, name), |text, _| {
-            const_hex_proved::check(text).is_ok()
-        }));
-    }
-    cases
+/// The calls with arrays, whose lengths the compiler knows.
+macro_rules! with_arrays {
+    ($library:ident, $name:literal, $cases:ident $size:literal) => {{
+        $cases.encoding("encode_to_slice of an array", $name, |bytes, text| {
+            let (bytes, text): (&[u8; $size], &mut [u8; 2 * $size]) =
+                (bytes.try_into().unwrap(), text.try_into().unwrap());
+            $library::encode_to_slice(bytes, text).unwrap()
+        });
+        $cases.encoding("Buffer::format", $name, |bytes, _| {
+            let mut buffer = $library::Buffer::<$size>::new();
+            black_box(buffer.format(bytes.try_into().unwrap())).len()
+        });
+        $cases.encoding("const_encode", $name, |bytes, _| {
+            $library::const_encode::<$size, false>(bytes.try_into().unwrap())
+        });
+        $cases.decoding("decode_to_array", $name, |text, _| {
+            $library::decode_to_array::<_, $size>(text)
+        });
+        $cases.decoding("const_decode_to_array", $name, |text, _| {
+            $library::const_decode_to_array::<$size>(text)
+        });
+        let text = $cases.text.clone();
+        $cases.add("check of an array", $name, text, 0, |text, _| {
+            let text: &[u8; 2 * $size] = text.try_into().unwrap();
+            $library::check(text).unwrap()
+        });
+        let text = $cases.text.clone();
+        $cases.add("decode_to_slice of arrays", $name, text, $size, |text, bytes| {
+            let (text, bytes): (&[u8; 2 * $size], &mut [u8; $size]) =
+                (text.try_into().unwrap(), bytes.try_into().unwrap());
+            $library::decode_to_slice(text, bytes).unwrap()
+        });
+        let text = $cases.text.clone();
+        let call = "decode_to_slice, wrong length";
+        $cases.add(call, $name, text, $size + 1, |text, bytes| {
+            $library::decode_to_slice(text, bytes).unwrap_err()
+        });
+    }};
 }
+use with_arrays;
 
-fn of_hex(input: &Input) -> Vec<Case> {
-    with_names_of_hex!(hex, "hex", input)
-}
-
-fn of_data_encoding(input: &Input) -> Vec<Case> {
+fn of_data_encoding(cases: &mut Cases) {
     use data_encoding::{HEXLOWER, HEXLOWER_PERMISSIVE};
     let name = "data-encoding";
-    vec![
-        input.encoding(("encode_to_slice", name), |bytes, text| {
-            HEXLOWER.encode_mut(bytes, text)
-        }),
-        input.encoding(("encode", name), |bytes, _| HEXLOWER.encode(bytes)),
-        input.decoding(("decode_to_slice", name), |text, bytes| {
-            HEXLOWER_PERMISSIVE.decode_mut(text, bytes).unwrap()
-        }),
-        input.decoding(("decode", name), |text, _| {
-            HEXLOWER_PERMISSIVE.decode(text).unwrap()
-        }),
-    ]
-}
-
-/// The library for C, as `c/const_hex.h` declares it.
-#[cfg(feature = "c")]
-mod c {
-    use super::Input;
-    use crate::Case;
-    use std::ffi::c_void;
-    use std::ptr::null_mut;
-
-    const NO_NUL: u32 = 4;
-
-    extern "C" {
-        fn const_hex_encode(
-            bytes: *const u8,
-            bytes_length: usize,
-            text: *mut u8,
-            text_size: usize,
-            flags: u32,
-        ) -> bool;
-        fn const_hex_decode_exact(
-            text: *const u8,
-            text_length: usize,
-            bytes: *mut u8,
-            bytes_length: usize,
-            error: *mut c_void,
-        ) -> bool;
-        fn const_hex_check(text: *const u8, text_length: usize, error: *mut c_void) -> bool;
-    }
-
-    pub(super) fn cases(input: &Input) -> Vec<Case> {
-        let name = "library for C";
-        vec![
-            // SAFETY: each pointer comes with its slice's own length, and the error may be null.
-            input.encoding(("encode_to_slice", name), |bytes, text| unsafe {
-                const_hex_encode(
-                    bytes.as_ptr(),
-                    bytes.len(),
-                    text.as_mut_ptr(),
-                    text.len(),
-                    NO_NUL,
-                )
-            }),
-            // SAFETY: as above.
-            input.decoding(("decode_to_slice", name), |text, bytes| unsafe {
-                let (read, written) = (text.as_ptr(), bytes.as_mut_ptr());
-                const_hex_decode_exact(read, text.len(), written, bytes.len(), null_mut())
-            }),
-            // SAFETY: as above.
-            input.decoding(("check", name), |text, _| unsafe {
-                const_hex_check(text.as_ptr(), text.len(), null_mut())
-            }),
-        ]
-    }
+    cases.encoding("encode_to_slice", name, |bytes, text| {
+        HEXLOWER.encode_mut(bytes, text)
+    });
+    cases.encoding("encode", name, |bytes, _| HEXLOWER.encode(bytes));
+    let (text, size) = (cases.text.clone(), cases.bytes.len());
+    cases.add("decode_to_slice", name, text.clone(), size, |text, bytes| {
+        HEXLOWER_PERMISSIVE.decode_mut(text, bytes).unwrap()
+    });
+    cases.add("decode", name, text, 0, |text, _| {
+        HEXLOWER_PERMISSIVE.decode(text).unwrap()
+    });
 }

@@ -1,39 +1,33 @@
 //! Instructions of one call, by valgrind's callgrind, and on AArch64 by QEMU. They do not depend on what else the
 //! machine does.
 //!
-//!     cargo run --release                            # every library
-//!     cargo run --release -- const-hex               # these libraries alone
+//!     cargo run --release                            # every call of every library
+//!     cargo run --release -- const-hex               # of these libraries alone
 //!     MOST=2048 cargo run                            # without optimization, up to so many bytes
+//!     MOST=2048 cargo run -- --builds                # where const-hex takes fewer, in each of its builds
 //!
-//! Each cell is the difference of two runs of this program, by the number of calls between them.
+//! The program runs itself once, with all calls. A cell is what two rounds of calls differ by, by the number of calls.
 
-use const_hex_bench::{cases, CALLS, SIZES};
-use std::collections::BTreeMap;
-use std::process::{Command, ExitCode};
-use std::sync::Mutex;
-use std::{env, io, thread};
-
-/// The calls of the shorter run, and those that the longer run makes beyond them. The numbers for both runs have as
-/// many digits, so that the arguments take the same space.
-fn calls(size: usize) -> (usize, usize) {
-    if size > 2048 || cfg!(target_arch = "aarch64") {
-        (10, 20)
-    } else {
-        (100, 400)
-    }
-}
-
-/// One cell of the table: a call, a library and a size.
-type Cell = (&'static str, &'static str, usize);
+use const_hex_bench::{cases, SIZES};
+use std::io::{self, BufRead, BufReader};
+use std::process::{Command, ExitCode, Stdio};
+use std::{env, fs, process};
 
 fn main() -> ExitCode {
-    let arguments: Vec<String> = env::args().skip(1).collect();
-    if let [marker, call, library, size, count] = &arguments[..] {
-        if marker == "--repeat" {
-            return repeat(call, library, size, count);
+    let mut arguments: Vec<String> = env::args().skip(1).collect();
+    let done = match arguments.first().map(String::as_str) {
+        Some("--repeat") => {
+            repeat_all(&arguments.split_off(1));
+            Ok(())
         }
-    }
-    match print(&arguments) {
+        Some("--builds") => {
+            let has_c = env::var_os("CONST_HEX_LIBRARY_DIR").is_some();
+            let mut builds = BUILDS.into_iter().filter(|build| has_c || build.0 != IN_C);
+            builds.try_for_each(run_build)
+        }
+        _ => print(&arguments),
+    };
+    match done {
         Ok(()) => ExitCode::SUCCESS,
         Err(error) => {
             eprintln!("const-hex-bench: {error}");
@@ -42,122 +36,203 @@ fn main() -> ExitCode {
     }
 }
 
-/// Makes one call so many times: what is counted.
-fn repeat(call: &str, library: &str, size: &str, count: &str) -> ExitCode {
-    let (Ok(size), Ok(count)) = (size.parse(), count.parse()) else {
-        return ExitCode::FAILURE;
-    };
-    let mut cases = cases(size).into_iter();
-    match cases.find(|case| case.call == call && case.library == library) {
-        Some(case) => drop(case.repeat(count)),
-        None => return ExitCode::FAILURE,
-    }
-    ExitCode::SUCCESS
-}
+/// The builds: what each is called, rustc's flags, and cargo's options.
+const BUILDS: [(&str, &str, &str); 8] = [
+    ("default", "", "--release"),
+    ("x86-64-v3", V3, "--release"),
+    ("fat LTO", "", "--profile lto"),
+    ("x86-64-v3, fat LTO", V3, "--profile lto"),
+    ("portable", "", "--release --features force-generic"),
+    ("portable, fat LTO", "", "--profile lto --features force-generic"),
+    ("dev", "", ""),
+    (IN_C, "", "--profile lto --features c"),
+];
+const IN_C: &str = "in C, fat LTO";
+const V3: &str = "-C target-cpu=x86-64-v3";
 
-/// Prints a table for each call, with a row for each size and a column for each library.
-fn print(only: &[String]) -> io::Result<()> {
-    let cells = cells(only);
-    let counted = count_all(&cells)?;
-    for call in CALLS {
-        let mut libraries: Vec<&str> = Vec::new();
-        for (of, library, _) in &cells {
-            if *of == call && !libraries.contains(library) {
-                libraries.push(library);
-            }
-        }
-        println!(
-            "\n| {call} | {} |\n|{}",
-            libraries.join(" | "),
-            "---|".repeat(libraries.len() + 1)
-        );
-        for size in SIZES.into_iter().filter(|size| *size <= most()) {
-            let row = libraries
-                .iter()
-                .map(|library| counted[&(call, *library, size)].to_string());
-            println!("| {size} | {} |", row.collect::<Vec<String>>().join(" | "));
-        }
+/// Counts in a build, and prints the cells in which const-hex takes fewer instructions.
+fn run_build((name, flags, options): (&str, &str, &str)) -> io::Result<()> {
+    let output = Command::new("cargo")
+        .arg("run")
+        .args(options.split_whitespace())
+        .args(["--", "const-hex", "const-hex-proved"])
+        .env("RUSTFLAGS", flags)
+        .stderr(Stdio::inherit())
+        .output()?;
+    let printed = String::from_utf8_lossy(&output.stdout);
+    match printed.split_once(ABOVE) {
+        Some((_, cells)) => println!("\n{ABOVE}, {name}:{}", cells.trim_start_matches(':')),
+        None => return Err(io::Error::other(format!("{name}: {}", output.status))),
     }
     Ok(())
 }
 
+/// Counts the calls of the named libraries, or of all, and prints the tables.
+fn print(only: &[String]) -> io::Result<()> {
+    let cells: Vec<Cell> = cells(only).zip(count(only)?).collect();
+    print_tables(&cells);
+    print_above(&cells);
+    Ok(())
+}
+
+/// A call, a library and a size, and the instructions of one call.
+type Cell = ((String, &'static str, usize), u64);
+
 /// The cells of the named libraries, or of all.
-fn cells(only: &[String]) -> Vec<Cell> {
-    SIZES
-        .into_iter()
-        .filter(|size| *size <= most())
-        .flat_map(|size| {
-            cases(size)
-                .into_iter()
-                .map(move |case| (case.call, case.library, size))
-        })
-        .filter(|(_, library, _)| only.is_empty() || only.iter().any(|name| name == library))
-        .collect()
+fn cells(only: &[String]) -> impl Iterator<Item = (String, &'static str, usize)> + '_ {
+    chosen(only).map(|case| (case.call, case.library, case.size))
 }
 
-/// The greatest number of bytes, if the variable `MOST` says one.
-fn most() -> usize {
+/// The cases of the named libraries, or of all, up to the number of bytes that the variable `MOST` says.
+fn chosen(only: &[String]) -> impl Iterator<Item = const_hex_bench::Case> + '_ {
     let most = env::var("MOST").ok().and_then(|most| most.parse().ok());
-    most.unwrap_or(usize::MAX)
+    let sizes = SIZES.into_iter().filter(move |size| *size <= most.unwrap_or(usize::MAX));
+    sizes
+        .flat_map(cases)
+        .filter(move |case| only.is_empty() || only.iter().any(|name| name == case.library))
 }
 
-/// Counts every cell, by as many threads as there are processors.
-fn count_all(cells: &[Cell]) -> io::Result<BTreeMap<Cell, u64>> {
-    let waiting = Mutex::new(cells.iter());
-    let counted = Mutex::new(BTreeMap::new());
-    let failure = Mutex::new(None);
-    let work = || loop {
-        let next = waiting.lock().unwrap().next();
-        let Some(cell) = next else { return };
-        match count_one(*cell) {
-            Ok(count) => drop(counted.lock().unwrap().insert(*cell, count)),
-            Err(error) => *failure.lock().unwrap() = Some(error),
-        }
-    };
-    thread::scope(|scope| {
-        for _ in 0..thread::available_parallelism().map_or(1, usize::from) {
-            scope.spawn(work);
-        }
-    });
-    match failure.into_inner().unwrap() {
-        Some(error) => Err(error),
-        None => Ok(counted.into_inner().unwrap()),
+/// The calls of the shorter round, and those of the longer one.
+fn calls(size: usize) -> (usize, usize) {
+    if size > 2048 || cfg!(target_arch = "aarch64") {
+        (10, 30)
+    } else {
+        (100, 500)
     }
 }
 
-/// The instructions of one call, the loop around it included.
-fn count_one(cell: Cell) -> io::Result<u64> {
-    let (few, more) = calls(cell.2);
-    let (shorter, longer) = (collected(cell, few)?, collected(cell, few + more)?);
-    Ok((longer - shorter) / more as u64)
+/// Makes all calls, in two rounds each, and marks where a round begins and ends. This is what is counted.
+fn repeat_all(only: &[String]) {
+    for case in chosen(only) {
+        let (few, more) = calls(case.size);
+        // The first calls bind symbols, and let the allocator choose where large blocks stand.
+        case.repeat(few);
+        for count in [few, more] {
+            mark();
+            case.repeat(count);
+            mark();
+        }
+    }
 }
 
-/// The instructions of a whole run with so many calls.
-fn collected((call, library, size): Cell, count: usize) -> io::Result<u64> {
-    // QEMU prints a line for each instruction.
-    let counter = match cfg!(target_arch = "aarch64") {
-        true => "qemu-aarch64 -L /usr/aarch64-linux-gnu -singlestep -d nochain,exec",
-        false => "valgrind --tool=callgrind --callgrind-out-file=/dev/null",
+/// Tells callgrind to write what it has counted, and to count from 0 on.
+#[cfg(target_arch = "x86_64")]
+fn mark() {
+    // The number of the request, which valgrind/callgrind.h calls VG_USERREQ__DUMP_STATS, and five arguments.
+    let request = [0x4354_0000_u64, 0, 0, 0, 0, 0];
+    // SAFETY: without valgrind these instructions change nothing, and with it the result in `rdx`.
+    unsafe {
+        std::arch::asm!(
+            "rol rdi, 3", "rol rdi, 13", "rol rdi, 61", "rol rdi, 51", "xchg rbx, rbx",
+            in("rax") &request, inout("rdx") 0_u64 => _,
+        );
+    }
+}
+
+/// Prints a line among those that QEMU prints for each instruction. It is written at once.
+#[cfg(not(target_arch = "x86_64"))]
+fn mark() {
+    io::Write::write_all(&mut io::stderr(), format!("{MARK}\n").as_bytes()).unwrap();
+}
+
+const MARK: &str = "const-hex-bench: a round begins or ends";
+
+/// Counts each cell, in the order of the cases.
+fn count(only: &[String]) -> io::Result<Vec<u64>> {
+    let rounds = match cfg!(target_arch = "aarch64") {
+        true => counted_by_qemu(only)?,
+        false => counted_by_callgrind(only)?,
     };
-    let mut words = counter.split(' ');
-    let output = Command::new(words.next().unwrap_or_default())
-        .args(words)
-        .arg(env::current_exe()?)
-        .args([
-            "--repeat",
-            call,
-            library,
-            &size.to_string(),
-            &count.to_string(),
-        ])
-        .output()?;
-    let said = String::from_utf8_lossy(&output.stderr);
-    let number = match said.lines().filter(|line| line.starts_with("Trace")).count() {
-        0 => said
-            .lines()
-            .find_map(|line| line.split("Collected : ").nth(1))
-            .and_then(|number| number.trim().parse().ok()),
-        lines => Some(lines as u64),
-    };
-    number.ok_or_else(|| io::Error::other(format!("{counter}: {said}")))
+    // Of each case, what was counted before its first round, in it, between both, and in its second round.
+    let cells = rounds.chunks_exact(4).zip(chosen(only)).map(|(counted, case)| {
+        let (few, more) = calls(case.size);
+        counted[3].saturating_sub(counted[1]) / (more - few) as u64
+    });
+    Ok(cells.collect())
+}
+
+/// Runs this program under another, with all calls.
+fn counted_program(command: &str, only: &[String]) -> io::Result<Command> {
+    let mut words = command.split(' ');
+    let mut counted = Command::new(words.next().unwrap_or_default());
+    counted.args(words).arg(env::current_exe()?).arg("--repeat").args(only);
+    Ok(counted)
+}
+
+/// What callgrind counted up to each mark.
+fn counted_by_callgrind(only: &[String]) -> io::Result<Vec<u64>> {
+    let path = env::temp_dir().join(format!("const-hex-bench.{}", process::id()));
+    let command = format!("valgrind -q --tool=callgrind --combine-dumps=yes --callgrind-out-file={}", path.display());
+    let status = counted_program(&command, only)?.status()?;
+    let dumps = fs::read_to_string(&path)?;
+    fs::remove_file(&path)?;
+    if !status.success() {
+        return Err(io::Error::other(format!("{command}: {status}")));
+    }
+    let totals = dumps.lines().filter_map(|line| line.strip_prefix("totals: "));
+    Ok(totals.filter_map(|total| total.parse().ok()).collect())
+}
+
+/// The lines that QEMU printed up to each mark, one for each instruction.
+fn counted_by_qemu(only: &[String]) -> io::Result<Vec<u64>> {
+    let command = "qemu-aarch64 -L /usr/aarch64-linux-gnu -singlestep -d nochain,exec";
+    let mut child = counted_program(command, only)?.stderr(Stdio::piped()).spawn()?;
+    let (mut rounds, mut count) = (Vec::new(), 0);
+    for line in BufReader::new(child.stderr.take().unwrap()).lines() {
+        let line = line?;
+        if line == MARK {
+            rounds.push(count);
+            count = 0;
+        } else if line.starts_with("Trace") {
+            count += 1;
+        }
+    }
+    child.wait()?;
+    Ok(rounds)
+}
+
+/// Prints a table for each call, with a row for each size and a column for each library.
+fn print_tables(cells: &[Cell]) {
+    let mut calls: Vec<&String> = Vec::new();
+    for ((call, _, _), _) in cells {
+        if !calls.contains(&call) {
+            calls.push(call);
+        }
+    }
+    for call in calls {
+        let of_call = cells.iter().filter(|((of, _, _), _)| of == call);
+        let mut libraries: Vec<&str> = Vec::new();
+        for ((_, library, _), _) in of_call.clone() {
+            if !libraries.contains(library) {
+                libraries.push(library);
+            }
+        }
+        println!("\n| {call} | {} |\n|{}", libraries.join(" | "), "---|".repeat(libraries.len() + 1));
+        for size in SIZES {
+            let row: Vec<String> = of_call
+                .clone()
+                .filter(|((_, _, of), _)| *of == size)
+                .map(|(_, count)| count.to_string())
+                .collect();
+            if !row.is_empty() {
+                println!("| {size} | {} |", row.join(" | "));
+            }
+        }
+    }
+}
+
+const ABOVE: &str = "More instructions than const-hex";
+
+/// Prints each cell in which const-hex takes fewer instructions than const-hex-proved.
+fn print_above(cells: &[Cell]) {
+    println!("\n{ABOVE}:\n");
+    for ((call, library, size), ours) in cells {
+        let theirs = cells.iter().find(|((of, by, at), _)| {
+            *library == "const-hex-proved" && *by == "const-hex" && of == call && at == size
+        });
+        if let Some((_, theirs)) = theirs.filter(|(_, theirs)| ours > theirs) {
+            let times = *ours as f64 / *theirs as f64;
+            println!("{times:.2}: {call}, {size} bytes, {ours} beside {theirs}");
+        }
+    }
 }

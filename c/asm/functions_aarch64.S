@@ -32,20 +32,22 @@
 	mov x1, x8
 	bl SYMBOL(const_hex_kernel_check)
 	tbz w0, #0, 5f
-	mov w0, #0x1
+	mov w8, #0x1
 	ldp x20, x19, [sp, #32]
+	mov w0, w8
 	ldr x21, [sp, #16]
 	ldp x29, x30, [sp], #48
 	ret
 3:
-	mov w8, wzr
-	mov x1, xzr
-	mov w9, #0x1
+	mov w9, wzr
+	mov x0, xzr
+	mov w10, #0x1
 4:
-	mov w0, wzr
-	stp w9, w8, [x2]
-	str x1, [x2, #8]
+	mov w8, wzr
+	stp w10, w9, [x2]
+	str x0, [x2, #8]
 	ldp x20, x19, [sp, #32]
+	mov w0, w8
 	ldr x21, [sp, #16]
 	ldp x29, x30, [sp], #48
 	ret
@@ -53,8 +55,14 @@
 	mov x0, x19
 	mov x1, x20
 	bl const_hex_body_locate_invalid
-	mov w9, #0x3
-	and w8, w0, #0xff
+	cmp x0, x20
+	b.cs 6f
+	ldrb w9, [x19, x0]
+	b 7f
+6:
+	mov w9, wzr
+7:
+	mov w10, #0x3
 	mov x2, x21
 	b 4b
 	end SYMBOL(const_hex_check_nonnull)
@@ -109,25 +117,27 @@
 	mov x21, x4
 	bl SYMBOL(const_hex_kernel_read)
 	tbz w0, #0, 6f
-	mov w0, #0x1
+	mov w8, #0x1
 	ldp x20, x19, [sp, #32]
+	mov w0, w8
 	ldr x21, [sp, #16]
 	ldp x29, x30, [sp], #48
 	ret
 3:
-	mov w8, wzr
-	mov x1, xzr
-	mov w9, #0x1
+	mov w9, wzr
+	mov x0, xzr
+	mov w10, #0x1
 	b 5f
 4:
-	mov w8, wzr
-	mov x1, xzr
-	mov w9, #0x2
+	mov w9, wzr
+	mov x0, xzr
+	mov w10, #0x2
 5:
-	mov w0, wzr
-	stp w9, w8, [x4]
-	str x1, [x4, #8]
+	mov w8, wzr
+	stp w10, w9, [x4]
+	str x0, [x4, #8]
 	ldp x20, x19, [sp, #32]
+	mov w0, w8
 	ldr x21, [sp, #16]
 	ldp x29, x30, [sp], #48
 	ret
@@ -135,8 +145,14 @@
 	mov x0, x19
 	mov x1, x20
 	bl const_hex_body_locate_invalid
-	mov w9, #0x3
-	and w8, w0, #0xff
+	cmp x0, x20
+	b.cs 7f
+	ldrb w9, [x19, x0]
+	b 8f
+7:
+	mov w9, wzr
+8:
+	mov w10, #0x3
 	mov x4, x21
 	b 5b
 	end SYMBOL(const_hex_decode_exact_nonnull)
@@ -173,48 +189,56 @@
 	lsr x20, x10, #1
 	cmp x3, x20
 	b.cs 5f
-	mov w8, wzr
-	mov x1, xzr
+	mov w9, wzr
+	mov x0, xzr
 	str xzr, [x4]
-	mov w9, #0x2
+	mov w10, #0x2
 	b 4f
 3:
-	mov w8, wzr
-	mov x1, xzr
+	mov w9, wzr
+	mov x0, xzr
 	str xzr, [x4]
-	mov w9, #0x1
+	mov w10, #0x1
 4:
-	mov w0, wzr
-	stp w9, w8, [x5]
-	str x1, [x5, #8]
+	mov w8, wzr
+	stp w10, w9, [x5]
+	str x0, [x5, #8]
 	ldp x20, x19, [sp, #48]
-	ldr x23, [sp, #16]
+	mov w0, w8
 	ldp x22, x21, [sp, #32]
+	ldr x23, [sp, #16]
 	ldp x29, x30, [sp], #64
 	ret
 5:
-	mov x21, x1
+	mov x23, x1
 	add x1, x2, x8
 	mov x2, x20
-	mov x23, x4
-	mov x22, x5
+	mov x22, x4
+	mov x21, x5
 	bl SYMBOL(const_hex_kernel_read)
-	cbz w0, 6f
-	str x20, [x23]
-	mov w0, #0x1
+	tbz w0, #0, 6f
+	str x20, [x22]
+	mov w8, #0x1
 	ldp x20, x19, [sp, #48]
-	ldr x23, [sp, #16]
+	mov w0, w8
 	ldp x22, x21, [sp, #32]
+	ldr x23, [sp, #16]
 	ldp x29, x30, [sp], #64
 	ret
 6:
 	mov x0, x19
-	mov x1, x21
+	mov x1, x23
 	bl const_hex_body_locate_invalid
-	and w8, w0, #0xff
-	mov w9, #0x3
-	mov x5, x22
-	str xzr, [x23]
+	cmp x0, x23
+	b.cs 7f
+	ldrb w9, [x19, x0]
+	b 8f
+7:
+	mov w9, wzr
+8:
+	mov w10, #0x3
+	mov x5, x21
+	str xzr, [x22]
 	b 4b
 	end SYMBOL(const_hex_decode_nonnull)
 
@@ -718,97 +742,82 @@
 /* const_hex::codec::body::locate_invalid */
 	function const_hex_body_locate_invalid
 	cbz x1, 2f
-	ldrb w8, [x0]
-	adrp_label x10, const_hex_constant_7
-	add_label x10, x10, const_hex_constant_7
-	ldrb w9, [x10, x8]
-	cmp w9, #0xff
-	b.eq 3f
+	ldrb w9, [x0]
+	adrp_label x8, const_hex_constant_7
+	add_label x8, x8, const_hex_constant_7
+	ldrb w10, [x8, x9]
+	cmp w10, #0xff
+	b.eq 4f
 	cmp x1, #0x1
-	b.ne 4f
-	mov x11, xzr
+	b.ne 5f
+	mov x10, xzr
 	mov w9, #0x1
-	b 9f
+	b 13f
 2:
-	mov w8, wzr
-	sub x9, x1, xzr
-	mov w0, w8
-	add x1, x9, xzr
-	ret
+	mov x9, xzr
+	mov x10, xzr
 3:
-	mov x1, xzr
-	mov w0, w8
+	sub x8, x1, x9
+	add x0, x8, x10
 	ret
 4:
-	ldrb w9, [x0, #1]
-	orr w8, w8, w9, lsl #8
-	mov w9, #0x7830
-	orr w8, w8, #0x2000
-	cmp w8, w9
-	b.ne 5f
+	mov x0, xzr
+	ret
+5:
+	ldrb w10, [x0, #1]
+	orr w9, w9, w10, lsl #8
+	mov w10, #0x7830
+	orr w9, w9, #0x2000
+	cmp w9, w10
+	b.ne 6f
 	sub x9, x1, #0x2
 	add x0, x0, #0x2
-	subs x8, x9, #0x4
-	mov x11, xzr
-	csel x8, xzr, x8, cc
-	b.cs 6f
-	b 8f
-5:
-	mov x9, x1
-	subs x8, x1, #0x4
-	mov x11, xzr
-	csel x8, xzr, x8, cc
-	b.cc 8f
+	subs x11, x9, #0x4
+	mov x10, xzr
+	csel x11, xzr, x11, cc
+	b.cs 7f
+	b 12f
 6:
-	mov x11, xzr
+	mov x9, x1
+	subs x11, x1, #0x4
+	mov x10, xzr
+	csel x11, xzr, x11, cc
+	b.cc 12f
 7:
-	add x12, x0, x11
+	mov x10, xzr
+8:
+	add x12, x0, x10
 	ldrb w13, [x12]
 	ldrb w14, [x12, #1]
-	ldrb w13, [x10, x13]
-	ldrb w14, [x10, x14]
+	ldrb w13, [x8, x13]
+	ldrb w14, [x8, x14]
 	orr w13, w14, w13
-	tbnz w13, #7, 8f
+	tbnz w13, #7, 12f
 	ldrb w13, [x12, #2]
 	ldrb w12, [x12, #3]
-	ldrb w13, [x10, x13]
-	ldrb w12, [x10, x12]
+	ldrb w13, [x8, x13]
+	ldrb w12, [x8, x12]
 	orr w12, w12, w13
-	tbnz w12, #7, 13f
-	add x11, x11, #0x4
-	cmp x11, x8
-	b.ls 7b
-8:
-	cmp x11, x9
-	b.cs 14f
+	tbnz w12, #7, 9f
+	add x10, x10, #0x4
+	cmp x10, x11
+	b.ls 8b
+	b 12f
 9:
-	ldrb w8, [x0, x11]
-	ldrb w12, [x10, x8]
-	cmp w12, #0xff
-	b.eq 12f
-	add x11, x11, #0x1
-	cmp x9, x11
-	b.ne 9b
-	mov w8, wzr
-	mov x11, x9
-	sub x9, x1, x9
-	mov w0, w8
-	add x1, x9, x11
-	ret
+	add x10, x10, #0x2
 12:
-	sub x9, x1, x9
-	mov w0, w8
-	add x1, x9, x11
-	ret
+	cmp x10, x9
+	b.cs 3b
 13:
-	add x11, x11, #0x2
-	cmp x11, x9
-	b.cc 9b
-14:
-	mov w8, wzr
-	sub x9, x1, x9
-	mov w0, w8
-	add x1, x9, x11
+	ldrb w11, [x0, x10]
+	ldrb w11, [x8, x11]
+	cmp w11, #0xff
+	b.eq 3b
+	add x10, x10, #0x1
+	cmp x9, x10
+	b.ne 13b
+	sub x8, x1, x9
+	add x0, x8, x9
 	ret
 	end const_hex_body_locate_invalid
 

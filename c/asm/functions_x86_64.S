@@ -9,13 +9,16 @@
 	function SYMBOL(const_hex_check_nonnull)
 	push   r15
 	push   r14
+	push   r12
 	push   rbx
+	push   rax
 	xor    eax,eax
 	test   rdi,rdi
 	sete   cl
+	xor    r15d,r15d
 	test   sil,0x1
-	jne    3f
-	mov    r15,rdx
+	jne    4f
+	mov    r12,rdx
 	mov    al,cl
 	shl    eax,0xc
 	add    rdi,rax
@@ -32,41 +35,40 @@
 	lea    rax,[rsi-0x2]
 	lea    rcx,[rdi+0x2]
 2:
-	mov    r14,rdi
-	mov    rbx,rsi
+	mov    r14,rsi
+	mov    rbx,rdi
 	mov    rdi,rcx
 	mov    rsi,rax
 	call   SYMBOL(const_hex_kernel_check)
 	mov    ecx,eax
 	mov    al,0x1
 	test   cl,cl
-	je     5f
-	pop    rbx
-	pop    r14
-	pop    r15
-	ret
-3:
-	xor    eax,eax
-	mov    esi,0x1
-	xor    ecx,ecx
-4:
-	mov    DWORD PTR [rdx],esi
-	mov    DWORD PTR [rdx+0x4],eax
-	mov    QWORD PTR [rdx+0x8],rcx
-	xor    eax,eax
-	pop    rbx
-	pop    r14
-	pop    r15
-	ret
-5:
-	mov    rdi,r14
-	mov    rsi,rbx
+	jne    6f
+	mov    rdi,rbx
+	mov    rsi,r14
 	call   const_hex_body_locate_invalid
-	mov    rcx,rdx
-	movzx  eax,al
-	mov    esi,0x3
-	mov    rdx,r15
-	jmp    4b
+	mov    ecx,0x3
+	cmp    rax,r14
+	jae    3f
+	movzx  r15d,BYTE PTR [rbx+rax*1]
+3:
+	mov    rdx,r12
+	jmp    5f
+4:
+	mov    ecx,0x1
+	xor    eax,eax
+5:
+	mov    DWORD PTR [rdx],ecx
+	mov    DWORD PTR [rdx+0x4],r15d
+	mov    QWORD PTR [rdx+0x8],rax
+	xor    eax,eax
+6:
+	add    rsp,0x8
+	pop    rbx
+	pop    r12
+	pop    r14
+	pop    r15
+	ret
 	end SYMBOL(const_hex_check_nonnull)
 
 /* const_hex_c::const_hex_check_raw */
@@ -88,7 +90,9 @@
 	function SYMBOL(const_hex_decode_exact_nonnull)
 	push   r15
 	push   r14
+	push   r12
 	push   rbx
+	push   rax
 	xor    eax,eax
 	test   rdi,rdi
 	sete   r11b
@@ -96,7 +100,7 @@
 	test   rdx,rdx
 	sete   r10b
 	test   sil,0x1
-	jne    3f
+	jne    4f
 	mov    al,r11b
 	shl    eax,0xc
 	add    rdi,rax
@@ -114,11 +118,12 @@
 	lea    rax,[rdi+0x2]
 2:
 	shr    r11,1
+	xor    r15d,r15d
 	cmp    r11,rcx
-	jne    4f
-	mov    r14,rdi
-	mov    rbx,rsi
-	mov    r15,r8
+	jne    5f
+	mov    r14,rsi
+	mov    rbx,rdi
+	mov    r12,r8
 	mov    r9b,r10b
 	shl    r9d,0xc
 	add    rdx,r9
@@ -129,37 +134,37 @@
 	mov    ecx,eax
 	mov    al,0x1
 	test   cl,cl
-	je     7f
-	pop    rbx
-	pop    r14
-	pop    r15
-	ret
-3:
-	xor    eax,eax
-	mov    ecx,0x1
-	jmp    5f
-4:
-	xor    eax,eax
-	mov    ecx,0x2
-5:
-	xor    edx,edx
-6:
-	mov    DWORD PTR [r8],ecx
-	mov    DWORD PTR [r8+0x4],eax
-	mov    QWORD PTR [r8+0x8],rdx
-	xor    eax,eax
-	pop    rbx
-	pop    r14
-	pop    r15
-	ret
-7:
-	mov    rdi,r14
-	mov    rsi,rbx
+	jne    8f
+	mov    rdi,rbx
+	mov    rsi,r14
 	call   const_hex_body_locate_invalid
-	movzx  eax,al
 	mov    ecx,0x3
-	mov    r8,r15
-	jmp    6b
+	cmp    rax,r14
+	jae    3f
+	movzx  r15d,BYTE PTR [rbx+rax*1]
+3:
+	mov    r8,r12
+	jmp    7f
+4:
+	xor    r15d,r15d
+	mov    ecx,0x1
+	jmp    6f
+5:
+	mov    ecx,0x2
+6:
+	xor    eax,eax
+7:
+	mov    DWORD PTR [r8],ecx
+	mov    DWORD PTR [r8+0x4],r15d
+	mov    QWORD PTR [r8+0x8],rax
+	xor    eax,eax
+8:
+	add    rsp,0x8
+	pop    rbx
+	pop    r12
+	pop    r14
+	pop    r15
+	ret
 	end SYMBOL(const_hex_decode_exact_nonnull)
 
 /* const_hex_c::const_hex_decode_nonnull */
@@ -200,26 +205,26 @@
 	cmp    rcx,rbx
 	jae    6f
 	mov    QWORD PTR [r8],0x0
-	xor    eax,eax
-	mov    ecx,0x2
+	xor    ecx,ecx
+	mov    edx,0x2
 	jmp    4f
 3:
 	mov    QWORD PTR [r8],0x0
-	xor    eax,eax
-	mov    ecx,0x1
+	xor    ecx,ecx
+	mov    edx,0x1
 4:
-	xor    edx,edx
+	xor    eax,eax
 5:
-	mov    DWORD PTR [r9],ecx
-	mov    DWORD PTR [r9+0x4],eax
-	mov    QWORD PTR [r9+0x8],rdx
+	mov    DWORD PTR [r9],edx
+	mov    DWORD PTR [r9+0x4],ecx
+	mov    QWORD PTR [r9+0x8],rax
 	xor    eax,eax
 	jmp    7f
 6:
-	mov    r15,rdi
-	mov    r14,rsi
-	mov    r13,r8
-	mov    r12,r9
+	mov    r13,rsi
+	mov    r14,rdi
+	mov    r12,r8
+	mov    r15,r9
 	mov    r10b,r11b
 	shl    r10d,0xc
 	add    rdx,r10
@@ -229,7 +234,7 @@
 	call   SYMBOL(const_hex_kernel_read)
 	test   al,al
 	je     8f
-	mov    QWORD PTR [r13+0x0],rbx
+	mov    QWORD PTR [r12],rbx
 	mov    al,0x1
 7:
 	add    rsp,0x8
@@ -241,13 +246,20 @@
 	pop    rbp
 	ret
 8:
-	mov    rdi,r15
-	mov    rsi,r14
+	mov    rdi,r14
+	mov    rsi,r13
 	call   const_hex_body_locate_invalid
-	movzx  eax,al
-	mov    QWORD PTR [r13+0x0],0x0
-	mov    ecx,0x3
-	mov    r9,r12
+	cmp    rax,r13
+	jae    9f
+	movzx  ecx,BYTE PTR [r14+rax*1]
+	mov    QWORD PTR [r12],0x0
+	jmp    12f
+9:
+	mov    QWORD PTR [r12],0x0
+	xor    ecx,ecx
+12:
+	mov    edx,0x3
+	mov    r9,r15
 	jmp    5b
 	end SYMBOL(const_hex_decode_nonnull)
 
@@ -815,89 +827,81 @@
 
 /* const_hex::codec::body::locate_invalid */
 	function const_hex_body_locate_invalid
-	mov    rdx,rsi
+	mov    rax,rsi
 	test   rsi,rsi
 	je     2f
-	movzx  eax,BYTE PTR [rdi]
-	lea    rsi,[rip + const_hex_constant_8]
-	cmp    BYTE PTR [rax+rsi*1],0xff
-	je     3f
-	cmp    rdx,0x1
-	jne    4f
+	movzx  ecx,BYTE PTR [rdi]
+	lea    rdx,[rip + const_hex_constant_8]
+	cmp    BYTE PTR [rcx+rdx*1],0xff
+	je     4f
+	cmp    rax,0x1
+	jne    5f
 	mov    ecx,0x1
-	xor    r8d,r8d
-	jmp    9f
+	xor    esi,esi
+	jmp    13f
 2:
 	xor    ecx,ecx
-	xor    r8d,r8d
-	xor    eax,eax
-	sub    rdx,rcx
-	add    rdx,r8
-	ret
+	xor    esi,esi
 3:
-	xor    edx,edx
+	sub    rax,rcx
+	add    rax,rsi
 	ret
 4:
-	movzx  eax,WORD PTR [rdi]
-	or     eax,0x2000
-	cmp    eax,0x7830
-	jne    5f
-	lea    rcx,[rdx-0x2]
-	add    rdi,0x2
-	jmp    6f
-5:
-	mov    rcx,rdx
-6:
-	xor    r8d,r8d
-	mov    rax,rcx
-	sub    rax,0x4
-	cmovb  rax,r8
-	jb     8f
-	mov    r8d,0x2
-	.byte 0x66, 0x90  /* xchg   ax,ax */
-7:
-	movzx  r9d,BYTE PTR [rdi+r8*1-0x2]
-	movzx  r10d,BYTE PTR [rdi+r8*1-0x1]
-	movzx  r10d,BYTE PTR [r10+rsi*1]
-	or     r10b,BYTE PTR [r9+rsi*1]
-	js     13f
-	movzx  r9d,BYTE PTR [rdi+r8*1]
-	movzx  r10d,BYTE PTR [rdi+r8*1+0x1]
-	movzx  r10d,BYTE PTR [r10+rsi*1]
-	or     r10b,BYTE PTR [r9+rsi*1]
-	js     8f
-	lea    r9,[r8+0x4]
-	add    r8,0x2
-	cmp    r8,rax
-	mov    r8,r9
-	jbe    7b
-	add    r9,0xfffffffffffffffe
-	mov    r8,r9
-8:
-	cmp    r8,rcx
-	jae    14f
-	.byte 0xf, 0x1f, 0x80, 0x0, 0x0, 0x0, 0x0  /* nop    DWORD PTR [rax+0x0] */
-9:
-	movzx  eax,BYTE PTR [rdi+r8*1]
-	cmp    BYTE PTR [rax+rsi*1],0xff
-	je     12f
-	inc    r8
-	cmp    rcx,r8
-	jne    9b
 	xor    eax,eax
-	mov    r8,rcx
-12:
-	sub    rdx,rcx
-	add    rdx,r8
 	ret
+5:
+	movzx  ecx,WORD PTR [rdi]
+	or     ecx,0x2000
+	cmp    ecx,0x7830
+	jne    6f
+	lea    rcx,[rax-0x2]
+	add    rdi,0x2
+	jmp    7f
+6:
+	mov    rcx,rax
+7:
+	xor    esi,esi
+	mov    r8,rcx
+	sub    r8,0x4
+	cmovb  r8,rsi
+	jb     12f
+	mov    esi,0x2
+	.byte 0x66, 0xf, 0x1f, 0x44, 0x0, 0x0  /* nop    WORD PTR [rax+rax*1+0x0] */
+8:
+	movzx  r9d,BYTE PTR [rdi+rsi*1-0x2]
+	movzx  r10d,BYTE PTR [rdi+rsi*1-0x1]
+	movzx  r10d,BYTE PTR [r10+rdx*1]
+	or     r10b,BYTE PTR [r9+rdx*1]
+	js     9f
+	movzx  r9d,BYTE PTR [rdi+rsi*1]
+	movzx  r10d,BYTE PTR [rdi+rsi*1+0x1]
+	movzx  r10d,BYTE PTR [r10+rdx*1]
+	or     r10b,BYTE PTR [r9+rdx*1]
+	js     12f
+	lea    r9,[rsi+0x4]
+	add    rsi,0x2
+	cmp    rsi,r8
+	mov    rsi,r9
+	jbe    8b
+	add    r9,0xfffffffffffffffe
+	mov    rsi,r9
+	jmp    12f
+9:
+	add    rsi,0xfffffffffffffffe
+12:
+	cmp    rsi,rcx
+	jae    3b
+	.byte 0x66, 0x66, 0x66, 0x66, 0x2e, 0xf, 0x1f, 0x84, 0x0, 0x0, 0x0, 0x0, 0x0  /* data16 data16 data16 cs nop WORD PTR [rax+rax*1+0x0] */
 13:
-	add    r8,0xfffffffffffffffe
-	cmp    r8,rcx
-	jb     9b
-14:
-	xor    eax,eax
-	sub    rdx,rcx
-	add    rdx,r8
+	movzx  r8d,BYTE PTR [rdi+rsi*1]
+	cmp    BYTE PTR [r8+rdx*1],0xff
+	je     3b
+	inc    rsi
+	cmp    rcx,rsi
+	jne    13b
+	mov    rsi,rcx
+	sub    rax,rcx
+	add    rax,rsi
 	ret
 	end const_hex_body_locate_invalid
 

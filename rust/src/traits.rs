@@ -200,27 +200,27 @@ fn character(digit: &u8) -> char {
 /// How many bytes are encoded at a time.
 const PART: usize = 32;
 
-/// The digits of bytes: those of the text from `at` to `end`, and those of `bytes`.
+/// The digits of bytes: those of the text from `at` on, and those of `bytes`.
 struct Characters<'a, const UPPER: bool> {
     bytes: &'a [u8],
     text: [u8; 2 * PART],
     at: usize,
-    end: usize,
 }
 
 impl<'a, const UPPER: bool> Characters<'a, UPPER> {
     fn new(bytes: &'a [u8]) -> Self {
-        let text = [0; 2 * PART];
-        Characters { bytes, text, at: 0, end: 0 }
+        let (text, at) = ([0; 2 * PART], 2 * PART);
+        Characters { bytes, text, at }
     }
 
-    /// Encodes the next bytes, if there are more.
+    /// Encodes the next bytes, and returns whether there were some. Their digits are the last ones of the text.
     #[inline]
-    fn encode(&mut self) {
+    fn encode(&mut self) -> bool {
         let (part, rest) = self.bytes.split_at(self.bytes.len().min(PART));
-        let end = 2 * part.len();
-        FixedKernel::fill(part, UPPER, &mut self.text[..end]);
-        (self.bytes, self.at, self.end) = (rest, 0, end);
+        self.bytes = rest;
+        self.at = 2 * PART - 2 * part.len();
+        FixedKernel::fill(part, UPPER, &mut self.text[self.at..]);
+        !part.is_empty()
     }
 }
 
@@ -229,40 +229,33 @@ impl<const UPPER: bool> Iterator for Characters<'_, UPPER> {
 
     #[inline]
     fn next(&mut self) -> Option<char> {
-        if self.at == self.end {
-            self.encode();
-            if self.end == 0 {
-                return None;
-            }
+        if self.at == self.text.len() && !self.encode() {
+            return None;
         }
-        // It is below `end`. Without the remainder this would be tested.
-        let digit = &self.text[self.at % (2 * PART)];
+        let digit = self.text.get(self.at)?;
         self.at += 1;
         Some(character(digit))
     }
 
     #[inline]
     fn size_hint(&self) -> (usize, Option<usize>) {
-        let count = self.end - self.at + 2 * self.bytes.len();
+        let count = self.text.len() - self.at + 2 * self.bytes.len();
         (count, Some(count))
     }
 
     #[inline]
     fn fold<A, F: FnMut(A, char) -> A>(mut self, mut result: A, mut f: F) -> A {
-        loop {
-            let mut text = &self.text[self.at..self.end];
+        for digit in &self.text[self.at..] {
+            result = f(result, character(digit));
+        }
+        while self.encode() {
+            let mut text = &self.text[self.at..];
             while let [first, second, rest @ ..] = text {
                 result = f(result, character(first));
                 result = f(result, character(second));
                 text = rest;
             }
-            if let [last] = text {
-                result = f(result, character(last));
-            }
-            self.encode();
-            if self.end == 0 {
-                return result;
-            }
         }
+        result
     }
 }

@@ -62,26 +62,28 @@ pub(crate) fn find_invalid_character(text: &[u8]) -> FromHexError
     requires bad { AllDigits (body_of text.now) → ⊥ }
     ensures { Reads text.now (Err result) }
 {
-    let (byte, index) = locate_invalid(text);
+    let index = locate_invalid(text);
+    let byte = if index < text.len() { text[index] } else { 0 };
     invalid_character(byte, index)
 }
 
-/// The first byte after the prefix that is not a digit, and its position in the whole text.
+/// The position in the text of the first byte after the prefix that is not a digit. If there is none,
+/// the length of the text.
 // A first byte that is not a digit is asked for before anything else: no prefix begins with it. The
-// result is no error: that would not fit into two registers.
+// result is no error: that would not fit into a register.
 #[cold]
 #[inline(never)]
-fn locate_invalid(text: &[u8]) -> (u8, usize)
-    ensures { (AllDigits (body_of text.now) → ⊥) → NamesFirstBad text.now result.0 result.1 }
+fn locate_invalid(text: &[u8]) -> usize
+    ensures { (AllDigits (body_of text.now) → ⊥) → NamesFirstBad text.now (slice_index text.now result) result }
 {
     if let [first, ..] = text {
         if value_at(*first) == NIL {
-            return (*first, 0);
+            return 0;
         }
     }
     let body = strip_prefix(text);
-    let (byte, index) = find_first_bad(body);
-    (byte, index + (text.len() - body.len()))
+    let (_, index) = find_first_bad(body);
+    index + (text.len() - body.len())
 }
 
 /// The error that names a byte and its position.

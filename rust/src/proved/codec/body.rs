@@ -45,24 +45,30 @@ pub(crate) const fn are_digits(first: u8, second: u8) -> bool {
 /// whole text. The text must have such a byte, and an even length.
 #[inline(always)]
 pub(crate) const fn find_invalid_character(text: &[u8]) -> FromHexError {
-    let (byte, index) = locate_invalid(text);
+    let index = locate_invalid(text);
+    let byte = if index < text.len() {
+        text[index]
+    } else {
+        0
+    };
     invalid_character(byte, index)
 }
 
-/// The first byte after the prefix that is not a digit, and its position in the whole text.
+/// The position in the text of the first byte after the prefix that is not a digit. If there is none,
+/// the length of the text.
 // A first byte that is not a digit is asked for before anything else: no prefix begins with it. The
-// result is no error: that would not fit into two registers.
+// result is no error: that would not fit into a register.
 #[cold]
 #[inline(never)]
-const fn locate_invalid(text: &[u8]) -> (u8, usize) {
+const fn locate_invalid(text: &[u8]) -> usize {
     if let [first, ..] = text {
         if value_at(*first) == NIL {
-            return (*first, 0);
+            return 0;
         }
     }
     let body = strip_prefix(text);
-    let (byte, index) = find_first_bad(body);
-    (byte, index + (text.len() - body.len()))
+    let (_, index) = find_first_bad(body);
+    index + (text.len() - body.len())
 }
 
 /// The error that names a byte and its position.

@@ -1,4 +1,4 @@
-use Rattle.std.proofs.Common.{◌≡◌, ◌∙◌, ◌≤◌, ℕ, List, length, get_or, refl, sym, arith}
+use Rattle.std.proofs.Common.{◌≡◌, ◌∙◌, ◌≤◌, ◌-◌, ◌+◌, ◌==◌, ◌&&◌, ◌||◌, ℕ, List, [], ◌∷◌, Bool, true, false, length, get_or, refl, sym, arith}
 use Rattle.std.proofs.lemmas.Bool.Decides.{nat_tests}
 use Rattle.std.proofs.lemmas.List.Elements.{All-nil}
 use Rattle.const_hex_arch.specs.Texts.{FirstBad, IsDigit, value_or_nil, hex_value}
@@ -17,6 +17,10 @@ first t long e = record {
   here = value_not_found (get_or t 0 0) _ refl e;
 }
 
+-- where a byte of the body stands in the text
+in_text : (t : List ℕ) (i : ℕ) → get_or t (i + (length t - length (body_of t))) 0 ≡ get_or (body_of t) i 0
+in_text t i = grind (arith, nat_tests)
+
 pub returns-then-value_at : goal.returns-then-value_at
 returns-then-value_at c = λ _.
     let t = c.args.text.now in
@@ -25,6 +29,6 @@ returns-then-value_at c = λ _.
 
 pub returns : goal.returns
 returns c = λ bad.
-    let found = c.find_first_bad-byte in
+    let found = c.find_first_bad-index in
     let body = c.strip_prefix-body.ensures.body in
-    rw (← body) (found.result.1, found.ensures.bad (rw body bad), found.ensures.byte, refl)
+    rw (← body) (found.result.1, found.ensures.bad (rw body bad), rw (← body) at (in_text c.args.text.now found.result.1), refl)

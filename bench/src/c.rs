@@ -1,0 +1,197 @@
+//! The library for C, as `c/const_hex.h` declares it, and const-hex behind functions of the same form.
+
+use crate::libraries::Cases;
+use std::hint::black_box;
+use std::ptr::null_mut;
+
+/// `struct const_hex_error`
+#[repr(C)]
+#[derive(Clone, Copy, Default)]
+struct Error {
+    kind: u32,
+    byte: u32,
+    index: usize,
+}
+
+/// Functions for C of const-hex, with the conditions of those in `c/const_hex.h`.
+mod theirs {
+    use super::Error;
+    use const_hex::FromHexError::{self, *};
+    use std::slice::{from_raw_parts, from_raw_parts_mut};
+
+    /// The bytes, of which a pointer may be null if there are none.
+    unsafe fn bytes<'a>(first: *const u8, length: usize) -> &'a [u8] {
+        match first.is_null() {
+            true => &[],
+            false => from_raw_parts(first, length),
+        }
+    }
+
+    /// The space, of which the same is true.
+    unsafe fn space<'a>(first: *mut u8, size: usize) -> &'a mut [u8] {
+        match first.is_null() {
+            true => &mut [],
+            false => from_raw_parts_mut(first, size),
+        }
+    }
+
+    /// Stores the error, unless the pointer is null, and returns whether there is none.
+    unsafe fn told<T>(result: Result<T, FromHexError>, error: *mut Error) -> bool {
+        let Err(reason) = result else { return true };
+        if let Some(error) = error.as_mut() {
+            *error = match reason {
+                OddLength => Error { kind: 1, byte: 0, index: 0 },
+                InvalidStringLength => Error { kind: 2, byte: 0, index: 0 },
+                InvalidHexCharacter { c, index } => Error { kind: 3, byte: c.into(), index },
+            };
+        }
+        false
+    }
+
+    #[inline(never)]
+    pub unsafe extern "C" fn encode(first: *const u8, length: usize, text: *mut u8, size: usize, flags: u32) -> bool {
+        let (bytes, text) = (bytes(first, length), space(text, size));
+        let (prefix, end) = (usize::from(flags & 2 != 0), usize::from(flags & 4 == 0));
+        let size = 2 * length + 2 * prefix;
+        if flags > 7 || text.len() < size + end {
+            if let (1, Some(first)) = (end, text.first_mut()) {
+                *first = 0;
+            }
+            return false;
+        }
+        text[..2 * prefix].copy_from_slice(&b"0x"[..2 * prefix]);
+        if end == 1 {
+            text[size] = 0;
+        }
+        let digits = &mut text[2 * prefix..size];
+        let filled = match flags & 1 {
+            0 => const_hex::encode_to_slice(bytes, digits),
+            _ => const_hex::encode_to_slice_upper(bytes, digits),
+        };
+        filled.is_ok()
+    }
+
+    #[inline(never)]
+    pub unsafe extern "C" fn decode_exact(
+        text: *const u8,
+        length: usize,
+        output: *mut u8,
+        size: usize,
+        error: *mut Error,
+    ) -> bool {
+        told(const_hex::decode_to_slice(bytes(text, length), space(output, size)), error)
+    }
+
+    #[inline(never)]
+    pub unsafe extern "C" fn decode(
+        text: *const u8,
+        length: usize,
+        output: *mut u8,
+        size: usize,
+        written: *mut usize,
+        error: *mut Error,
+    ) -> bool {
+        let (text, output) = (bytes(text, length), space(output, size));
+        let count = (length - 2 * usize::from(text.starts_with(b"0x") || text.starts_with(b"0X"))) / 2;
+        let decoded = match output.get_mut(..count) {
+            Some(output) => const_hex::decode_to_slice(text, output),
+            None => Err(InvalidStringLength),
+        };
+        let is_valid = told(decoded, error);
+        *written = if is_valid { count } else { 0 };
+        is_valid
+    }
+
+    #[inline(never)]
+    pub unsafe extern "C" fn check(text: *const u8, length: usize, error: *mut Error) -> bool {
+        told(const_hex::check(bytes(text, length)), error)
+    }
+
+    #[inline(never)]
+    pub unsafe extern "C" fn check_raw(text: *const u8, length: usize) -> bool {
+        const_hex::check_raw(bytes(text, length))
+    }
+}
+
+/// The library for C.
+mod ours {
+    use super::Error;
+
+    extern "C" {
+        #[link_name = "const_hex_encode"]
+        pub fn encode(bytes: *const u8, length: usize, text: *mut u8, size: usize, flags: u32) -> bool;
+        #[link_name = "const_hex_decode_exact"]
+        pub fn decode_exact(text: *const u8, length: usize, bytes: *mut u8, size: usize, error: *mut Error) -> bool;
+        #[link_name = "const_hex_decode"]
+        pub fn decode(
+            text: *const u8,
+            length: usize,
+            bytes: *mut u8,
+            size: usize,
+            written: *mut usize,
+            error: *mut Error,
+        ) -> bool;
+        #[link_name = "const_hex_check"]
+        pub fn check(text: *const u8, length: usize, error: *mut Error) -> bool;
+        #[link_name = "const_hex_check_raw"]
+        pub fn check_raw(text: *const u8, length: usize) -> bool;
+    }
+}
+
+/// The calls in C of a library.
+macro_rules! in_c {
+    ($library:ident, $name:literal, $cases:ident) => {{
+        // Not known to the compiler, or it would leave the tests of flags out of the functions of const-hex.
+        const NO_NUL: u32 = 4;
+        // SAFETY, of all: each pointer comes with its slice's own length, and an error may be null.
+        $cases.encoding("in C: encode", $name, |bytes, text| unsafe {
+            $library::encode(bytes.as_ptr(), bytes.len(), text.as_mut_ptr(), text.len(), black_box(NO_NUL))
+        });
+        $cases.decoding("in C: decode_exact", $name, |text, bytes| unsafe {
+            let (mut error, output) = (Error::default(), bytes.as_mut_ptr());
+            match $library::decode_exact(text.as_ptr(), text.len(), output, bytes.len(), &mut error) {
+                true => Ok(()),
+                false => Err(error),
+            }
+        });
+        $cases.decoding("in C: decode_exact, error NULL", $name, |text, bytes| unsafe {
+            let output = bytes.as_mut_ptr();
+            match $library::decode_exact(text.as_ptr(), text.len(), output, bytes.len(), null_mut()) {
+                true => Ok(()),
+                false => Err(()),
+            }
+        });
+        $cases.decoding("in C: decode", $name, |text, bytes| unsafe {
+            let (mut error, mut written, output) = (Error::default(), 0, bytes.as_mut_ptr());
+            match $library::decode(text.as_ptr(), text.len(), output, bytes.len(), &mut written, &mut error) {
+                true => Ok(written),
+                false => Err(error),
+            }
+        });
+        $cases.decoding("in C: check", $name, |text, _| unsafe {
+            let mut error = Error::default();
+            match $library::check(text.as_ptr(), text.len(), &mut error) {
+                true => Ok(()),
+                false => Err(error),
+            }
+        });
+        $cases.decoding("in C: check, error NULL", $name, |text, _| unsafe {
+            match $library::check(text.as_ptr(), text.len(), null_mut()) {
+                true => Ok(()),
+                false => Err(()),
+            }
+        });
+        $cases.decoding("in C: check_raw", $name, |text, _| unsafe {
+            match $library::check_raw(text.as_ptr(), text.len()) {
+                true => Ok(()),
+                false => Err(()),
+            }
+        });
+    }};
+}
+
+/// Every call in C of both libraries.
+pub(crate) fn cases(cases: &mut Cases) {
+    in_c!(theirs, "const-hex", cases);
+    in_c!(ours, "const-hex-proved", cases);
+}
