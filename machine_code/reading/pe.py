@@ -17,13 +17,13 @@ TABLES, HARMLESS = 16, (2, 3, 4, 6, 12)
 KINDS = {0x60000000: CODE, 0x40000000: CONSTANTS, 0xC0000000: WRITTEN, 0xC0000080: WRITTEN}
 NO_MEANING, OTHER, HEADERS = 0x00F00060, "other", "headers"
 ALL = CODE, CONSTANTS, WRITTEN, OTHER
-PADDING, ADDRESS = 0, 10  # kinds of relocations
+PADDING, ADDRESS, NOT_MOVED = 0, 10, 1  # kinds of relocations, and a file that has none
 EXTERNAL, STATIC = 2, 3  # kinds of symbols
 
 
 def read(data):
     [start] = struct.unpack_from("<I", data, 60)
-    machine, count, _, symbols, symbols_count, size, _ = struct.unpack_from("<HHIIIHH", data, start + 4)
+    machine, count, _, symbols, symbols_count, size, form = struct.unpack_from("<HHIIIHH", data, start + 4)
     table, is_known = start + 24 + size, (data[start:][:4], data[start + 24 :][:2]) == (b"PE\0\0", b"\x0b\x02")
     image = Image(is_known and FORMS.get(machine), table + 40 * count)
     base, alignment, in_file = struct.unpack_from("<QII", data, start + 48)
@@ -32,7 +32,7 @@ def read(data):
     sections = [struct.unpack_from("<8sIIIIIIHHI", data, place) for place in range(table, table + 40 * count, 40)]
     for _, in_memory, address, size, offset, *_, flags in sections:
         # What ends in a part of the file is read with all of that part. Without a size in memory that in the file counts.
-        if address % PAGE or offset % IN_FILE or size % IN_FILE or alignment < PAGE or in_file < IN_FILE or not in_memory:
+        if address % PAGE or offset % IN_FILE or size % IN_FILE or alignment != PAGE or in_file % IN_FILE or not in_memory:
             raise ValueError("a section that begins in a page, begins or ends in a part of the file, or is empty")
         # An offset of 0 means that nothing is read from the file.
         image.add_segment(data, address, in_memory, offset, offset and min(size, in_memory),
@@ -41,11 +41,13 @@ def read(data):
     if tables_count != TABLES or any(where and number not in (*READ, *HARMLESS)
                                      for number, (where, _) in enumerate(tables)):
         raise ValueError("a table for the loader that is not known here, or fewer than there are")
-    # It writes a number for threads where an address leads that it has relocated as a whole, or not at all.
+    # It writes a number for threads where an address leads, which it has relocated as a whole, if it moves the file.
     threads = tables[THREADS][0] and tables[THREADS][0] + 16
     numbers = image.numbers("<Q", threads, ALL) if threads else ()
     places = _read_relocations(image, *tables[RELOCATIONS])
     for number in numbers:
+        if not (threads in places or form & NOT_MOVED):
+            raise ValueError("a number for threads at an address that is not relocated")
         _change(image, threads, 0 if threads in places else 8)
         _change(image, number - base, 4)
     _read_imports(image, tables[IMPORTS][0])

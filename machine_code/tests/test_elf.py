@@ -257,7 +257,8 @@ LINKED = [
     ("two files that it needs", VERSION, ["-Wl,--no-as-needed", "-lc", "-lm"], [], "", "", "accepted"),
     ("functions of another file", "", ["-Wl,-F,other.so"], [], "", "", KNOWN),
     ("no names", "", ["-Wl,-s"], [], "", "", "it is stripped"),
-    ("calls that need marks", "", ["-Wl,-z,ibt"], [], "", "", "needs a mark"),
+    ("calls that need marks", "", ["-Wl,-z,ibt"], [], "", "", "calls need marks"),
+    ("returns that are compared with calls", "", ["-Wl,-z,shstk"], [], "", "", "calls need marks"),
 ]
 # On AArch64, where a system may have pages of 64 KB.
 OF_AARCH64 = [
@@ -291,7 +292,7 @@ class TestElf(unittest.TestCase):
 
     @needs_aarch64
     def test_calls_that_need_marks_aarch64(self):
-        self.assertRegex(said(shared("-Wl,-z,force-bti", compiler=AARCH64), ""), "needs a mark")
+        self.assertRegex(said(shared("-Wl,-z,force-bti", compiler=AARCH64), ""), "calls need marks")
 
 
 add_tests(TestElf, TestElf.refuse, CHANGED)

@@ -122,6 +122,11 @@ def imported(name, zeros=0, names=None):
     return changed
 
 
+def not_relocated(form):
+    """No relocations, in a file that is moved, or is not."""
+    return lambda file: (put("<II", lambda file: file.table(5), 0, 0)(file), head("<H", 22, form)(file))
+
+
 # Where the first exported function lies, and what says where the loader writes a number for threads.
 EXPORTED = lambda file: file.offset(number_at(content(0, 28))(file))
 THREADS = lambda file: file.numbers("<I", file.table(9))[0] + 16
@@ -138,6 +143,8 @@ PES = [
     ("a section of no size", section(".data", 8, lambda old: 0), "or is empty"),
     ("sections over the headers", head("<I", 84, 4097), "share a page"),
     ("sections in a page", head("<I", 56, 512), "begins in a page"),
+    # Wine maps this file as a whole, so that more of it stands after the bytes of a section.
+    ("sections at parts of pages", head("<I", 56, 4608), "begins in a page"),
     ("parts of the file that are small", head("<I", 60, 16), "begins in a page"),
     ("sections that meet", section(".rdata", 12, lambda old: 4096), "share a page"),
     ("a configuration", put("<II", lambda file: file.table(10), 4096, 320), "a table for the loader"),
@@ -154,8 +161,10 @@ PES = [
         file.numbers("<Q", file.head + 48)[0] + place_of(file, CONSTANT_OF_FILL))), NO_CONSTANT),
     ("a number for threads at an unknown place", base_relocation(THREADS, 4), "twice"),
     ("a number for threads where an import says", imported(THREADS), "twice"),
-    ("a number for threads that is not relocated",
-     lambda file: imported(THREADS)(file) or file.put("<II", file.table(5), 0, 0), "twice"),
+    ("a number for threads that is not relocated", not_relocated(0), "that is not relocated"),
+    ("a number for threads in a file that is not moved", not_relocated(1), "accepted"),
+    ("a number for threads where an import says in a file that is not moved",
+     lambda file: imported(THREADS)(file) or not_relocated(1)(file), "twice"),
     ("no imports", put("<II", lambda file: file.table(1), 0, 0), "accepted"),
     ("imports over zeros", imported(CONSTANT_OF_FILL, zeros=16), NO_CONSTANT),
     ("imports without names", imported(CONSTANT_OF_FILL, names=0), NO_CONSTANT),
