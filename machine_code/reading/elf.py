@@ -108,9 +108,8 @@ def _read_dynamic(image, header):
     # glibc makes the addresses in it absolute.
     if kinds != FIXED:
         image.change(header.address, len(content))
-    if HASH in dynamic or GNU_HASH in dynamic:
-        for name in image.names:
-            _read_exported(image, dynamic, name)
+    for name in image.names:
+        _read_exported(image, dynamic, name)
 
 
 def _read_relocations(image, dynamic):

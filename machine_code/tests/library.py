@@ -45,23 +45,9 @@ def linked(text, compiler=X86_64):
         return pathlib.Path(folder, "linked").read_bytes()
 
 
-def assembled_object(text):
-    """That of a source for x86-64."""
-    return linked(f".intel_syntax noprefix\n{text}\n")
-
-
 def assembled_module(text):
     command = ["wat2wasm", "-", "--output=-"]
     return subprocess.run(command, input=text.encode(), check=True, capture_output=True).stdout
-
-
-class InFolder(unittest.TestCase):
-    """A test that has a folder of its own."""
-
-    def setUp(self):
-        folder = tempfile.TemporaryDirectory()
-        self.addCleanup(folder.cleanup)
-        self.folder = pathlib.Path(folder.name)
 
 
 @functools.lru_cache(None)
