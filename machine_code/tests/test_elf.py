@@ -271,23 +271,17 @@ OF_AARCH64 = [
 
 class TestElf(unittest.TestCase):
     def refuse(self, build, change, symbol, wanted):
-        file = Elf(BUILDS[build])
+        file = Elf(BUILDS.get(build) or shared(more=DATA, compiler=AARCH64))
         change(file)
         self.assertRegex(said(bytes(file), symbol), wanted)
 
     def refuse_linked(self, symbol, options, changes, more, script, wanted):
         self.assertRegex(said(shared(*options, changes=changes, more=more, script=script), symbol), wanted)
 
-    def refuse_in_aarch64(self, build, change, symbol, wanted):
-        file = Elf(shared(more=DATA, compiler=AARCH64))
-        change(file)
-        self.assertRegex(said(bytes(file), symbol), wanted)
-
     @needs_aarch64
     def test_calls_that_need_marks_aarch64(self):
         self.assertRegex(said(shared("-Wl,-z,force-bti", compiler=AARCH64), ""), "calls need marks")
 
 
-add_tests(TestElf, TestElf.refuse, [*((what, "plain", *row) for what, *row in CHANGED), *CHANGED_MORE])
+add_tests(TestElf, TestElf.refuse, [*((what, "plain", *row) for what, *row in CHANGED), *CHANGED_MORE, *OF_AARCH64])
 add_tests(TestElf, TestElf.refuse_linked, LINKED)
-add_tests(TestElf, TestElf.refuse_in_aarch64, OF_AARCH64)
