@@ -22,8 +22,7 @@ JUMP, LAST = re.compile(r"j|call|bl?$|b\.|cbn?z|tbn?z"), ("jmp", "b", "ret", *EN
 def follows(i):
     """Where an instruction leads."""
     if isinstance(i.operands, Operands):
-        called = [SPACE * (i.operands.numbers[0] + 1)] if i.mnemonic == "call" else []
-        targets = i.operands.targets + called
+        targets = i.operands.targets + [SPACE * (number + 1) for number in i.operands.numbers if i.mnemonic == "call"]
     else:
         targets = [o.value for o in i.operands[-1:] if JUMP.match(i.mnemonic) and o.kind == "number"]
     return [i.address + i.size] * (i.mnemonic not in LAST) + targets

@@ -4,7 +4,7 @@ table of names."""
 
 import struct
 
-from reading.image import AARCH64, CODE, CONSTANTS, WRITTEN, X86_64, Image
+from reading.image import AARCH64, CODE, CONSTANTS, WRITTEN, X86_64, Image, up
 
 PAGE, IN_FILE = 1 << 12, 512
 FORMS = {0x8664: (X86_64, PAGE), 0xAA64: (AARCH64, PAGE)}  # by a processor
@@ -17,7 +17,8 @@ TABLES, HARMLESS = 16, (2, 3, 4, 6, 12)
 KINDS = {0x60000000: CODE, 0x40000000: CONSTANTS, 0xC0000000: WRITTEN, 0xC0000080: WRITTEN}
 NO_MEANING, OTHER, HEADERS = 0x00F00060, "other", "headers"
 ALL = CODE, CONSTANTS, WRITTEN, OTHER
-PADDING, ADDRESS, NOT_MOVED = 0, 10, 1  # kinds of relocations, and a file that has none
+PADDING, ADDRESS = 0, 10  # kinds of relocations
+NOT_MOVED = 1  # in the form of a file, which has no relocations
 EXTERNAL, STATIC = 2, 3  # kinds of symbols
 
 
@@ -31,9 +32,11 @@ def read(data):
     image.add_segment(data, 0, headers, 0, headers, HEADERS)
     sections = [struct.unpack_from("<8sIIIIIIHHI", data, place) for place in range(table, table + 40 * count, 40)]
     for _, in_memory, address, size, offset, *_, flags in sections:
-        # What ends in a part of the file is read with all of that part. Without a size in memory that in the file counts.
-        if address % PAGE or offset % IN_FILE or size % IN_FILE or alignment != PAGE or in_file % IN_FILE or not in_memory:
-            raise ValueError("a section that begins in a page, begins or ends in a part of the file, or is empty")
+        # What ends in a part of the file is read with all of that part. As many pages are protected as it has there.
+        if address % PAGE or alignment != PAGE or offset % IN_FILE or size % IN_FILE or in_file % IN_FILE:
+            raise ValueError("a section that begins in a page, or begins or ends in a part of the file")
+        if up(size, PAGE) > up(in_memory, PAGE):
+            raise ValueError("a section with more pages in the file than in memory")
         # An offset of 0 means that nothing is read from the file.
         image.add_segment(data, address, in_memory, offset, offset and min(size, in_memory),
                           KINDS.get(flags & ~NO_MEANING, OTHER))
@@ -90,6 +93,8 @@ def _read_imports(image, address):
         while any(image.numbers("<Q", names, ALL)):
             _change(image, place, 8)
             place, names = place + 8, names + 8
+        # It protects all of them as the first one.
+        image.change(row[4], place - row[4], ALL)
         address += 20
 
 

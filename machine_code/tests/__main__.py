@@ -1,5 +1,5 @@
-"""Runs the tests of the tool, or, from the folder `solver`, those of proofs: `/usr/bin/python3 machine_code/tests [NAME..]`,
-where a name is a part of a test's."""
+"""Runs the tests of the tool, or, from the folder `solver`, those of proofs: `python3 machine_code/tests [NAME..]`, where
+a name is a part of a test's."""
 
 import pathlib
 import sys

@@ -21,14 +21,13 @@ from execution.state import simple, word
 from hints.loops import follows
 from reading import library
 from solver.questions import require
-from tests.node import BYTES, refused_or
+from tests.node import BYTES, EDGES, refused_or
 
 FOLDER = pathlib.Path(__file__).resolve().parents[1]
 # As in run.c.
 SIZE, TEXT, SCRATCH = 1 << 12, 0x4000000, 0x8000000
 MIDDLE = SIZE // 2
 NOT_ALONE = ("ret", "call", "jmp", "nop", "bl", "b", "cpuid", "xgetbv")
-EDGES = bytes([0, 1, 0x7F, 0x80, 0xFF, 0x30, 0x39, 0x41, 0x66, 0x0F, 0x10] * 24)[:256]
 # So many instructions of each form, and states.
 PLACES, STATES = 2, 8
 # In some states all numbers are near one of these, so that some are equal, and some sums and differences are 0.
@@ -47,7 +46,7 @@ KINDS = {
 def _random_bytes(some, count):
     """Random bytes; often at the edges, and sometimes all 0."""
     content, kind = some.randbytes(count), some.randrange(8)
-    return bytes(count) if kind == 0 else content if kind < 4 else content.translate(EDGES)
+    return bytes(count) if kind == 0 else content if kind < 4 else content.translate((EDGES * 24)[:256])
 
 
 def _number(term, bits):
