@@ -9,9 +9,9 @@ from reading.image import AARCH64, CODE, CONSTANTS, WRITTEN, X86_64, Image, up
 PAGE, IN_FILE = 1 << 12, 512
 FORMS = {0x8664: (X86_64, PAGE), 0xAA64: (AARCH64, PAGE)}  # by a processor
 # Tables for the loader by their numbers: those that are read, and those that are harmless: RESOURCE, EXCEPTION,
-# CERTIFICATE, DEBUG, IAT. With others, such as a configuration, the loader writes elsewhere, too.
-EXPORTS, IMPORTS, RELOCATIONS, THREADS = READ = 0, 1, 5, 9
-TABLES, HARMLESS = 16, (2, 3, 4, 6, 12)
+# CERTIFICATE, DEBUG. With others, such as a configuration, the loader writes elsewhere, too.
+EXPORTS, IMPORTS, RELOCATIONS, THREADS, ADDRESSES = READ = 0, 1, 5, 9, 12
+TABLES, HARMLESS = 16, (2, 3, 4, 6)
 # What a section is, by its flags without those that mean nothing here: what it has, and how it was aligned. In others
 # nothing is known.
 KINDS = {0x60000000: CODE, 0x40000000: CONSTANTS, 0xC0000000: WRITTEN, 0xC0000080: WRITTEN}
@@ -54,6 +54,8 @@ def read(data):
         _change(image, threads, 0 if threads in places else 8)
         _change(image, number - base, 4)
     _read_imports(image, tables[IMPORTS][0])
+    if tables[ADDRESSES][0]:
+        image.change(*tables[ADDRESSES], ALL)
     _read_symbols(image, data, symbols, symbols_count, [section[2] for section in sections])
     _read_exports(image, *tables[EXPORTS])
     return image
@@ -93,7 +95,7 @@ def _read_imports(image, address):
         while any(image.numbers("<Q", names, ALL)):
             _change(image, place, 8)
             place, names = place + 8, names + 8
-        # It protects all of them as the first one.
+        # It protects all of them as the first one, and those in the table of all addresses, too.
         image.change(row[4], place - row[4], ALL)
         address += 20
 

@@ -16,8 +16,6 @@ MODULE = os.environ.get("CONST_HEX_MODULE", TOP / "js" / "src" / "const_hex.wasm
 X86_64, AARCH64 = "cc", "aarch64-linux-gnu-gcc"
 MEMBERS = {X86_64: ("dispatch", "kernel_x86_64_v2", "kernel_x86_64_v3", "functions_x86_64"),
            AARCH64: ("dispatch", "kernel_aarch64", "functions_aarch64")}
-
-
 needs_aarch64 = unittest.skipUnless(shutil.which(AARCH64), f"{AARCH64} is missing")
 needs_module = unittest.skipUnless(shutil.which("wat2wasm"), "wat2wasm is missing")
 

@@ -167,6 +167,7 @@ PES = [
     ("imports without names", imported(CONSTANT_OF_FILL, names=0), NO_CONSTANT),
     ("imports in two sections", lambda file: (section(".xdata", 8, lambda old: 4096)(file),
                                               put("<I", content(1, 16), place_of(file, ".bss") - 8)(file)), MUST_NOT),
+    ("addresses of imports in two sections", put("<I", lambda file: file.table(12) + 4, 8192), MUST_NOT),
     ("functions beyond their table", put("<I", content(0, 20), 0), PLAIN),
     ("an absolute name", put("<h", lambda file: file.symbol(FILL) + 12, -1), OTHER_KIND),
     ("a name of another kind", put("<B", lambda file: file.symbol(FILL) + 16, 104), OTHER_KIND),
