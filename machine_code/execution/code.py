@@ -12,18 +12,6 @@ from reading import library
 PAGE = 4096  # Loaders keep no greater alignment.
 
 
-class Instructions(dict):
-    """Those of a file by their addresses, or None. They are read from an address on when it is asked for."""
-
-    def __init__(self, read):
-        super().__init__()
-        self._read = read
-
-    def __missing__(self, address):
-        self.update({**self._read(address), **self})
-        return self.get(address)
-
-
 class Code:
     """A function of a file, by its symbol. Others are called by their contracts."""
 
@@ -34,11 +22,13 @@ class Code:
         self.callees = {self.object.symbols[name]: effect for name, effect in effects.items()
                         if name in self.object.symbols}
         self.constants = Region("constants", word(self.object.size), PAGE if self.object.machine else 1, self.object)
-        self.instructions = Instructions(self._read)
+        self.instructions = {}
 
-    def _read(self, address):
-        part = self.object.code_at(address)
-        return self.processor.instructions(self, part, self.level) if part else {}
+    def instruction(self, address):
+        """That at an address, or None. It is read with those after it when it is asked for."""
+        if address not in self.instructions and (part := self.object.code_at(address)):
+            self.instructions = self.processor.instructions(self, part, self.level) | self.instructions
+        return self.instructions.get(address)
 
     def placed(self, address):
         """An address of the file, wherever that lies."""
@@ -52,5 +42,5 @@ class Code:
         return self.kept == offset.as_long()
 
     def name_at(self, address):
-        instruction = self.instructions[address]
+        instruction = self.instruction(address)
         return f"{self.object.name_at(address)} {instruction.text if instruction else 'no instruction'}"

@@ -76,7 +76,7 @@ def step(code, state):
     """Runs one instruction, and gives the states after it; none after a return."""
     if state.address in code.callees:
         return called(state, code.callees[state.address])
-    instruction = code.instructions[state.address]
+    instruction = code.instruction(state.address)
     require(instruction, "it leaves the code")
     state.steps += 1
     require(state.steps < STEPS, "a loop without a hint")

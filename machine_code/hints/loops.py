@@ -5,11 +5,27 @@ to each is a step, if it is a constant; and the branches that lead back to the h
 then. All of it is proved where it is used (execution/paths.py), so a wrong guess is refused.
 """
 
+import re
+
 import z3
 
 from execution import paths
 from execution.state import fresh, simple, word
+from meanings.webassembly import ENDS, Operands
+from reading.module import SPACE
 from solver.questions import Refused, is_public, names
+
+# What leads to the place that it names, and what does not lead to the next instruction; on each processor.
+JUMP, LAST = re.compile(r"j|call|bl?$|b\.|cbn?z|tbn?z"), ("jmp", "b", "ret", *ENDS)
+
+
+def follows(i):
+    """Where an instruction leads."""
+    if isinstance(i.operands, Operands):
+        targets = i.operands.targets + [SPACE * (number + 1) for number in i.operands.numbers if i.mnemonic == "call"]
+    else:
+        targets = [o.value for o in i.operands[-1:] if JUMP.match(i.mnemonic) and o.kind == "number"]
+    return [i.address + i.size] * (i.mnemonic not in LAST) + targets
 
 
 def heads(code, start):
@@ -18,9 +34,9 @@ def heads(code, start):
     while work:
         address, above = work.pop()
         targets |= {address} & above
-        if address not in done and address not in code.callees and (i := code.instructions[address]):
+        if address not in done and address not in code.callees and (i := code.instruction(address)):
             done.add(address)
-            work += [(to, above | {address}) for to in code.processor.follows(i)]
+            work += [(to, above | {address}) for to in follows(i)]
     return targets
 
 
@@ -28,7 +44,7 @@ def leading_to(code, target):
     """The instructions from which one leads to an address, if no call has to return before."""
     before = {}
     for i in code.instructions.values():
-        for to in code.processor.follows(i) if i.mnemonic in code.processor.HANDLERS else ():
+        for to in follows(i) if i.mnemonic in code.processor.HANDLERS else ():
             before.setdefault(to, []).append(i.address)
     leading, work = set(), [target]
     while work:

@@ -70,20 +70,10 @@ def _is_page(i, old, new):
     return i.mnemonic == "adrp" and (words[0] ^ words[1]) & ~0x60FFFFE0 == 0 and i.operands[1].value == to
 
 
-def _is_target(i):
-    return i.mnemonic in ("b", "bl", "cbz", "cbnz", "tbz", "tbnz") or i.mnemonic.startswith("b.")
-
-
 def instructions(code, part, level):
     """The instructions of a part of a file, by their addresses."""
     command = ["aarch64-linux-gnu-as", "-march=armv8-a"]
     return assembled.read(part, AARCH64, _operands, command, assembled.with_distance, _is_page)
-
-
-def follows(i):
-    """Where an instruction leads: to the next one, and to a jump's target. Not trusted."""
-    targets = [i.operands[-1].value] if _is_target(i) else []
-    return ([i.address + 4] if i.mnemonic not in ("ret", "b") else []) + targets
 
 
 class State(state.State):
@@ -237,9 +227,7 @@ def constant(s, i):
 def move(s, i):
     """Between registers of any kind. What is above in a register is cleared."""
     to, by = i.operands
-    if by.kind == "number":
-        return s.put(to, s.number(by, to.size))
-    if by.kind == to.kind == "general":
+    if by.kind == "number" or by.kind == to.kind == "general":
         return s.put(to, s.number(by, to.size))
     # An element comes from the lower bytes of a register, and goes into a register that may be wider.
     s.put_lane(to, s.lane(by)[: to.size] + [byte(0)] * (to.size - by.size))

@@ -94,12 +94,6 @@ def instructions(code, section, level):
     return dict(Reader(code, section).instructions())
 
 
-def follows(i):
-    """Where an instruction leads: to the next one, and to a branch's targets. Not trusted."""
-    called = [SPACE * (i.operands.numbers[0] + 1)] if i.mnemonic == "call" else []
-    return ([] if i.mnemonic in ENDS else [i.address + 1]) + i.operands.targets + called
-
-
 def _operand(i, height):
     """The name of the register for the operand above so many others."""
     return f"operand {i.address // SPACE}.{height}"

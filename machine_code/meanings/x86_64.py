@@ -82,12 +82,6 @@ def instructions(code, part, level):
     return assembled.read(part, X86_64, _operands, command, _text_to_assemble, _is_nop)
 
 
-def follows(i):
-    """Where an instruction leads: to the next one, and to a jump's target. Not trusted."""
-    targets = [i.operands[0].value] if _is_jump(i) and i.operands and i.operands[0].kind == "number" else []
-    return ([i.address + i.size] if i.mnemonic not in ("ret", "jmp") else []) + targets
-
-
 class State(state.State):
     """The arguments are in these registers, and a call has left the address to return to on the stack."""
 
@@ -357,9 +351,8 @@ def extract(size):
         lane = s.lane(one, i)
         require(index.value < len(lane) // size, "an index")
         part = lane[index.value * size :][:size]
-        if to.kind == "vector":
-            return s.put_vector(to, part)
-        s.put(to, i, joined(part + [byte(0)] * (to.size - size)))
+        whole = part + [byte(0)] * (to.size - size)
+        return s.put_vector(to, whole) if to.kind == "vector" else s.put(to, i, joined(whole))
     return handler
 
 

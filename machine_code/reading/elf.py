@@ -17,7 +17,7 @@ FORMS = {(kind, form[0]): form for kind in (2, 3) for form in ((X86_64, 1 << 12)
 Header = namedtuple("Header", "kind flags offset address physical in_file in_memory alignment")
 LOAD, DYNAMIC, CLOSED, PROPERTIES, LOADER, HEADERS = 1, 2, 0x6474E552, 0x6474E553, 3, 6
 SEVERAL, ONCE = (LOAD, 4, 0), (DYNAMIC, CLOSED, PROPERTIES, LOADER, HEADERS, 7, 0x6474E550, 0x6474E551)
-GUARDS = {X86_64: 0xC0000002, AARCH64: 0xC0000000}  # the property whose bit 0 says that calls need marks
+GUARDS = {X86_64: 0xC0000002, AARCH64: 0xC0000000}  # the property whose bits say what calls and returns need
 KINDS = {4: CONSTANTS, 5: CODE, 6: WRITTEN}  # of segments, by their flags
 # Tags of the loader's table. Each may stand there once, but for NEEDED; with what else is harmless: STRSZ, SYMENT,
 # INIT, FINI, SONAME, RPATH, SYMBOLIC, DEBUG, BIND_NOW, the arrays of INIT and FINI, RUNPATH; and from TLSDESC_PLT on
@@ -85,8 +85,8 @@ def _refuse_guards(image, data, header):
         raise ValueError("a note of properties that is another one in memory than in the file, or is not the only one")
     while place < len(note):
         kind, size = struct.unpack_from("<II", note, place)
-        if kind == GUARDS[image.machine] and note[place + 8] & 1:
-            raise ValueError("each function needs a mark (BTI or IBT), which these do not have")
+        if kind == GUARDS[image.machine] and note[place + 8]:
+            raise ValueError("calls need marks, or returns are compared with calls (BTI, IBT, SHSTK, GCS)")
         place += 8 + up(size, 8)
 
 
@@ -108,9 +108,8 @@ def _read_dynamic(image, header):
     # glibc makes the addresses in it absolute.
     if kinds != FIXED:
         image.change(header.address, len(content))
-    if HASH in dynamic or GNU_HASH in dynamic:
-        for name in image.names:
-            _read_exported(image, dynamic, name)
+    for name in image.names:
+        _read_exported(image, dynamic, name)
 
 
 def _read_relocations(image, dynamic):

@@ -4,26 +4,27 @@ table of names."""
 
 import struct
 
-from reading.image import AARCH64, CODE, CONSTANTS, WRITTEN, X86_64, Image
+from reading.image import AARCH64, CODE, CONSTANTS, WRITTEN, X86_64, Image, up
 
 PAGE, IN_FILE = 1 << 12, 512
 FORMS = {0x8664: (X86_64, PAGE), 0xAA64: (AARCH64, PAGE)}  # by a processor
 # Tables for the loader by their numbers: those that are read, and those that are harmless: RESOURCE, EXCEPTION,
-# CERTIFICATE, DEBUG, IAT. With others, such as a configuration, the loader writes elsewhere, too.
-EXPORTS, IMPORTS, RELOCATIONS, THREADS = READ = 0, 1, 5, 9
-TABLES, HARMLESS = 16, (2, 3, 4, 6, 12)
+# CERTIFICATE, DEBUG. With others, such as a configuration, the loader writes elsewhere, too.
+EXPORTS, IMPORTS, RELOCATIONS, THREADS, ADDRESSES = READ = 0, 1, 5, 9, 12
+TABLES, HARMLESS = 16, (2, 3, 4, 6)
 # What a section is, by its flags without those that mean nothing here: what it has, and how it was aligned. In others
 # nothing is known.
 KINDS = {0x60000000: CODE, 0x40000000: CONSTANTS, 0xC0000000: WRITTEN, 0xC0000080: WRITTEN}
 NO_MEANING, OTHER, HEADERS = 0x00F00060, "other", "headers"
 ALL = CODE, CONSTANTS, WRITTEN, OTHER
 PADDING, ADDRESS = 0, 10  # kinds of relocations
+NOT_MOVED = 1  # in the form of a file, which has no relocations
 EXTERNAL, STATIC = 2, 3  # kinds of symbols
 
 
 def read(data):
     [start] = struct.unpack_from("<I", data, 60)
-    machine, count, _, symbols, symbols_count, size, _ = struct.unpack_from("<HHIIIHH", data, start + 4)
+    machine, count, _, symbols, symbols_count, size, form = struct.unpack_from("<HHIIIHH", data, start + 4)
     table, is_known = start + 24 + size, (data[start:][:4], data[start + 24 :][:2]) == (b"PE\0\0", b"\x0b\x02")
     image = Image(is_known and FORMS.get(machine), table + 40 * count)
     base, alignment, in_file = struct.unpack_from("<QII", data, start + 48)
@@ -31,9 +32,11 @@ def read(data):
     image.add_segment(data, 0, headers, 0, headers, HEADERS)
     sections = [struct.unpack_from("<8sIIIIIIHHI", data, place) for place in range(table, table + 40 * count, 40)]
     for _, in_memory, address, size, offset, *_, flags in sections:
-        # What ends in a part of the file is read with all of that part. Without a size in memory that in the file counts.
-        if address % PAGE or offset % IN_FILE or size % IN_FILE or alignment < PAGE or in_file < IN_FILE or not in_memory:
-            raise ValueError("a section that begins in a page, begins or ends in a part of the file, or is empty")
+        # What ends in a part of the file is read with all of that part. As many pages are protected as it has there.
+        if address % PAGE or alignment != PAGE or offset % IN_FILE or size % IN_FILE or in_file % IN_FILE:
+            raise ValueError("a section that begins in a page, or begins or ends in a part of the file")
+        if up(size, PAGE) > up(in_memory, PAGE):
+            raise ValueError("a section with more pages in the file than in memory")
         # An offset of 0 means that nothing is read from the file.
         image.add_segment(data, address, in_memory, offset, offset and min(size, in_memory),
                           KINDS.get(flags & ~NO_MEANING, OTHER))
@@ -41,14 +44,18 @@ def read(data):
     if tables_count != TABLES or any(where and number not in (*READ, *HARMLESS)
                                      for number, (where, _) in enumerate(tables)):
         raise ValueError("a table for the loader that is not known here, or fewer than there are")
-    # It writes a number for threads where an address leads that it has relocated as a whole, or not at all.
+    # It writes a number for threads where an address leads, which it has relocated as a whole, if it moves the file.
     threads = tables[THREADS][0] and tables[THREADS][0] + 16
     numbers = image.numbers("<Q", threads, ALL) if threads else ()
     places = _read_relocations(image, *tables[RELOCATIONS])
     for number in numbers:
+        if not (threads in places or form & NOT_MOVED):
+            raise ValueError("a number for threads at an address that is not relocated")
         _change(image, threads, 0 if threads in places else 8)
         _change(image, number - base, 4)
     _read_imports(image, tables[IMPORTS][0])
+    if tables[ADDRESSES][0]:
+        image.change(*tables[ADDRESSES], ALL)
     _read_symbols(image, data, symbols, symbols_count, [section[2] for section in sections])
     _read_exports(image, *tables[EXPORTS])
     return image
@@ -88,6 +95,8 @@ def _read_imports(image, address):
         while any(image.numbers("<Q", names, ALL)):
             _change(image, place, 8)
             place, names = place + 8, names + 8
+        # It protects all of them as the first one, and those in the table of all addresses, too.
+        image.change(row[4], place - row[4], ALL)
         address += 20
 
 

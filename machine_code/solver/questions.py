@@ -184,9 +184,8 @@ def values(facts, term, most):
     known = []
     while not holds(facts, z3.Or(*[term == value for value in known])):
         require(len(known) < most, "an offset that may have too many values")
-        solver = z3.SolverFor("QF_BV")
-        solver.set("rlimit", LIMIT)
-        solver.add(*relevant(facts, term == 0), *[term != value for value in known])
-        require(solver.check() == z3.sat, "an offset whose values are not known")
-        known.append(solver.model().eval(term, True).as_long())
+        models = []
+        _answer("QF_BV", [*relevant(facts, term == 0), *[term != value for value in known]], LIMIT, models)
+        require(models, "an offset whose values are not known")
+        known.append(models[0].eval(term, True).as_long())
     return known

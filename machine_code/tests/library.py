@@ -16,8 +16,6 @@ MODULE = os.environ.get("CONST_HEX_MODULE", TOP / "js" / "src" / "const_hex.wasm
 X86_64, AARCH64 = "cc", "aarch64-linux-gnu-gcc"
 MEMBERS = {X86_64: ("dispatch", "kernel_x86_64_v2", "kernel_x86_64_v3", "functions_x86_64"),
            AARCH64: ("dispatch", "kernel_aarch64", "functions_aarch64")}
-
-
 needs_aarch64 = unittest.skipUnless(shutil.which(AARCH64), f"{AARCH64} is missing")
 needs_module = unittest.skipUnless(shutil.which("wat2wasm"), "wat2wasm is missing")
 
@@ -45,23 +43,9 @@ def linked(text, compiler=X86_64):
         return pathlib.Path(folder, "linked").read_bytes()
 
 
-def assembled_object(text):
-    """That of a source for x86-64."""
-    return linked(f".intel_syntax noprefix\n{text}\n")
-
-
 def assembled_module(text):
     command = ["wat2wasm", "-", "--output=-"]
     return subprocess.run(command, input=text.encode(), check=True, capture_output=True).stdout
-
-
-class InFolder(unittest.TestCase):
-    """A test that has a folder of its own."""
-
-    def setUp(self):
-        folder = tempfile.TemporaryDirectory()
-        self.addCleanup(folder.cleanup)
-        self.folder = pathlib.Path(folder.name)
 
 
 @functools.lru_cache(None)

@@ -21,8 +21,7 @@ from meanings.webassembly import HANDLERS
 from solver.questions import Refused, require
 from tests.library import MODULE, TOP, assembled_module
 
-SIZE = 1024
-RESULT, SCRATCH = 64, 256
+SIZE, RESULT, SCRATCH = 1024, 64, 256
 EDGES = bytes([0, 1, 0x7F, 0x80, 0xFF, 0x30, 0x39, 0x41, 0x66, 0x0F, 0x10])
 BYTES = [byte(value) for value in range(256)]
 # Bytes that a selection does not know: it becomes a branch, or an unknown number if a byte of the input stands alone.

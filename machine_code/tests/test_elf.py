@@ -181,14 +181,14 @@ CHANGED = [
     ("an object", put("<H", 16, 1), "", OBJECT),
     ("nothing at all", lambda file: file.clear(), "", "no linked file"),
 ]
-# The same in a library by other options: with both tables of hashes, with relocations, with those that are packed, with
+# And in a library by other options: with both tables of hashes, with relocations, with those that are packed, with
 # a call that is bound later, and with functions that need marks.
 DATA = (".bss; .space 64; .data; .balign 8; .hidden more; .globl more; more: .quad other, other; .space 600; "
         ".quad other; .text; other: ret")
-MORE = {"hashes": shared("-Wl,--hash-style=both"), "sysv": shared("-Wl,--hash-style=sysv"),
-        "relocations": shared(more=DATA), "packed": shared("-Wl,-z,pack-relative-relocs", more=DATA),
-        "later": shared("-Wl,-z,lazy", more="call other@PLT"), "marks": shared("-Wl,-z,ibt"),
-        "both": shared("-Wl,-z,lazy", more=DATA + "; call elsewhere@PLT")}
+BUILDS = {"plain": shared(), "hashes": shared("-Wl,--hash-style=both"), "sysv": shared("-Wl,--hash-style=sysv"),
+          "relocations": shared(more=DATA), "packed": shared("-Wl,-z,pack-relative-relocs", more=DATA),
+          "later": shared("-Wl,-z,lazy", more="call other@PLT"), "marks": shared("-Wl,-z,ibt"),
+          "both": shared("-Wl,-z,lazy", more=DATA + "; call elsewhere@PLT")}
 CHANGED_MORE = [
     ("both tables", "hashes", lambda file: None, VERSION, "accepted"),
     ("tables that differ", "hashes", hashes("<I", None, 0), "", TABLES),
@@ -257,7 +257,8 @@ LINKED = [
     ("two files that it needs", VERSION, ["-Wl,--no-as-needed", "-lc", "-lm"], [], "", "", "accepted"),
     ("functions of another file", "", ["-Wl,-F,other.so"], [], "", "", KNOWN),
     ("no names", "", ["-Wl,-s"], [], "", "", "it is stripped"),
-    ("calls that need marks", "", ["-Wl,-z,ibt"], [], "", "", "needs a mark"),
+    ("calls that need marks", "", ["-Wl,-z,ibt"], [], "", "", "calls need marks"),
+    ("returns that are compared with calls", "", ["-Wl,-z,shstk"], [], "", "", "calls need marks"),
 ]
 # On AArch64, where a system may have pages of 64 KB.
 OF_AARCH64 = [
@@ -269,32 +270,18 @@ OF_AARCH64 = [
 
 
 class TestElf(unittest.TestCase):
-    @classmethod
-    def setUpClass(cls):
-        cls.right = shared()
-
-    def refuse(self, change, symbol, wanted):
-        self.refuse_more(None, change, symbol, wanted)
-
-    def refuse_more(self, build, change, symbol, wanted):
-        file = Elf(MORE.get(build, self.right))
+    def refuse(self, build, change, symbol, wanted):
+        file = Elf(BUILDS.get(build) or shared(more=DATA, compiler=AARCH64))
         change(file)
         self.assertRegex(said(bytes(file), symbol), wanted)
 
     def refuse_linked(self, symbol, options, changes, more, script, wanted):
         self.assertRegex(said(shared(*options, changes=changes, more=more, script=script), symbol), wanted)
 
-    def refuse_in_aarch64(self, build, change, symbol, wanted):
-        file = Elf(shared(more=DATA, compiler=AARCH64))
-        change(file)
-        self.assertRegex(said(bytes(file), symbol), wanted)
-
     @needs_aarch64
     def test_calls_that_need_marks_aarch64(self):
-        self.assertRegex(said(shared("-Wl,-z,force-bti", compiler=AARCH64), ""), "needs a mark")
+        self.assertRegex(said(shared("-Wl,-z,force-bti", compiler=AARCH64), ""), "calls need marks")
 
 
-add_tests(TestElf, TestElf.refuse, CHANGED)
-add_tests(TestElf, TestElf.refuse_more, CHANGED_MORE)
+add_tests(TestElf, TestElf.refuse, [*((what, "plain", *row) for what, *row in CHANGED), *CHANGED_MORE, *OF_AARCH64])
 add_tests(TestElf, TestElf.refuse_linked, LINKED)
-add_tests(TestElf, TestElf.refuse_in_aarch64, OF_AARCH64)

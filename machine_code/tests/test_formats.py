@@ -125,6 +125,7 @@ def imported(name, zeros=0, names=None):
 # Where the first exported function lies, and what says where the loader writes a number for threads.
 EXPORTED = lambda file: file.offset(number_at(content(0, 28))(file))
 THREADS = lambda file: file.numbers("<I", file.table(9))[0] + 16
+NOT_RELOCATED, NOT_MOVED = put("<II", lambda file: file.table(5), 0, 0), head("<H", 22, 1)
 PES = [
     ("nothing", lambda file: None, "accepted"),
     ("constants that can be written", section(".rdata", 36, lambda flags: flags | 1 << 31), NO_CONSTANT),
@@ -135,9 +136,12 @@ PES = [
     ("code in a page", section(".text", 12, lambda old: old + 16), "begins in a page"),
     # The loader reads the whole part, so a byte that seems to be 0 is another one.
     ("a section that ends in a part of the file", section(".data", 16, lambda old: 16), "ends in a part"),
-    ("a section of no size", section(".data", 8, lambda old: 0), "or is empty"),
+    ("a section of no size", section(".data", 8, lambda old: 0), "more pages in the file"),
+    ("a section with more pages in the file", section(".xdata", 16, lambda old: old + 4096), "more pages in the file"),
     ("sections over the headers", head("<I", 84, 4097), "share a page"),
     ("sections in a page", head("<I", 56, 512), "begins in a page"),
+    # Wine maps this file as a whole, so that more of it stands after the bytes of a section.
+    ("sections at parts of pages", head("<I", 56, 4608), "begins in a page"),
     ("parts of the file that are small", head("<I", 60, 16), "begins in a page"),
     ("sections that meet", section(".rdata", 12, lambda old: 4096), "share a page"),
     ("a configuration", put("<II", lambda file: file.table(10), 4096, 320), "a table for the loader"),
@@ -154,11 +158,16 @@ PES = [
         file.numbers("<Q", file.head + 48)[0] + place_of(file, CONSTANT_OF_FILL))), NO_CONSTANT),
     ("a number for threads at an unknown place", base_relocation(THREADS, 4), "twice"),
     ("a number for threads where an import says", imported(THREADS), "twice"),
-    ("a number for threads that is not relocated",
-     lambda file: imported(THREADS)(file) or file.put("<II", file.table(5), 0, 0), "twice"),
+    ("a number for threads that is not relocated", NOT_RELOCATED, "that is not relocated"),
+    ("a number for threads in a file that is not moved", lambda file: NOT_RELOCATED(file) or NOT_MOVED(file), "accepted"),
+    ("a number for threads where an import says in a file that is not moved",
+     lambda file: imported(THREADS)(file) or NOT_RELOCATED(file) or NOT_MOVED(file), "twice"),
     ("no imports", put("<II", lambda file: file.table(1), 0, 0), "accepted"),
     ("imports over zeros", imported(CONSTANT_OF_FILL, zeros=16), NO_CONSTANT),
     ("imports without names", imported(CONSTANT_OF_FILL, names=0), NO_CONSTANT),
+    ("imports in two sections", lambda file: (section(".xdata", 8, lambda old: 4096)(file),
+                                              put("<I", content(1, 16), place_of(file, ".bss") - 8)(file)), MUST_NOT),
+    ("addresses of imports in two sections", put("<I", lambda file: file.table(12) + 4, 8192), MUST_NOT),
     ("functions beyond their table", put("<I", content(0, 20), 0), PLAIN),
     ("an absolute name", put("<h", lambda file: file.symbol(FILL) + 12, -1), OTHER_KIND),
     ("a name of another kind", put("<B", lambda file: file.symbol(FILL) + 16, 104), OTHER_KIND),

@@ -6,7 +6,9 @@ import pathlib
 import re
 import subprocess
 import sys
+import tempfile
 import types
+import unittest
 from importlib.machinery import SourceFileLoader
 from unittest import mock
 
@@ -17,11 +19,12 @@ from contracts.messages import MESSAGES
 from execution import proofs
 from reading import library
 from solver.questions import Refused
-from tests.library import InFolder, assembled_object, shared
+from tests.library import linked, shared
 
 ROOM = pathlib.Path(__file__).resolve().parent.parent
 # A kernel that calls a local function for an invalid character, which never returns.
 CALLS_A_LOCAL_ONE = """
+    .intel_syntax noprefix
     .section .text.{0}, "ax"; .globl {0}; {0}: sub rsp, 24; 1: test rsi, rsi; je 2f; movzx eax, byte ptr [rdi]
     lea ecx, [rax-0x30]; cmp cl, 10; setb r8b; or al, 0x20; sub al, 0x61; cmp al, 6; setb r9b; or r8b, r9b; je 3f
     add rdi, 1; add rsi, -1; jmp 1b
@@ -31,18 +34,20 @@ CALLS_A_LOCAL_ONE = """
 """
 # A local function that calls another one, which never returns.
 LOCAL_ONES = """
+    .intel_syntax noprefix
     .section .text.{0}, "ax"; {0}: sub rsp, 8; mov rsi, rcx; mov rdx, r8; call {1}; add rsp, 8; ret
     .section .text.{1}, "ax"; {1}: jmp {1}
 """
 
 
-class TestProve(InFolder):
+class TestProve(unittest.TestCase):
     def setUp(self):
         """`prove` as a module, and a shared library."""
-        super().setUp()
+        folder = tempfile.TemporaryDirectory()
+        self.addCleanup(folder.cleanup)
         self.script = types.ModuleType("prove")
         SourceFileLoader("prove", str(ROOM / "prove")).exec_module(self.script)
-        self.file, self.other = self.folder / "libconst_hex.so", self.folder / "other.so"
+        self.file, self.other = [pathlib.Path(folder.name, name) for name in ("libconst_hex.so", "other.so")]
         for file in (self.file, self.other):
             file.write_bytes(shared())
 
@@ -116,13 +121,13 @@ class TestProve(InFolder):
     def test_local_function_by_the_name_of_another_file(self):
         """Where it is not proved, it is not called by its contract."""
         for name in {contract.symbol for contract in (*FUNCTIONS, *MESSAGES) if contract.is_local}:
-            content = assembled_object(CALLS_A_LOCAL_ONE.format("const_hex_1_0_0_check_v3", name))
+            content = linked(CALLS_A_LOCAL_ONE.format("const_hex_1_0_0_check_v3", name))
             with self.subTest(name), self.assertRaisesRegex(Refused, "nothing counts down"):
                 proofs.prove(content, "const_hex_1_0_0_check_v3", Check())
 
     def test_local_functions_that_call_each_other(self):
         """What is called by its contract calls no other so: each of two would be right if the other one were."""
         contract = next(contract for contract in FUNCTIONS if contract.function == "decoder_fail")
-        content = assembled_object(LOCAL_ONES.format(contract.symbol, "const_hex_body_find_invalid_character"))
+        content = linked(LOCAL_ONES.format(contract.symbol, "const_hex_body_find_invalid_character"))
         with self.assertRaisesRegex(Refused, "nothing counts down"):
             proofs.prove(content, contract.symbol, contract)

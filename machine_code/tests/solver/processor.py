@@ -17,22 +17,21 @@ import z3
 from execution.code import Code
 from execution.paths import Branch
 from execution.proofs import PROCESSORS
-from execution.state import byte, simple, word
+from execution.state import simple, word
+from hints.loops import follows
 from reading import library
 from solver.questions import require
-from tests.node import refused_or
+from tests.node import BYTES, EDGES, refused_or
 
 FOLDER = pathlib.Path(__file__).resolve().parents[1]
 # As in run.c.
 SIZE, TEXT, SCRATCH = 1 << 12, 0x4000000, 0x8000000
 MIDDLE = SIZE // 2
 NOT_ALONE = ("ret", "call", "jmp", "nop", "bl", "b", "cpuid", "xgetbv")
-EDGES = bytes([0, 1, 0x7F, 0x80, 0xFF, 0x30, 0x39, 0x41, 0x66, 0x0F, 0x10] * 24)[:256]
 # So many instructions of each form, and states.
 PLACES, STATES = 2, 8
 # In some states all numbers are near one of these, so that some are equal, and some sums and differences are 0.
 NEAR = [None] * 4 + [0, 0, 1 << 31, 1 << 63]
-BYTES = [byte(value) for value in range(256)]
 # By processor: its registers as run.c has them, its compiler and emulator, where flags are, how long a jump is, and
 # what does not count as a form: which registers, numbers of several digits, and addresses.
 KINDS = {
@@ -47,7 +46,7 @@ KINDS = {
 def _random_bytes(some, count):
     """Random bytes; often at the edges, and sometimes all 0."""
     content, kind = some.randbytes(count), some.randrange(8)
-    return bytes(count) if kind == 0 else content if kind < 4 else content.translate(EDGES)
+    return bytes(count) if kind == 0 else content if kind < 4 else content.translate((EDGES * 24)[:256])
 
 
 def _number(term, bits):
@@ -62,7 +61,7 @@ class Processor:
         symbol = next(symbol for symbol in linked.symbols if re.fullmatch(function, symbol))
         self.code = Code(content, PROCESSORS, symbol, {})
         for start in sorted(linked.starts):
-            self.code.instructions[start]  # which reads them
+            self.code.instruction(start)  # which is read with those after it
         self.meanings = self.code.processor
         name = self.meanings.__name__.rpartition(".")[2]
         self.names, compiler, emulator, self.bits, self.jump, self.not_form = KINDS[name]
@@ -96,7 +95,7 @@ class Processor:
 
     def _target(self, i):
         """Where a jump goes, or 0."""
-        return next((to for to in self.meanings.follows(i) if to != i.address + i.size), 0)
+        return next((to for to in follows(i) if to != i.address + i.size), 0)
 
     def _start(self, some, memory):
         """A random state whose memory is that of the program."""

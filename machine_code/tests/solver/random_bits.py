@@ -16,7 +16,6 @@ import pathlib
 import random
 import re
 import signal
-import struct
 import subprocess
 import sys
 import tempfile
@@ -26,9 +25,9 @@ sys.path[:0] = [str(MACHINE_CODE)]
 
 from execution import proofs  # noqa: E402
 from reading import library  # noqa: E402
-from reading.image import AARCH64, X86_64  # noqa: E402
+from reading.image import AARCH64, FIXED, X86_64  # noqa: E402
 from solver.questions import Refused  # noqa: E402
-from tests.library import headers_of  # noqa: E402
+from tests.library import Elf  # noqa: E402
 
 C, SAME = MACHINE_CODE.parent / "c", pathlib.Path(__file__).with_name("same.mjs")
 # So many seconds of the processor has an answer, and what runs, which takes long by QEMU.
@@ -36,8 +35,6 @@ MOST_SECONDS, TO_RUN = 120, 3600
 # What links the test, and what runs it.
 TOOLS = {X86_64: ("cc", []), AARCH64: ("aarch64-linux-gnu-gcc", ["qemu-aarch64", "-L", "/usr/aarch64-linux-gnu"])}
 NO_ANSWER = "no answer in time"
-# Of a section: that it has content, is loaded, and is written.
-CONTENT, LOADED, WRITTEN = 1, 2, 1
 
 
 def stop(*_):
@@ -84,15 +81,16 @@ def users(content, part):
 
 def changed_library(content, some):
     """The same of a library: what has no contract is used by functions of the same kernel, or outside of kernels."""
-    sections = [header for header in headers_of(content)
-                if header[2] == CONTENT and header[3] & (LOADED | WRITTEN) == LOADED and header[6]]
-    _, _, _, _, address, offset, size, *_ = some.choices(sections, [section[6] for section in sections])[0]
-    distance, bit, image = some.randrange(size), some.randrange(8), library.whole(content)
-    place, name = max((place, name) for name, place in image.symbols.items() if place <= address + distance)
+    image, bit = library.whole(content), some.randrange(8)
+    # The first segment has what a loader reads.
+    address = some.choice([part.address + offset for part in image.segments[1:] if part.kind in FIXED
+                           for offset in range(len(part.content))])
+    place, name = max((place, name) for name, place in image.symbols.items() if place <= address)
     kind = lambda symbol: (re.search("_v[23]$", symbol) or [""])[0] or bool(re.search(r"\d_\d_\d|kernel", symbol))
     pairs = proofs.contracts_of(image)
     contracts = [pair for pair in pairs if pair[0] == name] or [pair for pair in pairs if kind(pair[0]) == kind(name)]
-    return with_bit(content, offset + distance, bit), f"{name}+{address + distance - place:#x}, bit {bit}", contracts
+    changed = with_bit(content, Elf(content).offset(address), bit)
+    return changed, f"{name}+{address - place:#x}, bit {bit}", contracts
 
 
 def reason(content, contracts):
@@ -108,14 +106,10 @@ def reason(content, contracts):
 
 def with_kernel(content, level):
     """A library in which what chooses a kernel jumps to one."""
-    symbols, content = library.read(content).symbols, bytearray(content)
-    [text] = [header for header in headers_of(content)
-              if header[4] <= symbols["const_hex_kernel_read"] < header[4] + header[6]]
-    for kernel in ("check", "fill", "read"):
-        name = f"const_hex_kernel_{kernel}"
-        place = symbols[name] - text[4] + text[5]
-        content[place : place + 5] = b"\xe9" + struct.pack("<i", symbols[name + level] - symbols[name] - 5)
-    return bytes(content)
+    symbols, file = library.read(content).symbols, Elf(content)
+    for name in ("const_hex_kernel_check", "const_hex_kernel_fill", "const_hex_kernel_read"):
+        file.put("<Bi", file.offset(symbols[name]), 0xE9, symbols[name + level] - symbols[name] - 5)
+    return bytes(file)
 
 
 def is_equal(file, content):

@@ -100,12 +100,11 @@ class TestQuestions(unittest.TestCase):
         with self.assertRaisesRegex(questions.Refused, "too many values"):
             questions.values(known, x, 1)
 
+    @mock.patch.object(questions, "LIMIT", 1000)
     def test_a_limit_is_a_no(self):
         """2^61 - 1 is a prime, which takes long to see."""
         x, y = z3.BitVecs("i_test_x i_test_y", 64)
         known = [fact for n in (x, y) for fact in questions.facts_of(z3.And(z3.UGT(n, 1), z3.ULT(n, 1 << 32)))]
-        old, questions.LIMIT = questions.LIMIT, 1000
-        self.addCleanup(setattr, questions, "LIMIT", old)
         self.assertFalse(questions.holds(known, x * y != (1 << 61) - 1))
 
     def test_one_name_for_two_constants(self):

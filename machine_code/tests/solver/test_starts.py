@@ -3,7 +3,6 @@
 import ctypes
 import functools
 import random
-import subprocess
 import tempfile
 import unittest
 
@@ -15,7 +14,7 @@ from execution.code import Code
 from execution.proofs import PROCESSORS
 from execution.state import byte
 from programs import edited
-from tests.library import ASM
+from tests.library import shared
 
 CALLS = {contract.function: contract for contract in reversed(FUNCTIONS)}
 
@@ -24,13 +23,6 @@ CALLS = {contract.function: contract for contract in reversed(FUNCTIONS)}
 def starts(call):
     code = Code(edited("functions_x86_64", call, "", ""), PROCESSORS, CALLS[call].symbol, {})
     return CALLS[call].starts(code)
-
-
-def library():
-    with tempfile.TemporaryDirectory() as folder:
-        command = ["cc", "-shared", f"-I{ASM}", "-o", f"{folder}/const_hex.so", *ASM.glob("*.S")]
-        subprocess.run(command, check=True)
-        return ctypes.CDLL(f"{folder}/const_hex.so")
 
 
 def is_start(state, text, decoder):
@@ -50,7 +42,11 @@ def is_start(state, text, decoder):
 class TestStarts(unittest.TestCase):
     @classmethod
     def setUpClass(cls):
-        cls.library, cls.some = library(), random.Random(1)
+        cls.some = random.Random(1)
+        with tempfile.NamedTemporaryFile() as file:
+            file.write(shared())
+            file.flush()
+            cls.library = ctypes.CDLL(file.name)
 
     def text(self):
         start = self.some.choice(["", "0", "0x", "0X", "x", "00", "0x0x"])

@@ -26,7 +26,6 @@ FOLDER = pathlib.Path(__file__).resolve().parent
 sys.path[:0] = [str(FOLDER), str(FOLDER.parents[1])]
 
 import test_meanings  # noqa: E402
-from execution.code import Instructions  # noqa: E402
 from solver.questions import Refused  # noqa: E402
 import test_webassembly  # noqa: E402
 
@@ -37,10 +36,9 @@ FILES = {"lanes": (*OF_X86_64, *OF_AARCH64, "webassembly"), "x86_64": OF_X86_64,
          "webassembly": ("webassembly",)}
 # What is no meaning of an instruction that runs alone: programs of test_wrong.py show it, and test_starts.py the calls.
 # What follows the first ALL does not belong to the module, where Node compares it.
-ELSEWHERE = ("instructions", "_text_to_assemble", "_is_nop", "follows", "_is_jump", "_is_target", "_is_page", "enter",
-             "return_address", "returned", "_lay_out", "_is_alone", "_place", "call", "ret", "jump", "cpuid", "xgetbv",
-             "reported")
-ALL = 13
+ELSEWHERE = ("instructions", "_text_to_assemble", "_is_nop", "_is_jump", "_is_page", "enter", "return_address",
+             "returned", "_lay_out", "_is_alone", "_place", "call", "ret", "jump", "cpuid", "xgetbv", "reported")
+ALL = 11
 # How functions are called, what is read of an object, and which instructions a CPU has.
 CONSTANTS = "State", "MEMORY", "ENDS", "V2", "LEVELS", "NOPS"
 TURNED = {ast.Add: ast.Sub, ast.Sub: ast.Add, ast.Mult: ast.Add, ast.BitAnd: ast.BitOr, ast.BitOr: ast.BitAnd,
@@ -62,11 +60,10 @@ REASONS = {
         "x86_64 State.number: 8 -> 9 (2)", "webassembly : z3.LShR -> lambda a, by: a >> by",
         # which node.py alone reads
         "webassembly computes: handler.takes = takes -> pass",
-        "aarch64 narrow: z3.LShR -> lambda a, by: a >> by",
         "aarch64 _operands: 1 -> 2", "webassembly State.exact: cut.eq(term) or self.fits(term) -> "
                                      "cut.eq(term) and self.fits(term)",
         # whose result is not kept
-        "aarch64 HANDLERS.tst: AND -> OR", "aarch64 HANDLERS.cmn: ADD -> SUBTRACT",
+        "aarch64 HANDLERS.cmn: ADD -> SUBTRACT",
         *[f"{processor} HANDLERS.cmp: SUBTRACT -> ADD" for processor in ("aarch64", "x86_64")],
         *[f"lanes saturated: {change}" for change in (
             "0 -> 1 (2)", "number < 0 -> number <= 0", "number > 255 -> number >= 255")],
@@ -269,9 +266,9 @@ class Compared:
         if self.name == "webassembly":
             return self.runner.read(meanings)
         code = copy.copy(self.runner.code)
-        code.processor, code.instructions = meanings, Instructions(code._read)
+        code.processor, code.instructions = meanings, {}
         for start in code.object.starts:
-            code.instructions[start]  # which reads them
+            code.instruction(start)
         return code
 
     def notices(self, modules, file, place, said):

@@ -56,6 +56,8 @@ WRONG = [
     ("check", "an error on success", "mov al,0x1", "mov DWORD PTR [r15],0; mov al,0x1", "error is changed"),
     ("check", "a search in any text", "je 6f", "jmp 6f", "how long a call takes"),
     ("check", "a search in a greater text", "mov rdx,rbx", "or rdx,-1", LENGTH),
+    ("check", "a search that leaves out the last character", "mov rdx,rbx",
+     "mov rdx,rbx; cmp rdx,6; jb 99f; dec rdx; 99:", "error is wrong at 4"),
     ("check", "a search in the stack", "mov rsi,r14; mov rdx,rbx", "mov rsi,rsp; mov edx,1",
      "a search in what is no input"),
     ("check", "a part of an entry", "movsxd rdx,DWORD PTR [rcx+rax*4]", "movzx edx,BYTE PTR [rcx+rax*4]",

@@ -63,9 +63,6 @@ WRONG = [
     ("no place where data end", {'"__data_end"': '"__other"'}, LAYOUT),
     ("no place of the caller's", {'"__heap_base"': '"__other"'}, LAYOUT),
     ("a place beyond the memory", {"(i32.const 4800)": "(i32.const 65537)"}, LAYOUT),
-    ("a table", {"part": "(table 1 funcref)"}, r"not known here: \(table"),
-    ("a global that the engine may change", {"part": '(export "__stack_pointer" (global 0))'},
-     "__stack_pointer, which the engine may change"),
     ("another type", {"(param i32 i32)": "(param i32 i64)", "local.get 1": "local.get 1 i32.wrap_i64",
                       "local.tee 1": "local.set 2 local.get 2"}, "a function of another type"),
 ]
