@@ -116,40 +116,29 @@ class CheckRaw(CheckKernel):
 
 
 class Search(Function):
-    """A search for the first character that is no digit, which tells its kind, the character and its index; or, if all
-    are digits, 0 and the length."""
+    """A search for the first character that is no digit."""
 
     is_called = is_local = may_leak = True
     requires = z3.ULT(N, 1 << 63),
 
-    def outcome(self, state, index, character):
-        """What is found, as numbers. In the module an error has no kind of its own."""
-        kind = [z3.BitVecVal(FOUND, 32)] if state.WORD == 8 else []
-        return [*kind, z3.ZeroExt(24, character), in_size_t(state, index)]
-
-    def leave(self, state, address, numbers, size):
-        """What comes after these numbers in so many bytes may be anything."""
-        lane = [part for number in numbers for part in split(number)]
-        state.store(address, lane + [fresh("g", 8) for _ in range(size - len(lane))])
-
 
 class FirstInvalid(Search):
-    """find_invalid_character(result, text, length): a text of less than 4 characters has no prefix."""
+    """locate_invalid(text, length): the index of the first invalid character, or the length if there is none."""
 
-    symbol, function, name = "const_hex_body_find_invalid_character", "find_invalid_character", "any text"
-    regions, arguments = (Region("result", word(16)), TEXT), (base("result"), base("input"), N)
+    symbol, function, name = "const_hex_body_locate_invalid", "locate_invalid", "any text"
+    regions, arguments = (TEXT,), (base("input"), N)
 
     def cases(self, state):
-        return with_prefix_or_without(state, least=4)
+        return with_prefix_or_without(state)
 
     def returns(self, state):
-        must_have(state, "result", *self.outcome(state, *first_invalid(state)))
+        index, _ = first_invalid(state)
+        state.must(state.result(8 * state.WORD) == in_size_t(state, index), "another index")
 
-    def called(self, state, result, input, n):
-        for way, first in by_prefix(state, offset_in(state, "input", input), n, least=4):
-            for other, *invalid in first_invalid_from(way, input, first, n):
-                self.leave(other, result, self.outcome(other, *invalid), 16)
-                yield other, None
+    def called(self, state, input, n):
+        for way, first in by_prefix(state, offset_in(state, "input", input), n):
+            for other, index, _ in first_invalid_from(way, input, first, n):
+                yield other, index
 
 
 class Text(Exported):
@@ -365,9 +354,10 @@ class DecoderFail(Search):
         return [with_decoder(state)]
 
     def outcomes(self, state, position, before, index, character):
-        """What is found, and what the decoder keeps."""
-        index = moved(state, moved(state, position, before), index)
-        return self.outcome(state, index, character), [in_size_t(state, index), character, byte(FAILED)]
+        """What is found, and what the decoder keeps. In the module an error has no kind of its own."""
+        kind = [z3.BitVecVal(FOUND, 32)] if state.WORD == 8 else []
+        index = in_size_t(state, moved(state, moved(state, position, before), index))
+        return [*kind, z3.ZeroExt(24, character), index], [index, character, byte(FAILED)]
 
     def returns(self, state):
         outcomes = self.outcomes(state, decoder_of(state)[0], self.before, *first_invalid(state))
@@ -379,7 +369,9 @@ class DecoderFail(Search):
         position = simple(z3.ZeroExt(64 - 8 * state.WORD, joined(state.load(decoder, state.WORD))))
         for way, *invalid in first_invalid_from(state, input, 0, n):
             for address, numbers in zip((result, decoder), self.outcomes(way, position, before, *invalid)):
-                self.leave(way, address, numbers, 2 * way.WORD)
+                # What comes after these numbers may be anything.
+                lane = [part for number in numbers for part in split(number)]
+                way.store(address, lane + [fresh("g", 8) for _ in range(2 * way.WORD - len(lane))])
             yield way, None
 
 

@@ -46,11 +46,7 @@ pub(crate) const fn are_digits(first: u8, second: u8) -> bool {
 #[inline(always)]
 pub(crate) const fn find_invalid_character(text: &[u8]) -> FromHexError {
     let index = locate_invalid(text);
-    let byte = if index < text.len() {
-        text[index]
-    } else {
-        0
-    };
+    let byte = if index < text.len() { text[index] } else { 0 };
     invalid_character(byte, index)
 }
 
