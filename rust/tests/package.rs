@@ -1,65 +1,11 @@
-//! What is promised of the package itself: its features and dependencies, and where `unsafe` stands.
-#![cfg(all(feature = "std", feature = "serde", not(target_family = "wasm")))]
+//! What is promised of the package itself: what its examples name, and where `unsafe` stands.
+#![cfg(not(target_family = "wasm"))]
 
-use serde_json::{json, Value};
 use std::collections::BTreeMap;
 use std::fs;
 use std::path::{Path, PathBuf};
-use std::process::Command;
 
 const FOLDER: &str = env!("CARGO_MANIFEST_DIR");
-
-/// The packages of the workspace in that folder, as cargo reads their manifests.
-fn packages(folder: &str) -> BTreeMap<String, Value> {
-    let output = Command::new(env!("CARGO"))
-        .args(["metadata", "--no-deps", "--offline", "--format-version", "1"])
-        .current_dir(Path::new(FOLDER).join(folder))
-        .output()
-        .unwrap();
-    let metadata: Value = serde_json::from_slice(&output.stdout).unwrap();
-    let packages = metadata["packages"].as_array().unwrap().iter();
-    packages
-        .map(|package| (package["name"].as_str().unwrap().to_string(), package.clone()))
-        .collect()
-}
-
-/// The names of the dependencies of users, and whether each brings its default features.
-fn dependencies(package: &Value) -> Vec<(&str, bool)> {
-    let all = package["dependencies"].as_array().unwrap().iter();
-    all.filter(|dependency| dependency["kind"].is_null())
-        .map(|dependency| {
-            assert_eq!(dependency["features"], json!([]));
-            let has_defaults = dependency["uses_default_features"].as_bool();
-            (dependency["name"].as_str().unwrap(), has_defaults.unwrap())
-        })
-        .collect()
-}
-
-#[test]
-fn manifests() {
-    let mut packages = packages("");
-    packages.extend(self::packages("hexfilter"));
-    let ours = &packages["const-hex-proved"];
-    assert_eq!(dependencies(ours), [("serde", false)]);
-    assert_eq!(ours["version"], "1.0.0");
-    let features = json!({
-        "default": ["std"], "alloc": ["serde?/alloc"], "std": ["alloc"], "serde": ["dep:serde"],
-        "core-error": [], "force-generic": [],
-    });
-    assert_eq!(ours["features"], features);
-    for (name, version) in [("const-hex", "1.99.0"), ("hex", "0.4.99")] {
-        let package = &packages[name];
-        assert_eq!(dependencies(package), [("const-hex-proved", false)]);
-        assert_eq!(package["version"], version);
-        let features = &package["features"];
-        assert_eq!(features["default"], json!(["std"]));
-        assert_eq!(features["std"], json!(["alloc", "const-hex-proved/std"]));
-        assert_eq!(features["alloc"], json!(["const-hex-proved/alloc"]));
-        assert_eq!(features["serde"], json!(["const-hex-proved/serde"]));
-    }
-    assert_eq!(dependencies(&packages["hexfilter"]), [("const-hex-proved", false)]);
-    assert!(packages.values().all(|package| package["rust_version"] == "1.63"));
-}
 
 /// The files of a folder and of all in it.
 fn files(folder: &Path) -> Vec<PathBuf> {
