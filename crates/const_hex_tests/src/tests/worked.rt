@@ -6,9 +6,9 @@ ghost use Rattle.const_hex.specs.Texts.{text_length};
 
 use const_hex::FromHexError::{InvalidStringLength, OddLength};
 use const_hex::{
-    Buffer, BytesToHexChars, FromHex, FromHexError, check, check_raw, const_check,
-    const_check_raw, const_decode_to_array, const_encode, decode_to_array, decode_to_slice,
-    encode_to_slice, encode_to_slice_upper, encode_to_str, encode_to_str_upper,
+    Buffer, BytesToHexChars, FromHex, FromHexError, check, check_raw, const_check, const_check_raw,
+    const_decode_to_array, const_encode, decode_to_array, decode_to_slice, encode_to_slice,
+    encode_to_slice_upper, encode_to_str, encode_to_str_upper,
 };
 use const_hex_testing::texts::{invalid, make_bytes, print};
 use const_hex_testing::{Testing, Text, same, same_bytes, same_read};
@@ -133,9 +133,15 @@ fn buffers(rt: HostRuntime) {
     let bytes = make_bytes(rt.alloc(), 128).expect(&rt, "memory");
     let (digits, full) = (Buffer::<1, false, 2>::new(), Buffer::<1, true, 4>::new());
     formats(&rt, &bytes, digits, full);
-    let (digits, full) = (Buffer::<32, false, 64>::new(), Buffer::<32, true, 66>::new());
+    let (digits, full) = (
+        Buffer::<32, false, 64>::new(),
+        Buffer::<32, true, 66>::new(),
+    );
     formats(&rt, &bytes, digits, full);
-    let (digits, full) = (Buffer::<128, false, 256>::new(), Buffer::<128, true, 258>::new());
+    let (digits, full) = (
+        Buffer::<128, false, 256>::new(),
+        Buffer::<128, true, 258>::new(),
+    );
     formats(&rt, &bytes, digits, full);
 }
 
