@@ -13,10 +13,9 @@ set(CPACK_PACKAGE_FILE_NAME ${RELEASE})
 set(CPACK_PACKAGE_CHECKSUM SHA256)
 set(CPACK_INSTALL_CMAKE_PROJECTS ${PROJECT_BINARY_DIR} const_hex ALL / ${PROJECT_BINARY_DIR} const_hex archive /)
 set(CPACK_VERBATIM_VARIABLES ON)
-# `cpack -G DEB` makes a Debian package of what is installed, with its copyright and changelog as Debian wants them. It is
-# for a build with the prefix /usr. What lintian still says has reasons: the library is not stripped, since
-# `machine_code/prove` finds its functions by names; it needs no other, not even that of C; and one package has the
-# library, its link and its header, so it is not named after the library's version.
+# `cpack -G DEB` makes a Debian package of what is installed. It is for a build with the prefix /usr. The library is not
+# stripped, since `machine_code/prove` finds its functions by names; it needs no other, not even that of C; and one
+# package has the library, its link and its header, so it is not named after the library's version.
 set(CPACK_PROJECT_CONFIG_FILE ${PROJECT_SOURCE_DIR}/cmake/debian.cmake)
 set(CPACK_DEBIAN_PACKAGE_NAME libconst-hex-dev)
 # PUBLISHER: write the address here to which users of the package write.
@@ -37,32 +36,8 @@ file(WRITE ${PROJECT_BINARY_DIR}/shlibs "libconst_hex ${PROJECT_VERSION_MAJOR} l
 set(CPACK_DEBIAN_PACKAGE_CONTROL_EXTRA ${PROJECT_BINARY_DIR}/triggers ${PROJECT_BINARY_DIR}/shlibs)
 set(CPACK_DEBIAN_FILE_NAME DEB-DEFAULT)
 file(READ ../LICENSE-MIT text)
-string(REGEX REPLACE ".*Copyright .c. ([^\n]*).*" "\\1" copyright "${text}")
-string(REPLACE "\n\n" "\n.\n" text "${text}")
-string(REGEX REPLACE "\n([^\n])" "\n \\1" text "${text}")
-file(WRITE ${PROJECT_BINARY_DIR}/copyright "Format: https://www.debian.org/doc/packaging-manuals/copyright-format/1.0/
-
-Files: *
-Copyright: ${copyright}
-License: Expat or Apache-2.0
-
-License: Expat
- ${text}
-License: Apache-2.0
- The text of this licence is in /usr/share/common-licenses/Apache-2.0.
-")
-file(READ ../CHANGELOG.md text)
-string(REGEX MATCH "\n## ${PROJECT_VERSION}\n\n([^#]*)" text "${text}")
-string(REGEX REPLACE "(^|\n)- " "\\1  * " text "${CMAKE_MATCH_1}")
-file(WRITE ${PROJECT_BINARY_DIR}/changelog "${text}")
-execute_process(COMMAND fold -s -w 76 ${PROJECT_BINARY_DIR}/changelog COMMAND sed "s/^[^ ]/    &/" OUTPUT_VARIABLE text)
-string(TIMESTAMP date "%a, %d %b %Y %H:%M:%S +0000" UTC)
-file(WRITE ${PROJECT_BINARY_DIR}/changelog "libconst-hex-dev (${PROJECT_VERSION}) unstable; urgency=medium
-
-${text}
- -- ${CPACK_DEBIAN_PACKAGE_MAINTAINER}  ${date}
-")
-execute_process(COMMAND gzip -9nf changelog WORKING_DIRECTORY ${PROJECT_BINARY_DIR})
-install(FILES ${PROJECT_BINARY_DIR}/copyright ${PROJECT_BINARY_DIR}/changelog.gz ../NOTICE
-  DESTINATION share/doc/libconst-hex-dev COMPONENT debian EXCLUDE_FROM_ALL)
+file(WRITE ${PROJECT_BINARY_DIR}/copyright
+  "MIT, as below, or Apache 2.0, whose text is in /usr/share/common-licenses/Apache-2.0.\n\n${text}")
+install(FILES ${PROJECT_BINARY_DIR}/copyright ../NOTICE DESTINATION share/doc/libconst-hex-dev
+  COMPONENT debian EXCLUDE_FROM_ALL)
 include(CPack)

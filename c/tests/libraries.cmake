@@ -16,16 +16,6 @@ test(library.exports COMMAND sh -c
 if(NOT CONST_HEX_CARGO)
   test(library.archive_names COMMAND ${CMAKE_NM} -g --defined-only $<TARGET_FILE:const_hex_static> PROPERTIES
     PASS_REGULAR_EXPRESSION " T const_hex_decode\n" FAIL_REGULAR_EXPRESSION " [A-Z] (c[^o]|[^c])")
-  # It needs no other library, not even that of C.
-  test(library.archive_is_alone COMMAND ${CMAKE_NM} -u $<TARGET_FILE:const_hex_static> PROPERTIES
-    PASS_REGULAR_EXPRESSION const_hex_decode FAIL_REGULAR_EXPRESSION " U (c[^o]|[^c])")
-  # The shared library runs with every glibc, since it needs no version of its symbols.
-  test(library.needs_no_version_of_glibc COMMAND ${CMAKE_READELF} -W --dyn-syms ${SHARED} PROPERTIES
-    PASS_REGULAR_EXPRESSION const_hex_decode FAIL_REGULAR_EXPRESSION GLIBC_)
-  # What a program can write is the byte in which the dispatcher keeps what the CPU has answered.
-  test(library.variables COMMAND sh -c "'${CMAKE_NM}' '$<TARGET_FILE:const_hex_static>' > variables &&
-    grep -q ' T const_hex_decode$' variables || exit
-    grep -i ' [bcdgs] ' variables | grep -v ' b choice$'; test $? -eq 1")
   # Each kernel works on whole vectors. A loop over bytes would return the same.
   foreach(row "kernel_x86_64_v2=pshufb.*xmm" "kernel_x86_64_v3=vpshufb.*ymm" "kernel_aarch64=[.]16b")
     string(REGEX MATCH "^(.*)=(.*)" row "${row}")

@@ -43,16 +43,7 @@ impl Random {
     }
 }
 
-/// What `hex` returns for the text without its prefix, as this package has it: with a position in the text.
-fn by_hex<'a, T>(
-    text: &'a [u8],
-    call: impl FnOnce(&'a [u8]) -> Result<T, hex::FromHexError>,
-) -> Result<T, proved::FromHexError> {
-    let prefix = 2 * usize::from(text.starts_with(b"0x") || text.starts_with(b"0X"));
-    in_text(prefix, call(&text[prefix..]))
-}
-
-/// A result of `hex` for what follows so many bytes of a text.
+/// A result of `hex` for what follows so many bytes of a text, as this package has it: with a position in the text.
 fn in_text<T>(prefix: usize, result: Result<T, hex::FromHexError>) -> Result<T, proved::FromHexError> {
     result.map_err(|error| match error {
         hex::FromHexError::OddLength => OddLength,
@@ -62,6 +53,21 @@ fn in_text<T>(prefix: usize, result: Result<T, hex::FromHexError>) -> Result<T, 
             index: index + prefix,
         },
     })
+}
+
+type Decode = fn(&[u8], &mut [u8]) -> Result<(), proved::FromHexError>;
+
+/// Compares a function that decodes into a slice. After an invalid character each leaves what it has decoded so far.
+fn same_slices(decode: Decode, prefix: usize, text: &[u8], other: usize) {
+    for length in [text.len() / 2, text.len().saturating_sub(2) / 2, other] {
+        let (mut ours, mut theirs) = (vec![0xEE; length], vec![0xEE; length]);
+        let decoded = decode(text, &mut ours);
+        let wanted = hex::decode_to_slice(&text[prefix..], &mut theirs);
+        assert_eq!(decoded, in_text(prefix, wanted));
+        if !matches!(decoded, Err(InvalidHexCharacter { .. })) {
+            assert_eq!(ours, theirs);
+        }
+    }
 }
 
 #[test]
@@ -88,26 +94,19 @@ fn decoding() {
     let mut random = Random(88172645463325252);
     for _ in 0..20_000 {
         let text = random.text();
-        let bytes = by_hex(&text, hex::decode::<&[u8]>);
+        let prefix = 2 * usize::from(text.starts_with(b"0x") || text.starts_with(b"0X"));
+        let result = hex::decode(&text[prefix..]);
+        let bytes = in_text(prefix, result.clone());
         assert_eq!(proved::decode(&text), bytes);
         assert_eq!(proved::FromHex::from_hex(&text), bytes);
         assert_eq!(proved::check(&text), bytes.clone().map(drop));
-        if let (false, Err(error)) = (text.starts_with(b"0"), hex::decode(&text)) {
+        if let (0, Err(error), Err(ours)) = (prefix, result, bytes) {
             let error = error.to_string();
             let (first, rest) = error.split_at(1);
-            let message = first.to_lowercase() + rest;
-            assert_eq!(proved::decode(&text).unwrap_err().to_string(), message);
+            assert_eq!(ours.to_string(), first.to_lowercase() + rest);
         }
-        for length in [text.len() / 2, text.len().saturating_sub(2) / 2, random.below(200)] {
-            let (mut ours, mut theirs) = (vec![0xEE; length], vec![0xEE; length]);
-            let decoded = proved::decode_to_slice(&text, &mut ours);
-            let wanted = by_hex(&text, |text| hex::decode_to_slice(text, &mut theirs));
-            assert_eq!(decoded, wanted);
-            // After an invalid character each leaves what it has decoded so far.
-            if !matches!(decoded, Err(InvalidHexCharacter { .. })) {
-                assert_eq!(ours, theirs);
-            }
-        }
+        let decode: Decode = |text, output| proved::decode_to_slice(text, output);
+        same_slices(decode, prefix, &text, random.below(200));
     }
 }
 
@@ -125,14 +124,7 @@ fn strict_decoding() {
         let array = in_text(0, <[u8; 4] as hex::FromHex>::from_hex(&text));
         assert_eq!(strict::decode_to_array(&text), array);
         assert_eq!(strict::FromHex::from_hex(&text), array);
-        for length in [text.len() / 2, text.len().saturating_sub(2) / 2] {
-            let (mut ours, mut theirs) = (vec![0xEE; length], vec![0xEE; length]);
-            let decoded = strict::decode_to_slice(&text, &mut ours);
-            let wanted = in_text(0, hex::decode_to_slice(&text, &mut theirs));
-            assert_eq!(decoded, wanted);
-            if !matches!(decoded, Err(InvalidHexCharacter { .. })) {
-                assert_eq!(ours, theirs);
-            }
-        }
+        let decode: Decode = |text, output| strict::decode_to_slice(text, output);
+        same_slices(decode, 0, &text, random.below(200));
     }
 }

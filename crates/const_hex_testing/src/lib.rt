@@ -1,9 +1,8 @@
 //! What all crates of tests share: a row that prints the call, the expected and the actual result; what the
-//! standard library prints for bytes; readers, writers and sinks that count or note their calls and fail at
+//! standard library prints for bytes; readers, writers and a sink that count or note their calls and fail at
 //! one of them; the kernels.
 #![tactic(auto)]
 
-mod counting;
 mod devices;
 mod formatted;
 mod kernels;
@@ -12,8 +11,7 @@ mod rows;
 pub mod steps;
 pub mod texts;
 
-pub use crate::counting::Counting;
-pub use crate::devices::{Endless, InjectedFault, Source, Target};
+pub use crate::devices::{InjectedFault, Source, Target};
 pub use crate::formatted::InHex;
 pub use crate::kernels::{KernelCase, all_done};
 pub use crate::noting::Noting;

@@ -12,10 +12,6 @@ const WRAPPED_ETHER: &[u8; 42] = b"0xC02aaA39b223FE8D0A0e5C4F27eAD9083C756Cc2";
 const TRANSFER: &[u8; 66] = b"0xddf252ad1be2c89b69c2b068fc378daa952ba7f163c4a11628f55a4df523b3ef";
 
 /// The address as bytes.
-///
-/// ```rust
-/// assert_eq!(rt; wrapped_ether()[0], 0xC0);
-/// ```
 pub fn wrapped_ether() -> [u8; 20]
     ensures { ReadsSized WRAPPED_ETHER.now 20 (Ok result) }
 {
@@ -23,10 +19,6 @@ pub fn wrapped_ether() -> [u8; 20]
 }
 
 /// The hash as bytes, by a call that returns an error for another text.
-///
-/// ```rust
-/// assert_eq!(rt; transfer()[0], 0xDD);
-/// ```
 pub fn transfer() -> [u8; 32]
     ensures { ReadsSized TRANSFER.now 32 (Ok result) }
 {

@@ -10,12 +10,6 @@ use const_hex::WriteSink;
 use std::io::{self, ErrorKind, Write};
 
 /// Writes the text of some bytes. Returns the writer's error if it fails.
-///
-/// ```rust
-/// let mut file = Vec::new(rt.alloc());
-/// write_text(b"kiwi", &mut file)?;
-/// assert_eq!(rt; file.as_slice(), b"0x6b697769".as_slice());
-/// ```
 pub fn write_text<W: Write>(bytes: &[u8], writer: &mut W) -> io::Result<()>
     ensures ok { OnOk result
         (Appends (W.contents writer.old) (W.contents writer.new) (full_text true false bytes.now)) }
@@ -30,12 +24,6 @@ pub fn write_text<W: Write>(bytes: &[u8], writer: &mut W) -> io::Result<()>
 }
 
 /// Writes the text of some bytes and a newline. Returns the writer's error if it fails.
-///
-/// ```rust
-/// let mut file = Vec::new(rt.alloc());
-/// write_line(b"kiwi", &mut file)?;
-/// assert_eq!(rt; file.as_slice(), b"0x6b697769\n".as_slice());
-/// ```
 pub fn write_line<W: Write>(bytes: &[u8], writer: &mut W) -> io::Result<()>
     ensures { OnOk result (Appends (W.contents writer.old) (W.contents writer.new)
         (full_text true false bytes.now ++ 10 ∷ [])) }

@@ -16,10 +16,6 @@ use std::rc::Rc;
 
 /// Reads a text. A value has the bytes that the text decodes to. Unless an allocation failed, an error
 /// means that the text cannot be decoded, or that its number of bytes does not fit.
-///
-/// ```rust
-/// assert_eq!(rt; read::<[u8; 2]>(rt.alloc(), b"0xff80")?, [0xff, 0x80]);
-/// ```
 pub fn read<T: FromHex>(alloc: Global, text: &[u8]) -> Result<T, T::Error>
     ensures bytes { IfOk result (λ v. Reads text.now (Ok (T.bytes v))) }
     ensures fits { IfOk result (λ v. T.fits (length (T.bytes v))) }
@@ -31,11 +27,6 @@ pub fn read<T: FromHex>(alloc: Global, text: &[u8]) -> Result<T, T::Error>
 
 /// Reads two texts. Each value has the bytes that its text decodes to. The values have the same bytes
 /// if and only if the texts differ only in prefix and case.
-///
-/// ```rust
-/// let (one, two) = read_both::<[u8; 2]>(rt.alloc(), b"0xff80", b"FF80")?;
-/// assert_eq!(rt; one, two);
-/// ```
 #[tactic(auto, using(const_hex::proofs::lemmas::Lowering::read_back))]
 pub fn read_both<T: FromHex + Drop>(
     alloc: Global,
@@ -62,10 +53,6 @@ pub fn read_both<T: FromHex + Drop>(
 
 /// The bytes that a text decodes to, in a shared pointer. An odd length is reported as such even if an
 /// allocation would fail.
-///
-/// ```rust
-/// assert_eq!(rt; read_shared(rt.alloc(), b"0x6b69")?.as_slice(), b"ki".as_slice());
-/// ```
 pub fn read_shared(alloc: Global, text: &[u8]) -> Result<Rc<Vec<u8>>, FromHexError>
     ensures bytes { IfOk result (λ shared. Reads text.now (Ok shared.value.items)) }
     ensures odd { IsOdd (length text.now) → result ≡ Err OddLength }
@@ -76,10 +63,6 @@ pub fn read_shared(alloc: Global, text: &[u8]) -> Result<Rc<Vec<u8>>, FromHexErr
 /// Whether two texts name the same account. Their prefixes and their case make no difference.
 ///
 /// Returns an error if one of the texts is not an address. Does not allocate.
-///
-/// ```rust
-/// assert!(rt; is_same_account(rt.alloc(), &[b'a'; 40], &[b'A'; 40])?);
-/// ```
 pub fn is_same_account(alloc: Global, first: &[u8], second: &[u8]) -> Result<bool, FromHexError>
     ensures same { IfOk result (λ same. IsTrue same
         ↔ (lowered (body_of first.now) ≡ lowered (body_of second.now))) }
@@ -94,12 +77,6 @@ pub fn is_same_account(alloc: Global, first: &[u8], second: &[u8]) -> Result<boo
 /// Replaces a key by the 32 bytes that a text decodes to. If the number of digits is odd, or there is
 /// another number of them, the key is unchanged. After an invalid character it begins with the bytes
 /// that were decoded before it, if any, and the rest of the key is unchanged.
-///
-/// ```rust
-/// let mut key = [0; 32];
-/// replace_key(&mut key, &[b'a'; 64])?;
-/// assert_eq!(rt; key, [0xAA; 32]);
-/// ```
 #[tactic(auto, using(crate::proofs::lemmas::Keys::kept_behind_a_front))]
 pub fn replace_key(key: &mut [u8; 32], text: &[u8]) -> Result<(), FromHexError>
     ensures replaced { IfOk result (λ _. ReadsSized text.now 32 (Ok key.new)) }
@@ -113,12 +90,6 @@ pub fn replace_key(key: &mut [u8; 32], text: &[u8]) -> Result<(), FromHexError>
 }
 
 /// Replaces a key as [`replace_key`] does, but after any error the key is unchanged.
-///
-/// ```rust
-/// let mut key = [0; 32];
-/// assert!(rt; replace_whole_key(&mut key, &[b'z'; 64]).is_err());
-/// assert_eq!(rt; key, [0; 32]);
-/// ```
 pub fn replace_whole_key(key: &mut [u8; 32], text: &[u8]) -> Result<(), FromHexError>
     ensures replaced { IfOk result (λ _. ReadsSized text.now 32 (Ok key.new)) }
     ensures kept { OnErr result (key.new ≡ key.old) }
@@ -128,12 +99,6 @@ pub fn replace_whole_key(key: &mut [u8; 32], text: &[u8]) -> Result<(), FromHexE
 
 /// Reads a salt of at most 64 bytes, and returns its number of bytes. An odd number of digits is
 /// always reported as such, also if there are more than 128.
-///
-/// ```rust
-/// let mut salt = [0; 64];
-/// assert_eq!(rt; read_salt(b"0x6b69", &mut salt), Ok(2));
-/// assert_eq!(rt; read_salt(&[b'a'; 131], &mut salt), Err(FromHexError::OddLength));
-/// ```
 pub fn read_salt(text: &[u8], salt: &mut [u8; 64]) -> Result<usize, FromHexError>
     ensures read { IfOk result (λ n. Reads text.now (Ok (take n salt.new))) }
     ensures odd { (result ≡ Err OddLength) ↔ IsOdd (length text.now) }

@@ -1,6 +1,6 @@
 //! A text for any sink, and its pieces.
 
-ghost use Rattle.std.specs.Prelude.{◌≡◌, ◌≤◌, ◌++◌, List, ℕ, Some, true, false, is_ok, length, IfOk, OnOk};
+ghost use Rattle.std.specs.Prelude.{◌≡◌, ◌≤◌, ◌++◌, List, ℕ, Some, true, false, length, IfOk, OnOk};
 ghost use Rattle.std.specs.List.{All, concat};
 ghost use Rattle.const_hex.specs.Sinks.{Cut};
 ghost use Rattle.const_hex.specs.Texts.{full_text};
@@ -12,10 +12,6 @@ use std::alloc::Global;
 /// The text of some bytes, with `0x`, in pieces of at most 4096 bytes, as for a network.
 ///
 /// Returns an error if there is too little memory.
-///
-/// ```rust
-/// assert_eq!(rt; packets(rt.alloc(), &[0xAB; 5000])?.pieces().len(), 3);
-/// ```
 pub fn packets(alloc: Global, bytes: &[u8]) -> Result<PieceSink, SinkError>
     ensures cut { IfOk result (λ sink. Cut (full_text true false bytes.now) sink.pieces) }
     ensures sizes { IfOk result
@@ -28,12 +24,6 @@ pub fn packets(alloc: Global, bytes: &[u8]) -> Result<PieceSink, SinkError>
 
 /// Sends the text of a JSON string, with `0x`, to a sink that has not failed so far. If the sink reports
 /// its pieces and accepts all, the new ones are together the text.
-///
-/// ```rust
-/// let mut sink = PieceSink::new(rt.alloc(), 0);
-/// send_json(b"kiwi", &mut sink)?;
-/// assert_eq!(rt; sink.pieces()[0].as_str(), "0x6b697769");
-/// ```
 pub fn send_json<S: Sink>(bytes: &[u8], sink: &mut S) -> Result<(), SinkError>
     requires { S.is_refused sink.old ≡ false }
     ensures { (reported : List (List ℕ)) → S.reported sink.old ≡ Some reported → OnOk result
@@ -41,17 +31,4 @@ pub fn send_json<S: Sink>(bytes: &[u8], sink: &mut S) -> Result<(), SinkError>
         × (S.reported sink.new ≡ Some (reported ++ pieces))) }
 {
     serialize_inner::<false, true, S>(bytes, sink)
-}
-
-/// Sends the text of a key to a sink that refuses its first call. So a test sees what a program does if
-/// the network is gone. Always returns an error.
-///
-/// ```rust
-/// assert!(rt; refused_key(rt.alloc(), &[0xAB; 32]).is_err());
-/// ```
-pub fn refused_key(alloc: Global, key: &[u8; 32]) -> Result<(), SinkError>
-    ensures { is_ok result ≡ false }
-{
-    let mut sink = PieceSink::new(alloc, 1);
-    serialize_inner::<false, true, PieceSink>(key, &mut sink)
 }

@@ -67,7 +67,7 @@ fn ask_printed(line: &mut Line<'_>, full: &str, full_upper: &str) {
     let (alloc, bytes) = (line.alloc, display(line.input));
     line.gives("{}", format!(in alloc; "{bytes}"), line.result);
     line.gives("{:*>#999}", format!(in alloc; "{bytes:*>#999}"), full);
-    let upper = InHex::<true>(line.input);
+    let upper = InHex(line.input);
     line.gives("{:#X}", format!(in alloc; "{upper:#}"), full_upper);
 }
 

@@ -2,53 +2,34 @@
 
 use const_hex::{Decoder, FromHex, FromHexError, JsonError, PieceSink, SliceOutput};
 use const_hex_testing::texts::invalid;
-use const_hex_testing::{Testing, Text, same, same_bytes, same_read};
+use const_hex_testing::{Testing, Text, same, same_bytes};
 use const_hex_uses::constants::{transfer, wrapped_ether};
 use const_hex_uses::files::{write_line, write_text};
-use const_hex_uses::json_rpc::{code_of, code_request, reason};
-use const_hex_uses::own_kernel::{decoded, encoded, write_pieces};
+use const_hex_uses::json_rpc::{code_of, reason};
+use const_hex_uses::own_kernel::write_pieces;
 use const_hex_uses::readers::{
     is_same_account, read_both, read_salt, read_shared, replace_key, replace_whole_key,
 };
-use const_hex_uses::sinks::{packets, refused_key, send_json};
-use const_hex_uses::store::{find, put};
-use const_hex_uses::streams::{check_chunks, decode_chunks, decode_typed, decode_where_it_fits};
-use const_hex_uses::writers::{address_text, array_text, fill_field, joined_text, put_label};
+use const_hex_uses::sinks::{packets, send_json};
+use const_hex_uses::store::canonical;
+use const_hex_uses::streams::{check_chunks, decode_chunks, decode_where_it_fits};
+use const_hex_uses::writers::{fill_field, put_label};
 use serde_json::json;
-use std::alloc::AllocError;
 use std::boxed::BoxedSlice;
-use std::collections::HashMap;
 use std::fmt::Debug;
 use std::rc::Rc;
 
 #[test]
-fn texts(rt: HostRuntime) {
-    let (alloc, address) = (rt.alloc(), "0xabababababababababababababababababababab");
-    same!(&rt; address_text(&[0xAB; 20]).as_str(), address);
-    gives(&rt, "array_text", array_text(alloc, b"kiwi"), "0x6b697769");
-    let text = joined_text(alloc, b"ki", b"wi");
-    gives(&rt, "joined_text", text, "6b697769");
+fn parts_of_buffers(rt: HostRuntime) {
     let mut field = [b'.'; 4];
     same!(&rt; fill_field(&mut field, b"ki"), Ok(()));
     same!(&rt; fill_field(&mut field, b"kiwi"), Err(FromHexError::InvalidStringLength));
     same_bytes!(&rt, "fill_field", "ki"; field, "6b69");
     put_label(&mut field, b"k=");
     same_bytes!(&rt, "put_label", "k="; field, "k=69");
-}
-
-#[test]
-fn own_kernel(rt: HostRuntime) {
-    gives(&rt, "encoded", encoded(rt.alloc(), b"kiwi"), "6b697769");
-    let bytes = decoded(rt.alloc(), b"0x6B697769");
-    same_read!(&rt, "decoded", "0x6B697769"; bytes, Ok(b"kiwi"));
     let mut text = [0; 8];
     write_pieces(b"kiwi", &mut SliceOutput::new(&mut text));
     same_bytes!(&rt, "write_pieces", "kiwi"; text, "6b697769");
-}
-
-/// A call made this text.
-fn gives(rt: &impl Testing, call: &str, text: Result<String, AllocError>, want: &str) {
-    same_bytes!(rt, call, want; text.expect(rt, "memory"), want);
 }
 
 const LOWER: &[u8] = b"ff80";
@@ -100,19 +81,10 @@ fn keys(rt: HostRuntime) {
 }
 
 #[test]
-fn salts_and_typed_texts(rt: HostRuntime) {
+fn salts_and_chunks(rt: HostRuntime) {
     let mut salt = [0; 64];
     same!(&rt; read_salt(b"0x6b69", &mut salt), Ok(2));
     same!(&rt; read_salt(&[b'a'; 131], &mut salt), Err(FromHexError::OddLength));
-    let rows: [(&[u8], Result<usize, FromHexError>); 4] = [
-        (b"0x6b69", Ok(2)),
-        (b"0x6b6", Err(FromHexError::OddLength)),
-        (b"0x6bz", Err(invalid(b'z', 4))),
-        (b"zzzzzz", Err(FromHexError::InvalidStringLength)),
-    ];
-    for (text, want) in rows {
-        same!(&rt, "decode_typed", Text(text); decode_typed(text, &mut [0; 2]), want);
-    }
     let bad = invalid(b'z', 1);
     same!(&rt; check_chunks(&mut Decoder::new(), b"6z", b"69"), (Err(bad), Err(bad)));
     let (mut small, mut large) = ([7; 1], [7; 2]);
@@ -122,12 +94,9 @@ fn salts_and_typed_texts(rt: HostRuntime) {
 }
 
 #[test]
-fn stored_numbers(rt: HostRuntime) {
-    let alloc = rt.alloc();
-    let mut store = HashMap::new(alloc);
-    same!(&rt; put(alloc, &mut store, b"0x6B69", 7), Ok(()));
-    same!(&rt; find(alloc, &store, b"6b69"), Ok(Some(7)));
-    same!(&rt; find(alloc, &store, b"6b6a"), Ok(None));
+fn stored_keys(rt: HostRuntime) {
+    let key = canonical(rt.alloc(), b"0X6B69").expect(&rt, "canonical");
+    same_bytes!(&rt, "canonical", "0X6B69"; key, "6b69");
 }
 
 #[test]
@@ -145,30 +114,13 @@ fn sinks(rt: HostRuntime) {
     same!(&rt, "send_json", "kiwi"; sink.pieces().len(), 1);
     let sink = packets(rt.alloc(), &[0xAB; 5000]).expect(&rt, "packets");
     same!(&rt, "packets", 5000; sink.pieces().len(), 3);
-    assert!(rt; refused_key(rt.alloc(), &[0xAB; 32]).is_err());
 }
 
 #[test]
 fn constants(rt: HostRuntime) {
-    let ether = [
-        0xC0, 0x2A, 0xAA, 0x39, 0xB2, 0x23, 0xFE, 0x8D, 0x0A, 0x0E, 0x5C, 0x4F, 0x27, 0xEA, 0xD9,
-        0x08, 0x3C, 0x75, 0x6C, 0xC2,
-    ];
-    let topic = [
-        0xDD, 0xF2, 0x52, 0xAD, 0x1B, 0xE2, 0xC8, 0x9B, 0x69, 0xC2, 0xB0, 0x68, 0xFC, 0x37, 0x8D,
-        0xAA, 0x95, 0x2B, 0xA7, 0xF1, 0x63, 0xC4, 0xA1, 0x16, 0x28, 0xF5, 0x5A, 0x4D, 0xF5, 0x23,
-        0xB3, 0xEF,
-    ];
-    same!(&rt; wrapped_ether(), ether);
-    same!(&rt; transfer(), topic);
-}
-
-#[test]
-fn requests(rt: HostRuntime) {
-    let request = code_request(rt.alloc(), &[0xab; 20]).expect(&rt, "memory");
-    let text = "{\"id\":1,\"jsonrpc\":\"2.0\",\"method\":\"eth_getCode\",\
-        \"params\":[\"0xabababababababababababababababababababab\",\"latest\"]}";
-    gives(&rt, "code_request", request.to_string(rt.alloc()), text);
+    let ether = b"\xC0\x2A\xAA\x39\xB2\x23\xFE\x8D\x0A\x0E\x5C\x4F\x27\xEA\xD9\x08\x3C\x75\x6C\xC2";
+    same_bytes!(&rt, "wrapped_ether", ""; wrapped_ether(), ether);
+    same!(&rt; (transfer()[0], transfer()[31]), (0xDD, 0xEF));
 }
 
 #[test]
@@ -178,6 +130,6 @@ fn responses(rt: HostRuntime) {
     same_bytes!(&rt, "code_of", "0x6001"; code, b"\x60\x01");
     let response = json!(in rt.alloc(); {"id": 1}).expect(&rt, "memory");
     same!(&rt; code_of(rt.alloc(), &response).err(), Some(JsonError::NotText));
-    let message = reason(rt.alloc(), &JsonError::NotText);
-    gives(&rt, "reason", message, "expected a hex encoded string");
+    let message = reason(rt.alloc(), &JsonError::NotText).expect(&rt, "memory");
+    same_bytes!(&rt, "reason", "NotText"; message, "expected a hex encoded string");
 }

@@ -1,3 +1,0 @@
-pub mod Modes
-pub mod Chunks
-pub mod Statuses
