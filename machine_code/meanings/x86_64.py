@@ -56,17 +56,13 @@ class Operand:
             self.kind, self.value = "number", int(text, 16)
 
 
-def _is_jump(i):
-    return i.mnemonic.startswith("j") or i.mnemonic == "call"
-
-
 def _operands(text):
     return [Operand(part.strip()) for part in text.split(",") if part]
 
 
 def _text_to_assemble(i):
     """A jump of more than 4 bytes has a distance of 32 bits, also where a shorter one would do."""
-    if not _is_jump(i):
+    if not re.match("j|call$", i.mnemonic):
         return i.text
     return ("{disp32} " if i.size > 4 else "") + assembled.with_distance(i)
 

@@ -36,9 +36,9 @@ FILES = {"lanes": (*OF_X86_64, *OF_AARCH64, "webassembly"), "x86_64": OF_X86_64,
          "webassembly": ("webassembly",)}
 # What is no meaning of an instruction that runs alone: programs of test_wrong.py show it, and test_starts.py the calls.
 # What follows the first ALL does not belong to the module, where Node compares it.
-ELSEWHERE = ("instructions", "_text_to_assemble", "_is_nop", "_is_jump", "_is_page", "enter", "return_address",
+ELSEWHERE = ("instructions", "_text_to_assemble", "_is_nop", "_is_page", "enter", "return_address",
              "returned", "_lay_out", "_is_alone", "_place", "call", "ret", "jump", "cpuid", "xgetbv", "reported")
-ALL = 11
+ALL = 10
 # How functions are called, what is read of an object, and which instructions a CPU has.
 CONSTANTS = "State", "MEMORY", "ENDS", "V2", "LEVELS", "NOPS"
 TURNED = {ast.Add: ast.Sub, ast.Sub: ast.Add, ast.Mult: ast.Add, ast.BitAnd: ast.BitOr, ast.BitOr: ast.BitAnd,
