@@ -39,6 +39,18 @@ impl Read for Source<'_> {
     }
 }
 
+/// Returns up to 4096 digits `0` per call, without an end.
+#[derive(Drop)]
+pub struct Endless;
+
+impl Read for Endless {
+    fn read(&mut self, buf: &mut [u8]) -> io::Result<usize> {
+        let count = buf.len().min(4096);
+        buf[..count].fill(b'0');
+        Ok(count)
+    }
+}
+
 /// What goes wrong with a [`Target`]. The other calls succeed.
 #[derive(Clone, Copy, Debug)]
 pub enum InjectedFault {

@@ -1,11 +1,34 @@
--- What the program returns for an input.
-use Rattle.std.specs.Prelude.{ℕ, List, codes, ◌≡◌, false, [], ◌∷◌, ◌++◌, Result, Ok, Err}
+-- The program: its modes, what it returns for an input, and its errors.
+use Rattle.std.specs.Prelude.{ℕ, List, codes, ◌≡◌, ◌⊎◌, ⊤, ◌<◌, ◌≤◌, true, false, [], ◌∷◌, ◌++◌, length, Result, Ok, Err, Option, Some, if◌then◌else◌}
+use Rattle.consthex.specs.declared.mode.Mode.{Mode}
+use Rattle.consthex.specs.declared.mode.Mode.TheVariants.{Encode, EncodeUpper, EncodePrefixed, EncodeUpperPrefixed, Decode, Check}
 use Rattle.std.specs.Io.BufRead.{strip_last}
-use Rattle.const_hex.specs.Texts.{hex_text}
-use Rattle.const_hex.specs.Results.{Reads, Checks}
+use Rattle.const_hex.specs.Texts.{full_text}
+use Rattle.const_hex.specs.Messages.{message_of}
+use Rattle.const_hex.specs.Results.{IsEven, Reads, Checks}
 use Rattle.const_hex.specs.declared.error.FromHexError.{FromHexError}
-use Rattle.consthex.specs.declared.answers.Mode.{Mode}
-use Rattle.consthex.specs.declared.answers.Mode.TheVariants.{Encode, Decode, Check}
+use Rattle.consthex.specs.declared.error.RunError.{RunError}
+use Rattle.consthex.specs.declared.error.RunError.TheVariants.{Text, ReadFailed, WriteFailed, TooLong, NoMemory}
+use Rattle.std.specs.Io.KnownBytes.{Appends, Consumes, IsAtEnd, Keeps}
+use Rattle.const_hex.specs.Types.{is_no_memory}
+use Rattle.const_hex.specs.Writers.{WritesBeginning}
+
+-- ---- the word of each mode
+
+-- the argument that names a mode
+abbrev pub word_of : Mode → List ℕ
+word_of Encode = codes "encode"
+word_of EncodeUpper = codes "encode-upper"
+word_of EncodePrefixed = codes "encode-prefixed"
+word_of EncodeUpperPrefixed = codes "encode-upper-prefixed"
+word_of Decode = codes "decode"
+word_of Check = codes "check"
+
+-- ---- what the program returns for an input
+
+-- the most bytes that an input may have
+abbrev pub limit : ℕ
+limit = 1048576
 
 -- one newline
 abbrev pub newline : List ℕ
@@ -15,10 +38,80 @@ newline = 10 ∷ []
 abbrev pub without_newline : List ℕ → List ℕ
 without_newline x = strip_last 10 x
 
--- the result of a mode for an input: the bytes to write, or the error of the text
-abbrev pub Answer : Mode → List ℕ → Result (List ℕ) FromHexError → Type 0
-Answer Encode x (Ok bs) = bs ≡ hex_text false x ++ newline
-Answer Encode x (Err e) = ⊥
-Answer Decode x r = Reads (without_newline x) r
-Answer Check x (Ok bs) = Checks (without_newline x) (Ok tt) × (bs ≡ codes "ok" ++ newline)
-Answer Check x (Err e) = Checks (without_newline x) (Err e)
+-- the mode makes the bytes bs of the input x
+abbrev pub Outputs : Mode → List ℕ → List ℕ → Type 0
+Outputs Encode x bs = bs ≡ full_text false false x ++ newline
+Outputs EncodeUpper x bs = bs ≡ full_text false true x ++ newline
+Outputs EncodePrefixed x bs = bs ≡ full_text true false x ++ newline
+Outputs EncodeUpperPrefixed x bs = bs ≡ full_text true true x ++ newline
+Outputs Decode x bs = Reads (without_newline x) (Ok bs)
+Outputs Check x bs = Checks (without_newline x) (Ok tt) × (bs ≡ codes "ok" ++ newline)
+
+-- the mode ends with this error for the text in the input x
+abbrev pub Fails : Mode → List ℕ → FromHexError → Type 0
+Fails Encode x e = ⊥
+Fails EncodeUpper x e = ⊥
+Fails EncodePrefixed x e = ⊥
+Fails EncodeUpperPrefixed x e = ⊥
+Fails Decode x e = Reads (without_newline x) (Err e)
+Fails Check x e = Checks (without_newline x) (Err e)
+
+-- the one result of the mode for the input x
+abbrev pub Answer : Mode → List ℕ → Result (List ℕ) RunError → Type 0
+Answer m x (Ok bs) = (length x ≤ limit) × Outputs m x bs
+Answer m x (Err (Text e)) = (length x ≤ limit) × Fails m x e
+Answer m x (Err TooLong) = limit < length x
+Answer m x (Err ReadFailed) = ⊥
+Answer m x (Err WriteFailed) = ⊥
+Answer m x (Err NoMemory) = ⊥
+
+-- the mode allocates for the input x: to decode, only if the length is even, and to check, only
+-- if the text is accepted
+abbrev pub TakesMemory : Mode → List ℕ → Type 0
+TakesMemory Encode x = ⊤
+TakesMemory EncodeUpper x = ⊤
+TakesMemory EncodePrefixed x = ⊤
+TakesMemory EncodeUpperPrefixed x = ⊤
+TakesMemory Decode x = IsEven (length (without_newline x))
+TakesMemory Check x = Checks (without_newline x) (Ok tt)
+
+-- ---- what a run reads and writes
+
+-- x is all that the reader had
+abbrev pub ReadsAll : Option (List ℕ) → Option (List ℕ) → List ℕ → Type 0
+ReadsAll had left x = Consumes had left x × IsAtEnd left
+
+-- all that the reader had was read, and r is the mode's result for it
+abbrev pub Answers : Mode → Option (List ℕ) → Option (List ℕ) → Result (List ℕ) RunError → Type 0
+Answers m had left r = (x : List ℕ) × ReadsAll had left x × Answer m x r
+
+-- what a run in the mode did that ends with the exit status s: with 0 its result for all of the input was written, with 1
+-- that is an error of the text, and with 3 at most a beginning of the result was written; otherwise nothing was
+abbrev pub Ends : Mode → ℕ → Option (List ℕ) → Option (List ℕ) → Option (List ℕ) → Option (List ℕ) → Type 0
+Ends m s had left old new =
+    (s ≡ 0 → (bs : List ℕ) × Answers m had left (Ok bs) × Appends old new bs)
+    × (s ≡ 1 → (e : FromHexError) × Answers m had left (Err (Text e)) × Keeps old new)
+    × (s ≡ 3 → Keeps old new ⊎ ((bs : List ℕ) × Answers m had left (Ok bs) × WritesBeginning old new bs))
+    × (s ≡ 4 → Keeps old new)
+
+-- ---- the line and the exit status of an error
+
+-- the line that is printed, if the contract of its error says so
+abbrev pub line_of : RunError → Option (List ℕ)
+line_of (Text e) = message_of e
+line_of ReadFailed = Some (codes "read failed")
+line_of WriteFailed = Some (codes "write failed")
+line_of TooLong = Some (codes "input too long")
+line_of NoMemory = Some (codes "out of memory")
+
+-- the exit status of the program
+abbrev pub status_of : RunError → ℕ
+status_of (Text e) = 1
+status_of ReadFailed = 3
+status_of WriteFailed = 3
+status_of TooLong = 3
+status_of NoMemory = 4
+
+-- the error of the program for an error of a call
+abbrev pub run_error_of : FromHexError → RunError
+run_error_of e = if is_no_memory e then NoMemory else Text e

@@ -1,48 +1,96 @@
 //! What a mode returns for given bytes.
 
-ghost use Rattle.std.specs.Prelude.{◌≡◌, ◌≢◌, IfOk, IfErr, Ok, Err};
-ghost use Rattle.const_hex.specs.declared.error.FromHexError.TheVariants.{NoMemory};
-ghost use Rattle.consthex.specs.Program.{Answer, without_newline};
+ghost use Rattle.std.specs.Prelude.{◌≡◌, ◌≢◌, ◌≤◌, ◌<◌, ◌++◌, ◌+◌, ◌↔◌, ◌⊎◌, List, ℕ, codes, length, IfOk, IfErr, Ok, Err};
+ghost use Rattle.const_hex.specs.Results.{IsOdd, Reads};
+ghost use Rattle.const_hex.specs.Texts.{full_text, text_length};
+ghost use Rattle.const_hex.specs.declared.error.FromHexError.{FromHexError};
+ghost use Rattle.const_hex.specs.declared.error.FromHexError.TheVariants.{OddLength};
+ghost use Rattle.consthex.specs.Program.{Answer, TakesMemory, without_newline, newline, limit};
+ghost use Rattle.consthex.specs.declared.error.RunError.TheVariants.{Text, TooLong, NoMemory};
+ghost use Rattle.consthex.specs.declared.mode.Mode.TheVariants.{Decode, Check};
 
-use const_hex::FromHexError;
-use std::alloc::Global;
+use crate::error::RunError;
+use crate::mode::Mode;
+use const_hex::{FixedKernel, fill_text, text_length};
+use std::alloc::{AllocError, Global};
 
-/// What a run makes of its input.
-#[derive(Clone, Copy, PartialEq, Eq, Debug)]
-pub enum Mode {
-    /// Two lowercase digits for each byte, and a newline.
-    Encode,
-    /// Only the bytes that the text decodes to.
-    Decode,
-    /// `ok` and a newline, if the text can be decoded.
-    Check,
-}
+/// The most bytes that an input may have.
+pub(crate) const LIMIT: usize = 1_048_576;
 
-/// What a mode returns for an input: the bytes to write, or the error of the text. One newline at the end of the input
-/// is not part of the text.
+/// What a mode returns for an input: the bytes to write, or an error.
 ///
-/// Returns [`FromHexError::NoMemory`] if memory cannot be allocated.
+/// Returns [`RunError::TooLong`] if the input has more than 1,048,576 bytes; [`RunError::NoMemory`]
+/// if memory cannot be allocated; and [`RunError::Text`] if the mode reads a text that cannot be decoded.
+/// One newline at the end of the input is not part of the text.
 ///
 /// ```rust
-/// let line = answer(rt.alloc(), Mode::Encode, b"kiwi")?;
-/// assert_eq!(rt; line.as_slice(), b"6b697769\n".as_slice());
+/// let line = answer(rt.alloc(), Mode::EncodeUpper, b"kiwi")?;
+/// assert_eq!(rt; line.as_slice(), b"6B697769\n".as_slice());
 /// ```
-pub fn answer(alloc: Global, mode: Mode, input: &[u8]) -> Result<Vec<u8>, FromHexError>
+pub fn answer(alloc: Global, mode: Mode, input: &[u8]) -> Result<Vec<u8>, RunError>
     ensures ok { IfOk result (λ v. Answer mode input.now (Ok v.items)) }
     ensures err { IfErr result (λ e. e ≢ NoMemory → Answer mode input.now (Err e)) }
+    ensures too_long { (result ≡ Err TooLong) ↔ (limit < length input.now) }
+    ensures no_memory { result ≡ Err NoMemory → TakesMemory mode input.now }
+    // Only a text that cannot be decoded leads to an error of the text, whatever the mode.
+    ensures invalid { (e : FromHexError) → result ≡ Err (Text e)
+        → Reads (without_newline input.now) (Err e) }
+    // `ok` is printed for a text that can be decoded, and for no other.
+    ensures checked { mode ≡ Check → IfOk result (λ v. (v.items ≡ codes "ok" ++ newline)
+        × ((bs : List ℕ) × Reads (without_newline input.now) (Ok bs))) }
+    // An odd length never leads to `NoMemory`.
+    ensures odd { (mode ≡ Decode) ⊎ (mode ≡ Check) → length input.now ≤ limit
+        → IsOdd (length (without_newline input.now)) → result ≡ Err (Text OddLength) }
+{
+    if input.len() > LIMIT {
+        return Err(RunError::TooLong);
+    }
+    answer_within_limit(alloc, mode, input)
+}
+
+/// What a mode returns for an input that is not too long.
+fn answer_within_limit(alloc: Global, mode: Mode, input: &[u8]) -> Result<Vec<u8>, RunError>
+    requires { length input.now ≤ limit }
+    ensures ok { IfOk result (λ v. Answer mode input.now (Ok v.items)) }
+    ensures err { IfErr result (λ e. e ≢ NoMemory → Answer mode input.now (Err e)) }
+    ensures no_memory { result ≡ Err NoMemory → TakesMemory mode input.now }
 {
     match mode {
-        Mode::Encode => {
-            let mut line = const_hex::encode(alloc, input)?.into_bytes();
-            line.extend_from_slice(b"\n")?;
-            Ok(line)
-        }
-        Mode::Decode => const_hex::decode(alloc, strip_newline(input)),
+        Mode::Encode => Ok(encode_line(alloc, input, false, false)?),
+        Mode::EncodeUpper => Ok(encode_line(alloc, input, false, true)?),
+        Mode::EncodePrefixed => Ok(encode_line(alloc, input, true, false)?),
+        Mode::EncodeUpperPrefixed => Ok(encode_line(alloc, input, true, true)?),
+        Mode::Decode => Ok(const_hex::decode(alloc, strip_newline(input))?),
         Mode::Check => {
             const_hex::check(strip_newline(input))?;
             Ok(b"ok\n".to_vec(alloc)?)
         }
     }
+}
+
+/// The text of the bytes and a newline. Allocates once, for exactly these.
+fn encode_line(
+    alloc: Global,
+    input: &[u8],
+    prefix: bool,
+    upper: bool,
+) -> Result<Vec<u8>, AllocError>
+    requires { length input.now ≤ limit }
+    ensures { IfOk result (λ v. v.items ≡ full_text prefix upper input.now ++ newline) }
+{
+    let mut line = vec![in alloc; 0u8; text_length(prefix, input.len()) + 1]?;
+    write_line(input, prefix, upper, &mut line);
+    Ok(line)
+}
+
+/// Fills the output with the text and a newline. The output must have exactly their length.
+fn write_line(input: &[u8], prefix: bool, upper: bool, output: &mut [u8])
+    requires { length output.old ≡ text_length prefix (length input.now) + 1 }
+    ensures { output.new ≡ full_text prefix upper input.now ++ newline }
+{
+    let end = output.len() - 1;
+    output[end] = b'\n';
+    fill_text::<FixedKernel>(input, prefix, upper, &mut output[..end]);
 }
 
 /// The text without one newline at its end.

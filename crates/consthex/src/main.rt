@@ -1,11 +1,15 @@
 //! The program `consthex`: encodes, decodes or checks its standard input.
 //!
-//! [`answer`](answers::answer) says what is written for an input. The terms of its contract are defined in `specs/`,
-//! and in `const_hex` what a text decodes to.
+//! [`run`](runs::run) does so over any reader and writer, and [`program`] on any host. The terms of the
+//! contracts are defined in `specs/`, and in `const_hex` what a text decodes to.
 #![tactic(auto)]
 
 mod answers;
+mod arguments;
+mod error;
+mod mode;
 mod process;
+mod runs;
 #[cfg(test)]
 mod tests;
 

@@ -1,116 +1,92 @@
 //! The whole program, from its arguments to its exit status.
 
-use crate::answers::{Mode, answer};
-use const_hex::FromHexError;
-use std::alloc::Global;
-use std::env::{Env, FillError};
-use std::fmt;
-use std::io::{Eprint, ErrorKind, Read, Write};
+ghost use Rattle.std.specs.Prelude.{◌≡◌, ◌≢◌, ◌≤◌, ◌∷◌, [], map, string_bytes};
+ghost use Rattle.std.specs.Process.{exit_status};
+ghost use Rattle.consthex.specs.Program.{status_of, word_of, Ends};
+ghost use Rattle.consthex.specs.declared.mode.Mode.{Mode};
+
+use crate::arguments::read_arguments;
+use crate::error::RunError;
+use crate::mode::{USAGE, mode_of};
+use crate::runs::run;
+use std::env::Env;
+use std::io::{Eprint, Read, Write};
 use std::process::ExitCode;
 
-/// The most bytes that an input may have.
-pub(crate) const LIMIT: usize = 1_048_576;
-
-/// The line that is printed if the arguments name no mode.
-pub(crate) const USAGE: &str = "usage: consthex encode|decode|check";
-
-/// Why a run fails.
-#[derive(Clone, Copy, PartialEq, Eq, Debug)]
-pub enum RunError {
-    /// The text cannot be decoded, or memory cannot be allocated.
-    Hex(FromHexError),
-    /// A read failed.
-    ReadFailed,
-    /// A write or the flush failed, or a write took no bytes.
-    WriteFailed,
-    /// The input has more than 1,048,576 bytes.
-    TooLong,
-}
-
-impl RunError {
-    /// The exit status: 1 for the text, 3 for input and output, 4 for memory.
-    fn status(&self) -> u8 {
-        match self {
-            RunError::Hex(FromHexError::NoMemory) => 4,
-            RunError::Hex(_) => 1,
-            _ => 3,
-        }
-    }
-}
-
-impl fmt::Display for RunError {
-    fn fmt<W: fmt::Write>(&self, f: &mut fmt::Formatter<W>) -> fmt::Result {
-        match self {
-            RunError::Hex(error) => write!(f, "{error}"),
-            RunError::ReadFailed => f.write_str("read failed"),
-            RunError::WriteFailed => f.write_str("write failed"),
-            RunError::TooLong => f.write_str("input too long"),
-        }
-    }
-}
-
-impl From<FromHexError> for RunError {
-    fn from(error: FromHexError) -> RunError {
-        RunError::Hex(error)
-    }
-}
-
-/// Does what the one argument after the program's name asks for, and returns the exit status, which is 2 if the
-/// arguments name no mode. An error is one line on standard error.
+/// Does what the arguments after the program's name ask for, and returns the exit status: 0 if that
+/// succeeds; 1 if the text has an error; 2 if the arguments name no mode; 3 if a read or a write fails
+/// or the input is too long; 4 if memory cannot be allocated. An error is one line on standard error.
+///
+/// ```rust
+/// fn main(rt: HostRuntime) -> ExitCode {
+///     program(&rt, &mut rt.reader(), &mut io::writer(&rt))
+/// }
+/// ```
 pub fn program<R: Read, W: Write>(
     rt: &(impl Env + Eprint + AllocGlobal),
     input: &mut R,
     output: &mut W,
-) -> ExitCode {
-    let Some(mode) = mode_of(rt) else {
-        let _ = eprintln!(rt; "{USAGE}");
-        return ExitCode::from(2);
+) -> ExitCode
+    // The mode is that of the arguments: see `program_with`. No clause can see those of a host.
+    ensures ran { exit_status result ≢ 2 → (m : Mode) × Ends m (exit_status result) (R.remaining input.old)
+        (R.remaining input.new) (W.contents output.old) (W.contents output.new) }
+    // Nothing was read or written.
+    ensures misused { exit_status result ≡ 2
+        → (input.new ≡ input.old) × (output.new ≡ output.old) }
+    ensures statuses { exit_status result ≤ 4 }
+{
+    let Ok(arguments) = read_arguments(rt) else {
+        return report(rt, RunError::NoMemory);
     };
-    match run(rt.alloc(), mode, input, output) {
-        Ok(()) => ExitCode::SUCCESS,
-        Err(error) => {
-            let _ = eprintln!(rt; "{error}");
-            ExitCode::from(error.status())
-        }
-    }
+    program_with(rt, &arguments, input, output)
 }
 
-/// The mode that the arguments name: one word after the program's name, and no other.
-fn mode_of(rt: &impl Env) -> Option<Mode> {
-    let mut word = [0; 8];
-    let length = rt.arg(1, &mut word).ok()?;
-    if !matches!(rt.arg(2, &mut []), Err(FillError::NotPresent)) {
-        return None;
-    }
-    match str::from_utf8(&word[..length]).unwrap_or("") {
-        "encode" => Some(Mode::Encode),
-        "decode" => Some(Mode::Decode),
-        "check" => Some(Mode::Check),
-        _ => None,
-    }
-}
-
-/// Reads the whole input, writes what the mode returns for it, and flushes. Nothing is written before an error, unless
-/// a write failed.
-fn run<R: Read, W: Write>(
-    alloc: Global,
-    mode: Mode,
+/// Does what [`program`] does, for these arguments.
+///
+/// ```rust
+/// let arguments = [String::from_str(rt.alloc(), "decode")?];
+/// let mut output = Vec::new(rt.alloc());
+/// let code = program_with(&rt, &arguments, &mut b"6b69\n".as_slice(), &mut output);
+/// assert_eq!(rt; (code, output.as_slice()), (ExitCode::SUCCESS, b"ki".as_slice()));
+/// ```
+pub fn program_with<R: Read, W: Write>(
+    rt: &(impl Eprint + AllocGlobal),
+    arguments: &[String],
     input: &mut R,
     output: &mut W,
-) -> Result<(), RunError> {
-    let mut bytes = Vec::new(alloc);
-    if let Err(error) = input.take(LIMIT as u64 + 1).read_to_end(&mut bytes) {
-        return Err(match error.kind() {
-            ErrorKind::OutOfMemory => RunError::Hex(FromHexError::NoMemory),
-            _ => RunError::ReadFailed,
-        });
+) -> ExitCode
+    // The one argument names the mode.
+    ensures ran { exit_status result ≢ 2 → (m : Mode) × (map string_bytes arguments.now ≡ word_of m ∷ [])
+        × Ends m (exit_status result) (R.remaining input.old) (R.remaining input.new)
+        (W.contents output.old) (W.contents output.new) }
+    ensures usage { exit_status result ≡ 2
+        → (m : Mode) → map string_bytes arguments.now ≢ word_of m ∷ [] }
+    // Nothing was read or written.
+    ensures misused { exit_status result ≡ 2
+        → (input.new ≡ input.old) × (output.new ≡ output.old) }
+    ensures statuses { exit_status result ≤ 4 }
+{
+    match mode_of(arguments) {
+        Some(mode) => match run(rt.alloc(), mode, input, output) {
+            Ok(()) => ExitCode::SUCCESS,
+            Err(error) => report(rt, error),
+        },
+        None => print_usage(rt),
     }
-    if bytes.len() > LIMIT {
-        return Err(RunError::TooLong);
-    }
-    let answered = answer(alloc, mode, &bytes)?;
-    if output.write_all(&answered).is_err() || output.flush().is_err() {
-        return Err(RunError::WriteFailed);
-    }
-    Ok(())
+}
+
+/// Prints the usage, and returns the status 2. Ignores a failure of standard error.
+fn print_usage(rt: &impl Eprint) -> ExitCode
+    ensures { exit_status result ≡ 2 }
+{
+    let _ = eprintln!(rt; "{USAGE}");
+    ExitCode::from(2)
+}
+
+/// Prints the error, and returns its status. Ignores a failure of standard error.
+fn report(rt: &impl Eprint, error: RunError) -> ExitCode
+    ensures { exit_status result ≡ status_of error }
+{
+    let _ = eprintln!(rt; "{error}");
+    ExitCode::from(error.status())
 }

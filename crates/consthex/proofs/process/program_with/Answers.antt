@@ -1,0 +1,11 @@
+use Rattle.consthex.proofs.lemmas.Statuses.{ends_failed}
+use Rattle.consthex.proofs.process.program_with.Goals as goal
+
+pub returns-in-Err-clause-ran : goal.returns-in-Err-clause-ran
+returns-in-Err-clause-ran g c = λ _.
+    let ran = c.run.ensures in (
+      c.in-Some.mode,
+      (c.mode_of.ensures c.in-Some.mode).0 c.in-Some.is,
+      rw c.report.ensures (ends_failed c.in-Some.mode c.run.result c.in-Err.error _ _ _ _ c.in-Err.is ran.text
+          ran.write_failed ran.nothing_written),
+    )

@@ -1,0 +1,155 @@
+//! A whole run over any reader and writer.
+
+ghost use Rattle.std.specs.Prelude.{◌≡◌, ◌≢◌, ◌≤◌, ◌<◌, ◌+◌, ◌⊎◌, List, ℕ, length, take, vec_len, OnOk, OnErr, IfOk, IfErr, Ok, Err};
+ghost use Rattle.std.specs.Io.KnownBytes.{Appends, Consumes, Keeps};
+ghost use Rattle.const_hex.specs.declared.error.FromHexError.{FromHexError};
+ghost use Rattle.const_hex.specs.Writers.{WritesBeginning};
+ghost use Rattle.const_hex.specs.Results.{IsOdd};
+ghost use Rattle.consthex.specs.Program.{limit, without_newline, ReadsAll, Answer, Answers, TakesMemory};
+ghost use Rattle.consthex.specs.declared.mode.Mode.TheVariants.{Check, Decode};
+ghost use Rattle.const_hex.specs.declared.error.FromHexError.TheVariants.{OddLength};
+ghost use Rattle.consthex.specs.declared.error.RunError.TheVariants.{NoMemory, Text, WriteFailed, TooLong};
+
+use crate::answers::{LIMIT, answer};
+use crate::error::RunError;
+use crate::mode::Mode;
+use std::alloc::{AllocError, Global};
+use std::io::{Read, Write};
+
+/// Reads the whole input, writes what the mode returns for it, and flushes.
+///
+/// Nothing is written before one of these errors:
+///
+/// - [`RunError::ReadFailed`], if a read fails with any error;
+/// - [`RunError::TooLong`], as soon as more than 1,048,576 bytes have come;
+/// - [`RunError::NoMemory`], if memory cannot be allocated;
+/// - [`RunError::Text`], if the text has an error.
+///
+/// [`RunError::WriteFailed`] means that a write or the flush failed with any error, or that a write
+/// took no bytes. A beginning of the result may then have been written.
+///
+/// ```rust
+/// let mut output = Vec::new(rt.alloc());
+/// run(rt.alloc(), Mode::Encode, &mut b"kiwi".as_slice(), &mut output)?;
+/// assert_eq!(rt; output.as_slice(), b"6b697769\n".as_slice());
+/// ```
+pub fn run<R: Read, W: Write>(
+    alloc: Global,
+    mode: Mode,
+    input: &mut R,
+    output: &mut W,
+) -> Result<(), RunError>
+    // The reader was read to its end, and the result for all of it was written.
+    ensures ok { OnOk result ((bs : List ℕ)
+        × Answers mode (R.remaining input.old) (R.remaining input.new) (Ok bs)
+        × Appends (W.contents output.old) (W.contents output.new) bs) }
+    // The reader was read to its end, and the result for all of it is this error.
+    ensures text { (e : FromHexError) → result ≡ Err (Text e)
+        → Answers mode (R.remaining input.old) (R.remaining input.new) (Err (Text e)) }
+    ensures too_long { result ≡ Err TooLong → (x : List ℕ) × (limit < length x)
+        × Consumes (R.remaining input.old) (R.remaining input.new) x }
+    // The reader was read to its end, and a beginning of the result for all of it was written.
+    ensures write_failed { result ≡ Err WriteFailed → (bs : List ℕ)
+        × Answers mode (R.remaining input.old) (R.remaining input.new) (Ok bs)
+        × WritesBeginning (W.contents output.old) (W.contents output.new) bs }
+    ensures nothing_written { OnErr result (result ≢ Err WriteFailed
+        → Keeps (W.contents output.old) (W.contents output.new)) }
+{
+    let bytes = read_all(alloc, input)?;
+    run_bytes(alloc, mode, &bytes, output)
+}
+
+/// Does for bytes in memory what [`run`] does for a reader: writes what the mode returns for them, and flushes.
+/// As no read can fail, the outcome depends on the bytes, the memory and the writer alone: it never is
+/// [`RunError::ReadFailed`].
+///
+/// ```rust
+/// let mut output = Vec::new(rt.alloc());
+/// run_bytes(rt.alloc(), Mode::Check, b"0x6b\n", &mut output)?;
+/// assert_eq!(rt; output.as_slice(), b"ok\n".as_slice());
+/// ```
+pub fn run_bytes<W: Write>(
+    alloc: Global,
+    mode: Mode,
+    input: &[u8],
+    output: &mut W,
+) -> Result<(), RunError>
+    // The result was written.
+    ensures ok { OnOk result ((bs : List ℕ) × Answer mode input.now (Ok bs)
+        × Appends (W.contents output.old) (W.contents output.new) bs) }
+    // Unless memory or the writer fails, an error is the result of the mode.
+    ensures err { IfErr result (λ e. e ≢ NoMemory → e ≢ WriteFailed → Answer mode input.now (Err e)) }
+    ensures no_memory { result ≡ Err NoMemory → TakesMemory mode input.now }
+    // An odd length never leads to `NoMemory`.
+    ensures odd { (mode ≡ Decode) ⊎ (mode ≡ Check) → length input.now ≤ limit
+        → IsOdd (length (without_newline input.now)) → result ≡ Err (Text OddLength) }
+    // A beginning of the result was written.
+    ensures write_failed { result ≡ Err WriteFailed → (bs : List ℕ) × Answer mode input.now (Ok bs)
+        × WritesBeginning (W.contents output.old) (W.contents output.new) bs }
+    ensures nothing_written { OnErr result (result ≢ Err WriteFailed
+        → Keeps (W.contents output.old) (W.contents output.new)) }
+{
+    let answered = answer(alloc, mode, input)?;
+    write_all(&answered, output)
+}
+
+/// All that the reader has.
+fn read_all<R: Read>(alloc: Global, input: &mut R) -> Result<Vec<u8>, RunError>
+    ensures ok { IfOk result
+        (λ v. ReadsAll (R.remaining input.old) (R.remaining input.new) v.items) }
+    ensures too_long { result ≡ Err TooLong → (x : List ℕ) × (limit < length x)
+        × Consumes (R.remaining input.old) (R.remaining input.new) x }
+    ensures not_text { (e : FromHexError) → result ≢ Err (Text e) }
+    ensures not_written { result ≢ Err WriteFailed }
+{
+    let mut bytes: Vec<u8> = Vec::new(alloc);
+    let mut count = 0;
+    'reads: while count <= LIMIT {
+        make_space(&mut bytes, count)?;
+        let Ok(read) = input.read(&mut bytes[count..]) else {
+            return Err(RunError::ReadFailed);
+        };
+        if read == 0 {
+            bytes.truncate(count);
+            return Ok(bytes);
+        }
+        count += read;
+    }
+    Err(RunError::TooLong)
+}
+
+/// Makes space after the first bytes, if there is none: twice as many bytes, but at least 4096, and
+/// at most one more than an input may have.
+fn make_space(bytes: &mut Vec<u8>, count: usize) -> Result<(), AllocError>
+    requires below_limit { count ≤ limit }
+    requires bound { vec_len bytes.old ≤ limit + 1 }
+    ensures space { OnOk result (count < vec_len bytes.new) }
+    ensures bound { OnOk result (vec_len bytes.new ≤ limit + 1) }
+    ensures kept { OnOk result (count ≤ vec_len bytes.old
+        → take count bytes.new.items ≡ take count bytes.old.items) }
+{
+    if count < bytes.len() {
+        return Ok(());
+    }
+    bytes.resize((2 * count).clamp(4096, LIMIT + 1), 0)
+}
+
+/// Writes all the bytes, and flushes.
+fn write_all<W: Write>(bytes: &[u8], output: &mut W) -> Result<(), RunError>
+    ensures ok { OnOk result (Appends (W.contents output.old) (W.contents output.new) bytes.now) }
+    ensures err { OnErr result (result ≡ Err WriteFailed) }
+    ensures begun { OnErr result
+        (WritesBeginning (W.contents output.old) (W.contents output.new) bytes.now) }
+{
+    let mut done = 0;
+    'writes: while done < bytes.len() {
+        match output.write(&bytes[done..]) {
+            Ok(count) if count > 0 => done += count,
+            _ => return Err(RunError::WriteFailed),
+        }
+    }
+    match output.flush() {
+        Ok(()) => Ok(()),
+        Err(_) => Err(RunError::WriteFailed),
+    }
+}

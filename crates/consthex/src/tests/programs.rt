@@ -1,0 +1,303 @@
+//! The whole program, from its arguments to its exit status and its line on standard error.
+
+use crate::mode::USAGE;
+use crate::process::program;
+use const_hex_testing::{Endless, InjectedFault, Source, Target, Testing, Text, same, same_bytes};
+use std::cell::Cell;
+use std::env::{Env, FillError};
+use std::fmt::{self, Debug, Display};
+use std::io::{self, Eprint, ErrorKind, Read, Write};
+use std::process::ExitCode;
+
+/// The arguments of a program, beginning with its name, and its standard error: the first 128 bytes
+/// that were printed, and how many were printed.
+#[derive(Drop)]
+struct Host<'a> {
+    arguments: &'a [&'a [u8]],
+    printed: Cell<([u8; 128], usize)>,
+    can_print: bool,
+}
+
+impl<'a> Host<'a> {
+    fn new(arguments: &'a [&'a [u8]], can_print: bool) -> Host<'a> {
+        Host {
+            arguments,
+            printed: Cell::new(([0; 128], 0)),
+            can_print,
+        }
+    }
+}
+
+impl Env for Host<'_> {
+    fn arg(&self, i: usize, buf: &mut [u8]) -> Result<usize, FillError> {
+        if i >= self.arguments.len() {
+            return Err(FillError::NotPresent);
+        }
+        let word = self.arguments[i];
+        if word.len() > buf.len() {
+            return Err(FillError::TooLong);
+        }
+        buf[..word.len()].copy_from_slice(word);
+        Ok(word.len())
+    }
+
+    fn var(&self, _name: &str, _buf: &mut [u8]) -> Result<usize, FillError> {
+        Err(FillError::NotPresent)
+    }
+
+    fn var_at(&self, _i: usize, _buf: &mut [u8]) -> Result<usize, FillError> {
+        Err(FillError::NotPresent)
+    }
+}
+
+impl Eprint for Host<'_> {
+    fn eprint<D: Display + Drop>(&self, value: D) -> io::Result<()> {
+        let (mut bytes, count) = self.printed.get();
+        let mut space = &mut bytes[count.min(128)..];
+        let _ = write!(space, "{value}");
+        let left = space.len();
+        self.printed.set((bytes, 128usize.saturating_sub(left)));
+        if self.can_print {
+            return Ok(());
+        }
+        Err(io::Error::from(ErrorKind::BrokenPipe))
+    }
+
+    fn eprintln<D: Display + Drop>(&self, value: D) -> io::Result<()> {
+        let _ = self.eprint(value);
+        self.eprint("\n")
+    }
+}
+
+const LONG_NAME: &[u8] = &[0xFF; 5000];
+
+const LONG_WORD: &[u8] = &[b'e'; 5000];
+
+const DECODE: &[&[u8]] = &[b"consthex", b"decode"];
+
+const CHECK: &[&[u8]] = &[b"consthex", b"check"];
+
+const ENCODE: &[&[u8]] = &[b"consthex", b"encode"];
+
+const ENCODE_UPPER_PREFIXED: &[&[u8]] = &[b"consthex", b"encode-upper-prefixed"];
+
+/// Arguments that print as texts.
+#[derive(Drop)]
+struct Shown<'a>(&'a [&'a [u8]]);
+
+impl Debug for Shown<'_> {
+    fn fmt<W: fmt::Write>(&self, f: &mut fmt::Formatter<W>) -> fmt::Result {
+        for word in self.0 {
+            write!(f, "{:?} ", Text(word))?;
+        }
+        Ok(())
+    }
+}
+
+/// The program on that host ends with that status, and prints that line.
+fn ends<R: Read>(
+    rt: &impl Testing,
+    host: Host<'_>,
+    input: &mut R,
+    output: &mut Target,
+    (status, line): (u8, &str),
+) {
+    let code = program(&(&host, rt.alloc()), input, output);
+    same!(rt, "program", Shown(host.arguments); code, ExitCode::from(status));
+    let (bytes, count) = host.printed.get();
+    let printed = &bytes[..count.min(128)];
+    let line = (status != 0).then_some(Text(line.as_bytes()));
+    let shown = printed.strip_suffix(b"\n").map(|line| Text(line));
+    same!(rt, "standard error", Shown(host.arguments); shown, line);
+    same!(rt, "standard error", Shown(host.arguments); printed.is_empty(), (status == 0));
+}
+
+/// Arguments, an input, what is written, the status, and the line on standard error.
+type Run<'a> = (&'a [&'a [u8]], &'a [u8], &'a [u8], u8, &'a str);
+
+// The name of the program does not matter. A newline is removed once, and only at the end of a text.
+const RUNS: [Run<'_>; 26] = [
+    (ENCODE, b"kiwi", b"6b697769\n", 0, ""),
+    (
+        &[b"\xff\xfe/consthex", b"encode"],
+        b"kiwi",
+        b"6b697769\n",
+        0,
+        "",
+    ),
+    (&[b"", b"encode"], b"", b"\n", 0, ""),
+    (&[LONG_NAME, b"encode"], b"\n", b"0a\n", 0, ""),
+    (&[b"check", b"encode"], b"kiwi", b"6b697769\n", 0, ""),
+    (
+        &[b"consthex", b"encode-upper"],
+        b"kiwi",
+        b"6B697769\n",
+        0,
+        "",
+    ),
+    (
+        &[b"consthex", b"encode-prefixed"],
+        b"kiwi",
+        b"0x6b697769\n",
+        0,
+        "",
+    ),
+    (ENCODE_UPPER_PREFIXED, b"kiwi", b"0x6B697769\n", 0, ""),
+    (
+        DECODE,
+        b"48656c6c6f20776f726c6421\n",
+        b"Hello world!",
+        0,
+        "",
+    ),
+    (DECODE, b"0X6B697769", b"kiwi", 0, ""),
+    (DECODE, b"", b"", 0, ""),
+    (DECODE, b"\n", b"", 0, ""),
+    (CHECK, b"0X6B", b"ok\n", 0, ""),
+    (DECODE, b"0x1\n", b"", 1, "odd number of digits"),
+    (CHECK, b"0x1\n", b"", 1, "odd number of digits"),
+    (DECODE, b"6b\n\n", b"", 1, "odd number of digits"),
+    (DECODE, b"123", b"", 1, "odd number of digits"),
+    (CHECK, b"123\n", b"", 1, "odd number of digits"),
+    (DECODE, b"zz", b"", 1, "invalid character 'z' at position 0"),
+    (CHECK, b"zz", b"", 1, "invalid character 'z' at position 0"),
+    (
+        DECODE,
+        b"0xzz\n",
+        b"",
+        1,
+        "invalid character 'z' at position 2",
+    ),
+    (
+        CHECK,
+        b"0xzz\n",
+        b"",
+        1,
+        "invalid character 'z' at position 2",
+    ),
+    (
+        DECODE,
+        b"0x0x\n",
+        b"",
+        1,
+        "invalid character 'x' at position 3",
+    ),
+    (
+        DECODE,
+        b"6b\r\n6b",
+        b"",
+        1,
+        "invalid character '\\r' at position 2",
+    ),
+    (
+        DECODE,
+        b"6b\n\n\n",
+        b"",
+        1,
+        "invalid character '\\n' at position 2",
+    ),
+    (
+        CHECK,
+        b"6b\xff0",
+        b"",
+        1,
+        "invalid character '\u{ff}' at position 2",
+    ),
+];
+
+#[test]
+fn whole_runs(rt: HostRuntime) {
+    for run in RUNS {
+        runs(&rt, run);
+    }
+}
+
+// The bytes 0 to 64.
+const TEXT: &[u8] = b"000102030405060708090a0b0c0d0e0f101112131415161718191a1b1c1d1e1f\
+                      202122232425262728292a2b2c2d2e2f303132333435363738393a3b3c3d3e3f40";
+
+// The bytes below each count are written as the front of `TEXT`, and read from it.
+#[test]
+fn lengths_round_the_lanes(rt: HostRuntime) {
+    for count in [15u8, 16, 17, 31, 32, 33, 47, 48, 49, 63, 64, 65] {
+        let bytes: Vec<u8> = (0..count).collect(rt.alloc()).expect(&rt, "memory");
+        let digits = TEXT.get(..2 * usize::from(count)).unwrap_or(b"");
+        let text = [digits, b"\n"].concat(rt.alloc()).expect(&rt, "memory");
+        runs(&rt, (ENCODE, &bytes, &text, 0, ""));
+        runs(&rt, (DECODE, &text, &bytes, 0, ""));
+    }
+}
+
+/// The program does all that.
+fn runs(rt: &impl Testing, (arguments, input, written, status, line): Run<'_>) {
+    let (mut rest, mut output) = (input, Target::new(rt.alloc(), 1, InjectedFault::Nothing));
+    let host = Host::new(arguments, true);
+    ends(rt, host, &mut rest, &mut output, (status, line));
+    same_bytes!(rt, "program", (Shown(arguments), Text(input)); output.taken, written);
+}
+
+// The program reads and writes nothing. It makes no difference if standard error fails.
+#[test]
+fn words_that_name_none(rt: HostRuntime) {
+    let rows: [(&[&[u8]], bool); 14] = [
+        (&[], true),
+        (&[b"consthex"], true),
+        (&[b"encode"], false),
+        (&[b"consthex", b""], true),
+        (&[b"consthex", b"encode\0"], false),
+        (&[b"consthex", b"encode", b""], true),
+        (&[b"consthex", b"encode", b"encode"], true),
+        (&[b"consthex", b"encode", b"\xff"], true),
+        (&[b"consthex", b"encode", LONG_WORD], false),
+        (&[b"consthex", b"encode", b"", b""], true),
+        (&[b"consthex", b"", b"encode"], false),
+        (&[b"consthex", b"\xff"], true),
+        (&[b"consthex", b"encode\xff"], true),
+        (&[b"consthex", LONG_WORD], true),
+    ];
+    for (arguments, can_print) in rows {
+        let mut input = b"kiwi".as_slice();
+        let mut output = Target::new(rt.alloc(), 1, InjectedFault::Nothing);
+        let host = Host::new(arguments, can_print);
+        ends(&rt, host, &mut input, &mut output, (2, USAGE));
+        same_bytes!(&rt, "what is left to read", Shown(arguments); input, "kiwi");
+        same!(&rt, "writes, flushes", Shown(arguments); (output.writes, output.flushes), (0, 0));
+    }
+}
+
+// A text that is rejected, where standard error fails; a failed read; and too long an input.
+#[test]
+fn statuses_and_lines(rt: HostRuntime) {
+    let mut output = Target::new(rt.alloc(), 1, InjectedFault::Nothing);
+    let (host, line) = (Host::new(DECODE, false), (1, "odd number of digits"));
+    ends(&rt, host, &mut b"0x1\n".as_slice(), &mut output, line);
+    let (host, line) = (Host::new(ENCODE, true), (3, "read failed"));
+    let mut failing = Source::new(b"kiwi", 2, ErrorKind::Interrupted);
+    ends(&rt, host, &mut failing, &mut output, line);
+    let (host, line) = (Host::new(ENCODE, true), (3, "input too long"));
+    ends(&rt, host, &mut Endless, &mut output, line);
+    same!(&rt; (output.writes, output.flushes), (0, 0));
+}
+
+// The reader of the output goes away: at a write, or only at the flush.
+#[test]
+fn statuses_of_failed_writes(rt: HostRuntime) {
+    let kind = ErrorKind::BrokenPipe;
+    for fault in [
+        InjectedFault::Writes(1, 1, kind),
+        InjectedFault::Writes(2, 2, kind),
+        InjectedFault::Full(2),
+        InjectedFault::Flush(kind),
+    ] {
+        let (host, line) = (Host::new(ENCODE, true), (3, "write failed"));
+        let mut output = Target::new(rt.alloc(), 1, fault);
+        ends(&rt, host, &mut b"kiwi".as_slice(), &mut output, line);
+    }
+}
+
+#[test]
+fn usage(rt: HostRuntime) {
+    let line =
+        "usage: consthex encode|encode-upper|encode-prefixed|encode-upper-prefixed|decode|check";
+    same!(&rt; USAGE, line);
+}

@@ -1,0 +1,147 @@
+//! Runs of the program: worked inputs, the limit, and devices that fail.
+
+ghost use Rattle.std.specs.Prelude.{◌≡◌, codes, string_bytes, IfOk};
+ghost use Rattle.const_hex.specs.declared.error.FromHexError.TheVariants.{OddLength};
+ghost use Rattle.consthex.specs.declared.error.RunError.TheVariants.{NoMemory, Text};
+
+use crate::error::RunError;
+use crate::mode::Mode;
+use crate::runs::run;
+use const_hex::FromHexError::OddLength;
+use const_hex_testing::{Endless, InjectedFault, Source, Target, Testing, same, same_bytes};
+use std::alloc::{AllocError, Global};
+use std::io::{self, ErrorKind, Read};
+
+/// A mode, an input, and the result.
+type Answered<'a> = (Mode, &'a [u8], &'a [u8]);
+
+const ANSWERS: [Answered<'_>; 19] = [
+    (Mode::Encode, b"Hello world!", b"48656c6c6f20776f726c6421\n"),
+    (Mode::Encode, b"kiwi", b"6b697769\n"),
+    (Mode::Encode, b"", b"\n"),
+    (Mode::Encode, b"\n", b"0a\n"),
+    (Mode::EncodeUpper, b"kiwi", b"6B697769\n"),
+    (Mode::EncodePrefixed, b"kiwi", b"0x6b697769\n"),
+    (Mode::EncodePrefixed, b"", b"0x\n"),
+    (Mode::EncodeUpperPrefixed, b"kiwi", b"0x6B697769\n"),
+    (Mode::Decode, b"48656c6c6f20776f726c6421\n", b"Hello world!"),
+    (Mode::Decode, b"6b697769\n", b"kiwi"),
+    (Mode::Decode, b"0X6b697769\n", b"kiwi"),
+    (Mode::Decode, b"0X6B697769", b"kiwi"),
+    (Mode::Decode, b"\n", b""),
+    (Mode::Decode, b"", b""),
+    (Mode::Decode, b"0x\n", b""),
+    (Mode::Check, b"0X6B", b"ok\n"),
+    (Mode::Check, b"6b697769\n", b"ok\n"),
+    (Mode::Check, b"6B697769\n", b"ok\n"),
+    (Mode::Check, b"\n", b"ok\n"),
+];
+
+// The other lines are those of whole runs.
+#[test]
+fn prints_errors(rt: HostRuntime) {
+    same!(&rt; RunError::NoMemory.status(), 4);
+    for (error, line) in [
+        (RunError::NoMemory, "out of memory"),
+        (RunError::Text(OddLength), "odd number of digits"),
+    ] {
+        let text = line_of(rt.alloc(), error).expect(&rt, "memory");
+        same_bytes!(&rt, "message", line; text, line);
+    }
+}
+
+/// What an error prints, as its contract says: the message of the text's error, too.
+fn line_of(alloc: Global, error: RunError) -> Result<String, AllocError>
+    ensures memory { error ≡ NoMemory → IfOk result (λ s. string_bytes s ≡ codes "out of memory") }
+    ensures text { error ≡ Text OddLength
+        → IfOk result (λ s. string_bytes s ≡ codes "odd number of digits") }
+{
+    error.to_string(alloc)
+}
+
+#[test]
+fn accepts_1048576_bytes_and_no_more(rt: HostRuntime) {
+    let mut text = Vec::new(rt.alloc());
+    let mut zeros = io::repeat(0).take(1_048_576);
+    run(rt.alloc(), Mode::Encode, &mut zeros, &mut text).expect(&rt, "run");
+    same!(&rt; text.pop(), Some(b'\n'));
+    same_bytes!(&rt, "run", 1_048_576; text, vec![in rt.alloc(); b'0'; 2_097_152].expect(&rt, "memory"));
+    let mut nothing = Vec::new(rt.alloc());
+    let mut zeros = io::repeat(0).take(1_048_577);
+    let outcome = run(rt.alloc(), Mode::Encode, &mut zeros, &mut nothing);
+    same!(&rt, "run", 1_048_577; outcome, Err(RunError::TooLong));
+    assert!(rt; nothing.is_empty());
+}
+
+const KINDS: [ErrorKind; 2] = [ErrorKind::Interrupted, ErrorKind::Other];
+
+// The tenth call is the one at the end, and the eleventh is not made.
+#[test]
+fn names_a_failed_read(rt: HostRuntime) {
+    for kind in KINDS {
+        for call in 1..=11usize {
+            reads(&rt, kind, call);
+        }
+    }
+}
+
+/// A run whose reader fails at that call.
+fn reads(rt: &impl Testing, kind: ErrorKind, call: usize) {
+    let row = (kind, call);
+    let mut input = Source::new(b"6b697769\n", call, kind);
+    let mut output = Target::new(rt.alloc(), 1, InjectedFault::Nothing);
+    let outcome = run(rt.alloc(), Mode::Decode, &mut input, &mut output);
+    let (want, written, calls) = match call {
+        11 => (Ok(()), "kiwi", (4, 1)),
+        _ => (Err(RunError::ReadFailed), "", (0, 0)),
+    };
+    same!(rt, "run", row; outcome, want);
+    same!(rt, "reads", row; input.reads, call.min(10));
+    same!(rt, "writes, flushes", row; (output.writes, output.flushes), calls);
+    same_bytes!(rt, "what the writer has", row; output.taken, written);
+}
+
+#[test]
+fn stops_an_endless_reader(rt: HostRuntime) {
+    let mut output = Target::new(rt.alloc(), 1, InjectedFault::Nothing);
+    let outcome = run(rt.alloc(), Mode::Encode, &mut Endless, &mut output);
+    same!(&rt, "run", "an endless reader"; outcome, Err(RunError::TooLong));
+    same!(&rt; (output.writes, output.flushes), (0, 0));
+}
+
+// Each answer; then a write that fails or accepts nothing, at each call, and a flush that fails.
+#[test]
+fn answers_and_names_a_failed_write(rt: HostRuntime) {
+    for row in ANSWERS {
+        writes(&rt, row, InjectedFault::Nothing);
+        for kind in KINDS {
+            writes(&rt, row, InjectedFault::Flush(kind));
+            for call in 1..=row.2.len() {
+                writes(&rt, row, InjectedFault::Full(call));
+                writes(&rt, row, InjectedFault::Writes(call, call, kind));
+            }
+        }
+    }
+}
+
+/// A run with that fault.
+fn writes(rt: &impl Testing, (mode, input, answer): Answered<'_>, fault: InjectedFault) {
+    let (row, failed) = (
+        (mode, const_hex_testing::Text(input), fault),
+        Err(RunError::WriteFailed),
+    );
+    let (outcome, taken, calls) = match fault {
+        InjectedFault::Nothing => (Ok(()), answer.len(), (answer.len(), 1)),
+        InjectedFault::Flush(_) => (failed, answer.len(), (answer.len(), 1)),
+        InjectedFault::Full(at) | InjectedFault::Writes(at, _, _) => (
+            failed,
+            at.saturating_sub(1),
+            (at, 0),
+        ),
+    };
+    let (mut input, mut output) = (input, Target::new(rt.alloc(), 1, fault));
+    same!(rt, "run", row; run(rt.alloc(), mode, &mut input, &mut output), outcome);
+    let front = answer.get(..taken).unwrap_or(&[]);
+    same_bytes!(rt, "what the writer has", row; output.taken, front);
+    same!(rt, "writes, flushes", row; (output.writes, output.flushes), calls);
+}
