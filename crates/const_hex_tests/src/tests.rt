@@ -1,5 +1,6 @@
 //! The tests. `const_hex_vectors` has all that a line of its table can ask.
 
+mod edges;
 mod printed;
 mod rows;
 mod sinks;

@@ -89,6 +89,40 @@ fn space_that_remains(rt: HostRuntime) {
     assert!(rt; output.remaining().is_none());
 }
 
+#[test]
+fn pieces_of_each_two_sizes(rt: HostRuntime) {
+    for first in 0..17usize {
+        for second in 0..17usize {
+            fills::<1>(&rt, first, second);
+            fills::<2>(&rt, first, second);
+            fills::<3>(&rt, first, second);
+            fills::<4>(&rt, first, second);
+            fills::<8>(&rt, first, second);
+            fills::<16>(&rt, first, second);
+            fills::<64>(&rt, first, second);
+        }
+    }
+}
+
+/// Writes that many `a`, an empty piece, that many `b`, and one `c`, into 33 zero bytes.
+fn fills<const N: usize>(rt: &impl Testing, first: usize, second: usize)
+    requires { (0 < N) × (N < 100) }
+{
+    assert!(rt; first < 17 && second < 17);
+    let mut want = [0u8; 33];
+    want[..first].fill(b'a');
+    want[first..first + second].fill(b'b');
+    want[first + second] = b'c';
+    let mut text = [0u8; 33];
+    let mut output = ToSlice::<N>::new(SliceOutput::new(&mut text));
+    put(rt, &mut output, [b'a'; 16].get(..first).unwrap_or(&[]));
+    put(rt, &mut output, b"");
+    put(rt, &mut output, [b'b'; 16].get(..second).unwrap_or(&[]));
+    put(rt, &mut output, b"c");
+    let _ = output.finish();
+    same_bytes!(rt, "write", (N, first, second); text, want);
+}
+
 // After a sink has refused, further writes make no call.
 #[test]
 fn writes_after_an_error(rt: HostRuntime) {

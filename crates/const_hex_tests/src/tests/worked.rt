@@ -6,9 +6,9 @@ ghost use Rattle.const_hex.specs.Texts.{text_length};
 
 use const_hex::FromHexError::{InvalidStringLength, OddLength};
 use const_hex::{
-    Buffer, BytesToHexChars, FromHex, FromHexError, check, check_raw, const_check, const_check_raw,
-    const_decode_to_array, const_encode, decode_to_array, decode_to_slice, encode_to_slice,
-    encode_to_slice_upper, encode_to_str, encode_to_str_upper,
+    Buffer, BufferedHex, FromHex, FromHexError, PieceSink, check, check_raw, const_check,
+    const_check_raw, const_decode_to_array, const_encode, decode_to_array, decode_to_slice,
+    encode_to_slice, encode_to_slice_upper, encode_to_str, encode_to_str_upper,
 };
 use const_hex_testing::texts::{invalid, make_bytes, print};
 use const_hex_testing::{Testing, Text, same, same_bytes, same_read};
@@ -79,6 +79,40 @@ fn decoders(rt: HostRuntime) {
     same!(&rt; (signed.len(), signed[0], signed[1]), (2, 127, -128));
 }
 
+/// The text of that length with every digit, as in the table of test vectors.
+#[test]
+fn checks_of_each_length(rt: HostRuntime) {
+    let mut text = Vec::new(rt.alloc());
+    for length in 1..=130usize {
+        let digit = b"0123456789abcdefABCDEF"[7 * (length - 1) % 22];
+        text.push(digit).expect(&rt, "memory");
+        same!(&rt, "const_check_raw", length; (const_check_raw(&text), check_raw(&text)), (true, true));
+        let wanted = if length % 2 == 0 {
+            Ok(())
+        } else {
+            Err(OddLength)
+        };
+        same!(&rt, "const_check", length; (const_check(&text), check(&text)), (wanted, wanted));
+    }
+}
+
+/// A sink that fails at each of the three calls, or at none.
+#[test]
+fn refused_calls(rt: HostRuntime) {
+    let sizes = [4034, 4096, 66];
+    for refuse_at in 0..=3usize {
+        let mut sink = PieceSink::new(rt.alloc(), refuse_at);
+        let done = BufferedHex::<false, true>::new(&[0xAB; 4097]).write_to(&mut sink);
+        let calls = if refuse_at == 0 { 3 } else { refuse_at };
+        same!(&rt, "write_to", refuse_at; (done.is_ok(), sink.calls()), (refuse_at == 0, calls));
+        let pieces = if refuse_at == 0 { 3 } else { refuse_at - 1 };
+        same!(&rt, "pieces", refuse_at; sink.pieces().len(), pieces);
+        for (piece, size) in sink.pieces().iter().zip(sizes) {
+            same!(&rt, "a piece", refuse_at; piece.len(), size);
+        }
+    }
+}
+
 #[test]
 fn encoders(rt: HostRuntime) {
     let mut text = [0xEE; 8];
@@ -131,18 +165,42 @@ fn formats<const N: usize, const DIGITS: usize, const FULL: usize>(
 #[test]
 fn buffers(rt: HostRuntime) {
     let bytes = make_bytes(rt.alloc(), 128).expect(&rt, "memory");
-    let (digits, full) = (Buffer::<1, false, 2>::new(), Buffer::<1, true, 4>::new());
-    formats(&rt, &bytes, digits, full);
-    let (digits, full) = (
+    formats(
+        &rt,
+        &bytes,
+        Buffer::<1, false, 2>::new(),
+        Buffer::<1, true, 4>::new(),
+    );
+    formats(
+        &rt,
+        &bytes,
+        Buffer::<8, false, 16>::new(),
+        Buffer::<8, true, 18>::new(),
+    );
+    formats(
+        &rt,
+        &bytes,
+        Buffer::<20, false, 40>::new(),
+        Buffer::<20, true, 42>::new(),
+    );
+    formats(
+        &rt,
+        &bytes,
         Buffer::<32, false, 64>::new(),
         Buffer::<32, true, 66>::new(),
     );
-    formats(&rt, &bytes, digits, full);
-    let (digits, full) = (
+    formats(
+        &rt,
+        &bytes,
+        Buffer::<64, false, 128>::new(),
+        Buffer::<64, true, 130>::new(),
+    );
+    formats(
+        &rt,
+        &bytes,
         Buffer::<128, false, 256>::new(),
         Buffer::<128, true, 258>::new(),
     );
-    formats(&rt, &bytes, digits, full);
 }
 
 #[test]
@@ -153,20 +211,10 @@ fn worked_buffers(rt: HostRuntime) {
     same!(&rt; Buffer::<2, true, 6>::new().format_slice_upper(&[0xAB, 0x0C]), "0xAB0C");
     same!(&rt; Buffer::<4, false, 8>::new().format(b"1234"), "31323334");
     same!(&rt; const_encode::<4, false, 8>(b"kiwi").as_str(), "6b697769");
-    same!(&rt; Buffer::<4, true, 10>::new().const_format(b"kiwi").as_str(), "0x6b697769");
-    same!(&rt; Buffer::<4, true, 10>::new().const_format_upper(b"kiwi").as_str(), "0x6B697769");
     let empty = const_encode::<0, true, 2>(&[])
         .to_vec(rt.alloc())
         .expect(&rt, "memory");
     same_bytes!(&rt, "to_vec", 0; empty, [48, 120]);
-}
-
-#[test]
-fn no_characters_are_left(rt: HostRuntime) {
-    let mut chars = BytesToHexChars::<false>::new(&[]);
-    same!(&rt; (chars.next(), chars.next()), (None, None));
-    let mut chars = BytesToHexChars::<true>::new(&[0x0F]);
-    same!(&rt; (chars.next(), chars.next(), chars.next()), (Some('0'), Some('F'), None));
 }
 
 #[test]
