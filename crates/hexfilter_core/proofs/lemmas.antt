@@ -1,5 +1,4 @@
 pub mod Arguments
-pub mod Colons
 pub mod Encoding
 pub mod Errors
 pub mod GroupBreaks

@@ -3,7 +3,6 @@ pub mod Groups
 pub mod Inputs
 pub mod Options
 pub mod Outcome
-pub mod Pairs
 pub mod Places
 pub mod Programs
 pub mod Stages

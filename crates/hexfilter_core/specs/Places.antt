@@ -1,7 +1,6 @@
 -- Where a character stands, as editors count.
 use Rattle.std.specs.Prelude.{◌≡◌, ℕ, ◌+◌, ◌-◌, ◌^◌, ◌<◌, ◌==◌, ◌||◌, nat_lt, Bool, true, false, if◌then◌else◌, List, [], ◌∷◌, length, Option, Some, None}
 use Rattle.hexfilter_core.specs.declared.mode.Reading.{Reading}
-use Rattle.hexfilter_core.specs.declared.place.Line.{Line}
 use Rattle.hexfilter_core.specs.declared.place.Place.{Place}
 
 -- the place after more of an input
@@ -15,17 +14,9 @@ place_after p (b ∷ t) =
 abbrev pub after : List ℕ → Place
 after x = place_after (record { line = 1; column = 1 }) x
 
--- n is the length k, if that is below the greatest `usize`
-abbrev pub IsCount : ℕ → ℕ → Type 0
-IsCount n k = k < 2 ^ 64 - 1 → n ≡ k
-
 -- the place is that of the character after x, if its position can be counted
 abbrev pub IsPlace : List ℕ → Place → Type 0
 IsPlace x p = length x < 2 ^ 64 - 1 → (p.line ≡ (after x).line) × (p.column ≡ (after x).column)
-
--- the line is that of the character after x, if its position can be counted
-abbrev pub IsLine : List ℕ → Line → Type 0
-IsLine x l = length x < 2 ^ 64 - 1 → (l.number ≡ (after x).line) × (l.start + (after x).column ≡ length x + 1)
 
 -- whether bytes may be left out
 abbrev pub leaves_out : Reading → Bool

@@ -1,13 +1,14 @@
 -- What a run has made of the chunks that it has read.
-use Rattle.std.specs.Prelude.{◌≡◌, ◌≤◌, ◌++◌, Bool, true, ℕ, List, length}
+use Rattle.std.specs.Prelude.{◌≡◌, ◌<◌, ◌≤◌, ◌++◌, Bool, true, ℕ, List, Option, None, Some, length}
 use Rattle.const_hex.specs.Decoding.{HasRead, counted}
 use Rattle.const_hex.specs.Texts.{full_text}
 use Rattle.const_hex.specs.declared.codec.decoder.Decoder.{Decoder}
 use Rattle.hexfilter_core.specs.Groups.{encoded, laid_out}
 use Rattle.hexfilter_core.specs.Inputs.{next_from, text_of}
-use Rattle.hexfilter_core.specs.Outcome.{written}
-use Rattle.hexfilter_core.specs.Places.{IsLine, leaves_out}
+use Rattle.hexfilter_core.specs.Outcome.{IsErrorOf, Makes, written}
+use Rattle.hexfilter_core.specs.Places.{IsPlace, leaves_out}
 use Rattle.hexfilter_core.specs.declared.encoder.Encoder.{Encoder}
+use Rattle.hexfilter_core.specs.declared.error.RunError.{RunError}
 use Rattle.hexfilter_core.specs.declared.input_decoder.InputDecoder.{InputDecoder}
 use Rattle.hexfilter_core.specs.declared.mode.Groups.{Groups}
 use Rattle.hexfilter_core.specs.declared.mode.Mode.{Mode}
@@ -19,7 +20,7 @@ use Rattle.hexfilter_core.specs.declared.stage.Stage.{Stage}
 -- the scanner has read the input x
 pub record HasScanned (r : Reading) (s : Scanner) (x : List ℕ) : Type 0 where
   pub next : s.column ≡ next_from r 0 x
-  pub line : leaves_out r ≡ true → IsLine x s.line
+  pub place : leaves_out r ≡ true → IsPlace x s.place
 
 -- the next bytes u of the input add v to the text, and the scanner has read them, too
 pub record HasAdded (r : Reading) (s : Scanner) (x u v : List ℕ) : Type 0 where
@@ -48,6 +49,11 @@ pub record HasEncoded (prefix upper : Bool) (g : Groups) (e : Encoder) (x z : Li
 abbrev pub HasMade : Mode → Stage → List ℕ → List ℕ → Type 0
 HasMade (Encode prefix upper g) s x z = HasEncoded prefix upper g s.encoder x z
 HasMade (Decode r) s x z = HasDecoded r s.decoder x z
+
+-- of x, the last n bytes in a chunk, y was made: so far, or at the end, or before the error
+abbrev pub Reaches : Mode → Stage → Option (List ℕ) → ℕ → List ℕ → List ℕ → Option RunError → Type 0
+Reaches m s left n x y None = (0 < n → HasMade m s x y) × (n ≡ 0 → Makes m x y)
+Reaches m s left n x y (Some e) = IsErrorOf m left x y e
 
 -- nothing was read
 abbrev pub IsNew : Mode → Encoder → Type 0

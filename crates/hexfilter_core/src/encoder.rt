@@ -46,7 +46,7 @@ impl Encoder {
             → HasEncoded prefix upper groups self.new (x ++ chunk.now) (y ++ take result output.new) }
         ensures end { (prefix : Bool) (x y : List ℕ) → length chunk.now ≡ 0
             → HasEncoded prefix upper groups self.old x y
-            → encoded prefix upper groups x ≡ y ++ take result output.new }
+            → y ++ take result output.new ≡ encoded prefix upper groups (x ++ chunk.now) }
         ensures within { result ≤ length output.new }
         ensures lengths { (length text.new ≡ length text.old) × (length output.new ≡ length output.old) }
     {

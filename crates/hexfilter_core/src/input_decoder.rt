@@ -1,15 +1,16 @@
 //! A decoder for an input that comes in chunks.
 
-ghost use Rattle.std.specs.Prelude.{◌≡◌, ◌*◌, ◌+◌, ◌/◌, ◌≤◌, ◌<◌, ◌++◌, ◌∷◌, [], ℕ, List, Option, None, Some, length, take, IfOk, IfErr, IfSome, OnErr};
+ghost use Rattle.std.specs.Prelude.{◌≡◌, ◌+◌, ◌/◌, ◌≤◌, ◌<◌, ◌++◌, ◌∷◌, [], ℕ, List, Option, None, Some, length, take, IfOk, OnErr};
 ghost use Rattle.std.specs.Io.KnownBytes.{IsAtEnd};
 ghost use Rattle.const_hex.specs.Results.{body_of};
 ghost use Rattle.const_hex.specs.Texts.{AllDigits};
-ghost use Rattle.hexfilter_core.specs.Inputs.{chunk_size};
-ghost use Rattle.hexfilter_core.specs.Outcome.{IsErrorOf, Makes, MakesBeginning};
-ghost use Rattle.hexfilter_core.specs.Stages.{HasDecoded, HasWritten};
+ghost use Rattle.hexfilter_core.specs.Inputs.{chunk_size, text_of};
+ghost use Rattle.hexfilter_core.specs.Outcome.{IsErrorOf};
+ghost use Rattle.hexfilter_core.specs.Stages.{HasDecoded, HasWritten, Reaches};
 ghost use Rattle.hexfilter_core.specs.declared.error.RunError.{RunError};
 ghost use Rattle.hexfilter_core.specs.declared.mode.Mode.TheVariants.{Decode};
 ghost use Rattle.hexfilter_core.specs.declared.mode.Reading.{Reading};
+ghost use Rattle.hexfilter_core.specs.declared.stage.Stage.{Stage};
 
 use crate::error::RunError;
 use crate::mode::Reading;
@@ -37,8 +38,8 @@ impl InputDecoder {
         }
     }
 
-    /// Decodes the next chunk into the front of the output, or ends the input, if the chunk is empty. Returns the
-    /// number of bytes there, which are all before the error, if there is one. The text is space for the chunk.
+    /// Decodes the next chunk into the front of the output. Returns the number of bytes there, which are all before the
+    /// error, if there is one. The text is space for the chunk.
     pub(crate) fn decode(
         &mut self,
         reading: Reading,
@@ -49,99 +50,85 @@ impl InputDecoder {
         requires chunk { length chunk.now ≤ chunk_size }
         requires text { length chunk.now ≤ length text.old }
         requires space { length chunk.now ≤ length output.old }
-        ensures more { result.1 ≡ None → 0 < length chunk.now → (x y : List ℕ) → HasDecoded reading self.old x y
+        ensures ok { result.1 ≡ None → (x y : List ℕ) → HasDecoded reading self.old x y
             → HasDecoded reading self.new (x ++ chunk.now) (y ++ take result.0 output.new) }
-        ensures end { result.1 ≡ None → length chunk.now ≡ 0 → (x y : List ℕ) → HasDecoded reading self.old x y
-            → Makes (Decode reading) x (y ++ take result.0 output.new) }
-        ensures err { (e : RunError) → result.1 ≡ Some e → (x y : List ℕ) → HasDecoded reading self.old x y
-            → (left : Option (List ℕ)) → (length chunk.now ≡ 0 → IsAtEnd left)
+        ensures err { (e : RunError) → result.1 ≡ Some e → (x y : List ℕ) (left : Option (List ℕ))
+            → HasDecoded reading self.old x y
             → IsErrorOf (Decode reading) left (x ++ chunk.now) (y ++ take result.0 output.new) e }
-        ensures begun { (x y : List ℕ) → HasDecoded reading self.old x y
-            → MakesBeginning (Decode reading) (x ++ chunk.now) (y ++ take result.0 output.new) }
         ensures within { result.0 ≤ length output.new }
         ensures lengths { (length text.new ≡ length text.old) × (length output.new ≡ length output.old) }
     {
-        let mut whole = *self;
-        if chunk.is_empty() {
-            return (0, whole.finish());
-        }
-        if let Ok(count) = whole.decode_whole(reading, chunk, text, output) {
-            *self = whole;
-            return (count, None);
-        }
-        // A chunk with an error is decoded byte after byte.
+        let mut done = 0;
         let mut end = 0;
-        for byte in chunk {
-            match self.decode_byte(reading, *byte, &mut output[end..]) {
-                Ok(count) => end += count,
-                Err(error) => return (end, Some(error)),
+        let mut size = chunk.len();
+        'parts: while done < chunk.len() {
+            let mut next = *self;
+            let part = &chunk[done..done + size];
+            match next.decode_part(reading, part, text, &mut output[end..]) {
+                Ok(count) => {
+                    *self = next;
+                    done += size;
+                    end += count;
+                    size = size.min(chunk.len() - done);
+                }
+                Err(_) => {
+                    // The half with the invalid character is cut again, down to this character.
+                    if size == 1 {
+                        return (end, Some(self.error(reading, chunk[done])));
+                    }
+                    size /= 2;
+                }
             }
         }
         (end, None)
     }
 
-    /// As `decode`, if the chunk has no error. After an error, this decoder cannot go on.
-    fn decode_whole(
+    /// Decodes a part of a chunk into the front of the output, and returns the number of bytes there. After an error,
+    /// this decoder cannot go on.
+    fn decode_part(
         &mut self,
         reading: Reading,
-        chunk: &[u8],
+        part: &[u8],
         text: &mut [u8],
         output: &mut [u8],
     ) -> Result<usize, FromHexError>
-        requires { length chunk.now ≤ length text.old }
+        requires { length part.now ≤ length text.old }
         ensures ok { (x y : List ℕ) → HasDecoded reading self.old x y
-            → IfOk result (λ n. HasDecoded reading self.new (x ++ chunk.now) (y ++ take n output.new)) }
+            → IfOk result (λ n. HasDecoded reading self.new (x ++ part.now) (y ++ take n output.new)) }
+        ensures err { (x y : List ℕ) → HasDecoded reading self.old x y → length part.now ≤ length output.old
+            → OnErr result (AllDigits (body_of (text_of reading (x ++ part.now))) → ⊥) }
         ensures within { IfOk result (λ n. n ≤ length output.old) }
+        ensures most { IfOk result (λ n. n ≤ length part.now) }
         ensures lengths { (length text.new ≡ length text.old) × (length output.new ≡ length output.old) }
     {
-        let read = self.read;
-        self.read = read.saturating_add(chunk.len());
+        self.read = self.read.saturating_add(part.len());
         if reading.leaves_out() {
-            let count = self.scanner.text(reading, read, chunk, text);
+            let count = self.scanner.text(reading, part, text);
             return decode_text(&mut self.decoder, reading, &text[..count], output);
         }
-        decode_text(&mut self.decoder, reading, chunk, output)
+        decode_text(&mut self.decoder, reading, part, output)
     }
 
-    /// Decodes a byte into the front of the output, and returns the number of bytes there.
-    fn decode_byte(
-        &mut self,
-        reading: Reading,
-        byte: u8,
-        output: &mut [u8],
-    ) -> Result<usize, RunError>
-        ensures ok { (x y : List ℕ) → HasDecoded reading self.old x y
-            → IfOk result (λ n. HasDecoded reading self.new (x ++ byte ∷ []) (y ++ take n output.new)) }
-        ensures err { (x y rest : List ℕ) (left : Option (List ℕ)) → HasDecoded reading self.old x y
-            → 1 ≤ length output.old → length rest < chunk_size
-            → IfErr result (IsErrorOf (Decode reading) left (x ++ byte ∷ rest) y) }
-        ensures within { IfOk result (λ n. n ≤ length output.old) }
-        ensures most { IfOk result (λ n. n ≤ 1) }
-        ensures length { length output.new ≡ length output.old }
+    /// The error that the next byte is invalid.
+    fn error(&self, reading: Reading, byte: u8) -> RunError
+        ensures { (x y rest : List ℕ) (left : Option (List ℕ)) → HasDecoded reading self.now x y → length rest < chunk_size
+            → (AllDigits (body_of (text_of reading (x ++ byte ∷ []))) → ⊥)
+            → IsErrorOf (Decode reading) left (x ++ byte ∷ rest) y result }
     {
-        let (index, scanner) = (self.read, self.scanner);
-        self.read = index.saturating_add(1);
-        let character = match self.scanner.next(reading, byte, self.read) {
-            Some(character) => character,
-            None => return Ok(0),
+        let error = FromHexError::InvalidHexCharacter {
+            c: char::from(byte),
+            index: self.read,
         };
-        match decode_text(&mut self.decoder, reading, &[character], output) {
-            Ok(count) => Ok(count),
-            Err(_) => {
-                let c = char::from(byte);
-                let error = FromHexError::InvalidHexCharacter { c, index };
-                Err(RunError::Text(error, scanner.place(reading, index)))
-            }
-        }
+        RunError::Text(error, self.scanner.place(reading))
     }
 
     /// Ends the input. Returns `OddLength` if the text has an odd number of digits.
-    fn finish(self) -> Option<RunError>
-        ensures ok { (r : Reading) (x y : List ℕ) → HasDecoded r self x y → result ≡ None → Makes (Decode r) x y }
-        ensures err { (r : Reading) (x y : List ℕ) (left : Option (List ℕ)) → HasDecoded r self x y → IsAtEnd left
-            → IfSome result (IsErrorOf (Decode r) left x y) }
+    pub(crate) fn finish(&self) -> Option<RunError>
+        ensures { (r : Reading) (s : Stage) (x y : List ℕ) (left : Option (List ℕ)) → HasDecoded r self.now x y → IsAtEnd left
+            → Reaches (Decode r) s left 0 x y result }
     {
-        match self.decoder.finish() {
+        let end = *self;
+        match end.decoder.finish() {
             Ok(()) => None,
             Err(error) => Some(RunError::Text(error, None)),
         }

@@ -3,9 +3,7 @@
 ghost use Rattle.std.specs.Prelude.{◌≡◌, ◌≤◌, ◌<◌, ◌+◌, ◌*◌, ◌++◌, [], ℕ, List, Option, None, Some, length, take};
 ghost use Rattle.std.specs.Io.KnownBytes.{IsAtEnd};
 ghost use Rattle.hexfilter_core.specs.Inputs.{chunk_size};
-ghost use Rattle.hexfilter_core.specs.Outcome.{IsErrorOf, Makes, MakesBeginning};
-ghost use Rattle.hexfilter_core.specs.Stages.{HasMade};
-ghost use Rattle.hexfilter_core.specs.declared.error.RunError.{RunError};
+ghost use Rattle.hexfilter_core.specs.Stages.{HasMade, Reaches};
 
 use crate::encoder::Encoder;
 use crate::error::RunError;
@@ -46,15 +44,9 @@ impl Stage {
         requires chunk { length chunk.now ≤ chunk_size }
         requires text { 2 * length chunk.now + 2 ≤ length text.old }
         requires space { 4 * length chunk.now + 5 ≤ length output.old }
-        ensures more { result.1 ≡ None → 0 < length chunk.now → (x y : List ℕ) → HasMade mode self.old x y
-            → HasMade mode self.new (x ++ chunk.now) (y ++ take result.0 output.new) }
-        ensures end { result.1 ≡ None → length chunk.now ≡ 0 → (x y : List ℕ) → HasMade mode self.old x y
-            → Makes mode x (y ++ take result.0 output.new) }
-        ensures err { (e : RunError) → result.1 ≡ Some e → (x y : List ℕ) → HasMade mode self.old x y
-            → (left : Option (List ℕ)) → (length chunk.now ≡ 0 → IsAtEnd left)
-            → IsErrorOf mode left (x ++ chunk.now) (y ++ take result.0 output.new) e }
-        ensures begun { (x y : List ℕ) → HasMade mode self.old x y
-            → MakesBeginning mode (x ++ chunk.now) (y ++ take result.0 output.new) }
+        ensures made { (x y : List ℕ) (left : Option (List ℕ)) → HasMade mode self.old x y
+            → (length chunk.now ≡ 0 → IsAtEnd left)
+            → Reaches mode self.new left (length chunk.now) (x ++ chunk.now) (y ++ take result.0 output.new) result.1 }
         ensures within { result.0 ≤ length output.new }
         ensures lengths { (length text.new ≡ length text.old) × (length output.new ≡ length output.old) }
     {
@@ -63,12 +55,11 @@ impl Stage {
                 prefix: _,
                 upper,
                 groups,
-            } => {
-                (
-                    self.encoder.encode(upper, groups, chunk, text, output),
-                    None,
-                )
-            }
+            } => (
+                self.encoder.encode(upper, groups, chunk, text, output),
+                None,
+            ),
+            Mode::Decode(_) if chunk.is_empty() => (0, self.decoder.finish()),
             Mode::Decode(reading) => self.decoder.decode(reading, chunk, text, output),
         }
     }

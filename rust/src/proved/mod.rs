@@ -53,10 +53,10 @@ pub use self::formatting::text::*;
 //   15  and panics instead of returning an error
 //    1  and the crate's decoder is cloned
 //    1  and writes a text to memory that is not cleared
-//    1  before it reads a chunk
-//   51  deleted: attribute
+//    2  before it reads a part, or ends
+//   50  deleted: attribute
 //  229  deleted: contract
-//  209  deleted: ghost item
+//  208  deleted: ghost item
 //    4  deleted: model
 //    2  each value may be dropped
 //    6  kernels that no target uses are left out, and callers that nothing exports

@@ -1,5 +1,5 @@
 -- Parts of a text that are written one after another.
-use Rattle.std.proofs.Common.{◌≡◌, ◌≢◌, ℕ, ◌<◌, ◌≤◌, Bool, false, List, [], ◌∷◌, ◌++◌, length, Result, Ok, Err, refl, sym, ap, ◌∙◌, arith, append_assoc}
+use Rattle.std.proofs.Common.{◌≡◌, ◌≢◌, ℕ, ◌≤◌, Bool, false, List, [], ◌∷◌, ◌++◌, length, Result, Ok, Err, refl, sym, ap, ◌∙◌, arith, append_assoc}
 use Rattle.std.proofs.lemmas.List.{append-nil}
 use Rattle.std.specs.Prelude.{OnErr, OnOk}
 use Rattle.const_hex.specs.Texts.{full_text, hex_text, prefix_of}
@@ -63,20 +63,10 @@ no_bytes [] h = refl
 no_bytes (b ∷ l) h = absurd (omega arith)
 
 -- the empty chunk is the end
-pub encoded_last : (prefix up : Bool) (g : Groups) (old new : Encoder) (x y chunk z : List ℕ) → length chunk ≡ 0
+pub encoded_last : (prefix up : Bool) (g : Groups) (old new : Encoder) (x y chunk z : List ℕ)
     → HasEncoded prefix up g old x y
     → BreaksInto g old.column (full_text old.prefix up chunk) z new.column → new.prefix ≡ false → new.column ≤ g.size
-    → encoded prefix up g x ≡ y ++ (z ++ ended g.separator new.column)
-encoded_last prefix up g old new x y chunk z none has breaks due fits =
+    → y ++ (z ++ ended g.separator new.column) ≡ encoded prefix up g (x ++ chunk)
+encoded_last prefix up g old new x y chunk z has breaks due fits =
     let more = encoded_more prefix up g old new x y chunk z has breaks due fits in
-    ap (λ l. encoded prefix up g l) (sym (ap (λ l. x ++ l) (no_bytes chunk none) ∙ append-nil x))
-    ∙ encoded_end prefix up g new (x ++ chunk) (y ++ z) more due ∙ append_assoc y z (ended g.separator new.column)
-
--- what is made of a chunk or of the end is a beginning
-pub encoded_begun : (prefix up : Bool) (g : Groups) (new : Encoder) (x y chunk : List ℕ)
-    → (0 < length chunk → HasEncoded prefix up g new (x ++ chunk) y) → (length chunk ≡ 0 → encoded prefix up g x ≡ y)
-    → (left : List ℕ) × (encoded prefix up g (x ++ chunk) ≡ y ++ left)
-encoded_begun prefix up g new x y [] more end =
-    ([], ap (λ l. encoded prefix up g l) (append-nil x) ∙ end refl ∙ sym (append-nil y))
-encoded_begun prefix up g new x y (b ∷ chunk) more end =
-    (_, ap (λ l. encoded prefix up g l) (sym (append-nil (x ++ b ∷ chunk))) ∙ (more (omega arith)).left [])
+    sym (encoded_end prefix up g new (x ++ chunk) (y ++ z) more due ∙ append_assoc y z (ended g.separator new.column))

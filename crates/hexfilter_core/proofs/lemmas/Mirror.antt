@@ -4,8 +4,8 @@ use Rattle.std.proofs.lemmas.Bool.Decides.{nat_tests}
 use Rattle.std.proofs.lemmas.List.Elements.{All-cons, All-head, All-nil, All-tail, All-weaker}
 use Rattle.std.specs.List.{All}
 use Rattle.const_hex.proofs.lemmas.Reading.{one_answer}
-use Rattle.const_hex.proofs.lemmas.RoundTrip.{Reads-full_text, body-full_text}
-use Rattle.const_hex.specs.Results.{AreBytes, IsEven, IsOdd, body_of}
+use Rattle.const_hex.proofs.lemmas.RoundTrip.{Reads-full_text}
+use Rattle.const_hex.specs.Results.{AreBytes, IsEven, Reads, body_of}
 use Rattle.const_hex.specs.Texts.{AllDigits, IsDigit, full_text, hex_text, prefix_of}
 use Rattle.const_hex.specs.declared.error.FromHexError.{FromHexError}
 use Rattle.const_hex.specs.declared.error.FromHexError.TheVariants.{InvalidHexCharacter, InvalidStringLength, NoMemory, OddLength}
@@ -13,7 +13,7 @@ use Rattle.const_hex_arch.proofs.lemmas.DigitTexts.{digits_append}
 use Rattle.const_hex_arch.proofs.lemmas.Spelling.{Spells-digits}
 use Rattle.const_hex_arch.proofs.lemmas.Texts.{Spells-hex_text}
 use Rattle.hexfilter_core.specs.Groups.{encoded, groups_from, laid_out}
-use Rattle.hexfilter_core.specs.Inputs.{is_whitespace, text_from, text_of}
+use Rattle.hexfilter_core.specs.Inputs.{HasError, is_whitespace, text_from, text_of}
 use Rattle.hexfilter_core.specs.Outcome.{FailsWith, Makes}
 use Rattle.hexfilter_core.specs.declared.mode.Groups.{Groups}
 use Rattle.hexfilter_core.specs.declared.mode.Mode.TheVariants.{Decode}
@@ -84,9 +84,6 @@ with_prefix false t h = h
 same_bytes : (a b : List ℕ) → ◌≡◌ {A = Result (List ℕ) FromHexError} (Ok a) (Ok b) → a ≡ b
 same_bytes a b is = cc
 
-pub regroup : (a : List ℕ) (c : ℕ) (b d : List ℕ) → (a ++ c ∷ b) ++ d ≡ (a ++ c ∷ []) ++ (b ++ d)
-regroup a c b d = append_assoc a (c ∷ b) d ∙ sym (append_assoc a (c ∷ []) (b ++ d))
-
 text_plain_chars : (prefix up : Bool) (x : List ℕ) → AreBytes x
     → All (λ b. is_whitespace b ≡ false) (full_text prefix up x)
 text_plain_chars prefix up x h =
@@ -117,9 +114,6 @@ mirrored : (prefix up i : Bool) (g : Groups) (x : List ℕ) → AreBytes x → I
 mirrored prefix up i g x h ignores =
     by_separator i g.size g.separator (full_text prefix up x) _ _ refl refl (text_plain_chars prefix up x h) ignores
 
-even_not_odd : (n : ℕ) → IsEven n → IsOdd n → ⊥
-even_not_odd n e h = omega (arith, e, h)
-
 one_digit : (c d : ℕ) (v : List ℕ) (b : Bool) → ((c == 48) && (d == 120 || d == 88)) ≡ b
     → AllDigits (if b then v else c ∷ d ∷ v) → AllDigits (c ∷ [])
 one_digit c d v true e h = All-cons IsDigit c [] (zero_digit c (grind (arith, nat_tests, e))) (All-nil IsDigit)
@@ -130,37 +124,44 @@ front_digits : (c d : ℕ) (u v : List ℕ) (b : Bool) → AllDigits (if b then 
 front_digits c d u v true h = ((digits_append u v).0 h).0
 front_digits c d u v false h = ((digits_append (c ∷ d ∷ u) v).0 h).0
 
-pub body_front : (u v : List ℕ) → AllDigits (body_of (u ++ v)) → AllDigits (body_of u)
+body_front : (u v : List ℕ) → AllDigits (body_of (u ++ v)) → AllDigits (body_of u)
 body_front [] v h = All-nil IsDigit
 body_front (c ∷ []) [] h = h
 body_front (c ∷ []) (d ∷ v) h = one_digit c d v _ refl h
 body_front (c ∷ d ∷ u) v h = front_digits c d u v ((c == 48) && (d == 120 || d == 88)) h
 
+-- an input that has an error decodes to no bytes, whatever follows
+not_decoded : (r : Reading) (x rest y bytes : List ℕ) (e : FromHexError) (place : Option Place)
+    → HasError r (Some rest) x y e place → Reads (text_of r (x ++ rest)) (Ok bytes) → ⊥
+not_decoded r x rest y bytes OddLength place (none, end, odd, pairs) (even, spelled) =
+    let whole = ap (λ l. x ++ l) end ∙ append-nil x in
+    let same : IsEven (length (text_of r x)) = rw whole at even in omega (arith, odd, same)
+not_decoded r x rest y bytes InvalidStringLength place fails reads = fails
+not_decoded r x rest y bytes (InvalidHexCharacter c k) place fails (even, spelled) =
+    let front = fails.front ++ c ∷ [] in
+    let more = fails.rest ++ rest in
+    let cut : x ++ rest ≡ front ++ more =
+    ap (λ l. l ++ rest) fails.cut ∙ append_assoc fails.front (c ∷ fails.rest) rest
+    ∙ sym (append_assoc fails.front (c ∷ []) more) in
+    let text = ap (text_of r) cut ∙ text-append r 0 front more in
+    let digits = Spells-digits (body_of (text_of r (x ++ rest))) bytes spelled in
+    fails.invalid (body_front (text_of r front) _ (rw text at digits))
+not_decoded r x rest y bytes NoMemory place fails reads = fails
+
 module _ (prefix up i : Bool) (g : Groups) (ignores : IgnoresLines i g) (bytes : List ℕ) (are : AreBytes bytes) where
+  -- the bytes are what the text of the encoded bytes decodes to
+  read : (x : List ℕ) → x ≡ encoded prefix up g bytes → Reads (text_of (mirror i g) x) (Ok bytes)
+  read x is =
+      Reads-full_text _ prefix up bytes are (ap (text_of (mirror i g)) is ∙ mirrored prefix up i g bytes are ignores)
+
   -- the bytes are decoded again
   pub decoded_again : (x y : List ℕ) → x ≡ encoded prefix up g bytes → Makes (Decode (mirror i g)) x y → y ≡ bytes
-  decoded_again x y cut (found, reads, is) =
-      let text = ap (text_of (mirror i g)) cut ∙ mirrored prefix up i g bytes are ignores in
-      is ∙ same_bytes found bytes
-      (one_answer _ (Ok found) (Ok bytes) reads (Reads-full_text _ prefix up bytes are text))
+  decoded_again x y is (found, reads, same) =
+      same ∙ same_bytes found bytes (one_answer _ (Ok found) (Ok bytes) reads (read x is))
 
   -- and never rejected
   pub never_rejected : (x rest y : List ℕ) (e : FromHexError) (place : Option Place)
       → encoded prefix up g bytes ≡ x ++ rest
       → FailsWith (Decode (mirror i g)) (Some rest) x y e place → ⊥
-  never_rejected x rest y OddLength place cut (found, (none, at, odd, pairs), is) =
-      let whole = sym (cut ∙ ap (λ l. x ++ l) at ∙ append-nil x) in
-      let text = ap (text_of (mirror i g)) whole ∙ mirrored prefix up i g bytes are ignores in
-      even_not_odd (length (full_text prefix up bytes)) (Reads-full_text _ prefix up bytes are refl).0 (rw text at odd)
-  never_rejected x rest y InvalidStringLength place cut (found, fails, is) = fails
-  never_rejected x rest y (InvalidHexCharacter c k) place cut (found, fails, is) =
-      let r = mirror i g in
-      let front = fails.front ++ c ∷ [] in
-      let more = fails.rest ++ rest in
-      let whole : encoded prefix up g bytes ≡ front ++ more =
-      cut ∙ ap (λ l. l ++ rest) fails.cut ∙ regroup fails.front c fails.rest rest in
-      let text = sym (mirrored prefix up i g bytes are ignores) ∙ ap (text_of r) whole ∙ text-append r 0 front more in
-      let digits : AllDigits (body_of (full_text prefix up bytes)) =
-      rw (body-full_text prefix up bytes) (Spells-digits (hex_text up bytes) bytes (Spells-hex_text up bytes are)) in
-      fails.invalid (body_front (text_of r front) _ (rw text at digits))
-  never_rejected x rest y NoMemory place cut (found, fails, is) = fails
+  never_rejected x rest y e place cut (found, fails, is) =
+      not_decoded (mirror i g) x rest found bytes e place fails (read (x ++ rest) (sym cut))

@@ -26,8 +26,8 @@ impl InputDecoder {
         }
     }
 
-    /// Decodes the next chunk into the front of the output, or ends the input, if the chunk is empty. Returns the
-    /// number of bytes there, which are all before the error, if there is one. The text is space for the chunk.
+    /// Decodes the next chunk into the front of the output. Returns the number of bytes there, which are all before the
+    /// error, if there is one. The text is space for the chunk.
     pub(crate) fn decode(
         &mut self,
         reading: Reading,
@@ -35,68 +35,61 @@ impl InputDecoder {
         text: &mut [u8],
         output: &mut [u8],
     ) -> (usize, Option<RunError>) {
-        let mut whole = self.clone();
-        if chunk.is_empty() {
-            return (0, whole.finish());
-        }
-        if let Ok(count) = whole.decode_whole(reading, chunk, text, output) {
-            *self = whole;
-            return (count, None);
-        }
-        // A chunk with an error is decoded byte after byte.
+        let mut done = 0;
         let mut end = 0;
-        for byte in chunk {
-            match self.decode_byte(reading, *byte, &mut output[end..]) {
-                Ok(count) => end += count,
-                Err(error) => return (end, Some(error)),
+        let mut size = chunk.len();
+        'parts: while done < chunk.len() {
+            let mut next = self.clone();
+            let part = &chunk[done..done + size];
+            match next.decode_part(reading, part, text, &mut output[end..]) {
+                Ok(count) => {
+                    *self = next;
+                    done += size;
+                    end += count;
+                    size = size.min(chunk.len() - done);
+                }
+                Err(_) => {
+                    // The half with the invalid character is cut again, down to this character.
+                    if size == 1 {
+                        return (end, Some(self.error(reading, chunk[done])));
+                    }
+                    size /= 2;
+                }
             }
         }
         (end, None)
     }
 
-    /// As `decode`, if the chunk has no error. After an error, this decoder cannot go on.
-    fn decode_whole(
+    /// Decodes a part of a chunk into the front of the output, and returns the number of bytes there. After an error,
+    /// this decoder cannot go on.
+    fn decode_part(
         &mut self,
         reading: Reading,
-        chunk: &[u8],
+        part: &[u8],
         text: &mut [u8],
         output: &mut [u8],
     ) -> Result<usize, FromHexError> {
-        let read = self.read;
-        self.read = read.saturating_add(chunk.len());
+        self.read = self.read.saturating_add(part.len());
         if reading.leaves_out() {
-            let count = self.scanner.text(reading, read, chunk, text);
+            let count = self.scanner.text(reading, part, text);
             return decode_text(&mut self.decoder, reading, &text[..count], output);
         }
-        decode_text(&mut self.decoder, reading, chunk, output)
+        decode_text(&mut self.decoder, reading, part, output)
     }
 
-    /// Decodes a byte into the front of the output, and returns the number of bytes there.
-    fn decode_byte(
-        &mut self,
-        reading: Reading,
-        byte: u8,
-        output: &mut [u8],
-    ) -> Result<usize, RunError> {
-        let (index, scanner) = (self.read, self.scanner);
-        self.read = index.saturating_add(1);
-        let character = match self.scanner.next(reading, byte, self.read) {
-            Some(character) => character,
-            None => return Ok(0),
+    /// The error that the next byte is invalid.
+    fn error(&self, reading: Reading, byte: u8) -> RunError {
+        let error = FromHexError::InvalidHexCharacter {
+            c: char::from(byte),
+            index: self.read,
         };
-        match decode_text(&mut self.decoder, reading, &[character], output) {
-            Ok(count) => Ok(count),
-            Err(_) => {
-                let c = char::from(byte);
-                let error = FromHexError::InvalidHexCharacter { c, index };
-                Err(RunError::Text(error, scanner.place(reading, index)))
-            }
-        }
+        RunError::Text(error, self.scanner.place(reading))
     }
 
     /// Ends the input. Returns `OddLength` if the text has an odd number of digits.
-    fn finish(self) -> Option<RunError> {
-        match self.decoder.finish() {
+    pub(crate) fn finish(&self) -> Option<RunError> {
+        let end = self.clone();
+        match end.decoder.finish() {
             Ok(()) => None,
             Err(error) => Some(RunError::Text(error, None)),
         }

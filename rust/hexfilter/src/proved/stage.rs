@@ -40,12 +40,11 @@ impl Stage {
                 prefix: _,
                 upper,
                 groups,
-            } => {
-                (
-                    self.encoder.encode(upper, groups, chunk, text, output),
-                    None,
-                )
-            }
+            } => (
+                self.encoder.encode(upper, groups, chunk, text, output),
+                None,
+            ),
+            Mode::Decode(_) if chunk.is_empty() => (0, self.decoder.finish()),
             Mode::Decode(reading) => self.decoder.decode(reading, chunk, text, output),
         }
     }

@@ -23,5 +23,5 @@ returns-clause-end c = λ prefix x y none has.
     let ensured = c.put_text-end.ensures in
     let is = (last c.is_empty.result _ _ _ _ c.newline.ensures c.put.ensures.front).0
     (grind (arith, nat_tests, none)) in
-    rw is (encoded_last prefix c.args.upper c.args.groups _ c.put_text-end.new.self x y c.args.chunk.now _ none has
+    rw is (encoded_last prefix c.args.upper c.args.groups _ c.put_text-end.new.self x y c.args.chunk.now _ has
     (ensured.text has.fits) ensured.prefix (ensured.column has.fits))

@@ -1,11 +1,8 @@
-use Rattle.std.proofs.Common.{◌≡◌, ◌∷◌, ◌++◌, ◌+◌, ◌<◌, ℕ, List, Some, Option, length, take, drop, get_or, sym, arith, append-nil, append_assoc, length-drop}
-use Rattle.std.proofs.lemmas.Bool.Decides.{nat_tests}
+use Rattle.std.proofs.Common.{◌≡◌, ◌∷◌, ◌++◌, ◌+◌, ◌-◌, ◌<◌, ◌≤◌, ℕ, List, Some, Option, length, take, drop, get_or, sym, arith, append_assoc, length-drop, length-take}
 use Rattle.std.proofs.lemmas.Grind.{common_steps}
 use Rattle.std.proofs.lemmas.List.{take_all}
 use Rattle.std.proofs.lemmas.Slice.{take-put_mid_below}
-use Rattle.hexfilter_core.proofs.lemmas.Encoding.{no_bytes}
-use Rattle.hexfilter_core.proofs.lemmas.Errors.{if_some}
-use Rattle.hexfilter_core.proofs.lemmas.Texts.{decoded, decoded_before, joined_one, take_put}
+use Rattle.hexfilter_core.proofs.lemmas.Texts.{joined_one, part_joined, take_put}
 use Rattle.hexfilter_core.specs.declared.error.RunError.{RunError}
 use Rattle.hexfilter_core.proofs.input_decoder.InputDecoder.decode.Goals as goal
 
@@ -15,70 +12,62 @@ cut_at x u k h = grind (arith, common_steps)
 same_error : (e f : RunError) → ◌≡◌ {A = Option RunError} (Some e) (Some f) → e ≡ f
 same_error e f is = cc
 
-pub returns-then-is_empty-clause-err : goal.returns-then-is_empty-clause-err
-returns-then-is_empty-clause-err c = λ e is x y has left end.
-    let none : length c.args.chunk.now ≡ 0 = grind (arith, nat_tests) in
-    rw (no_bytes c.args.chunk.now none, append-nil x, append-nil y)
-    (if_some _ c.finish.result e is (c.finish.ensures.err c.args.reading x y left has (end none)))
+part_size : (chunk : List ℕ) (done size k : ℕ) → done + size ≤ length chunk → k ≡ size
+    → length (take k (drop done chunk)) ≡ size
+part_size chunk done size k within e = omega (arith, e, within, length-take k (drop done chunk), length-drop done chunk)
 
-pub returns-then-is_empty-clause-begun : goal.returns-then-is_empty-clause-begun
-returns-then-is_empty-clause-begun c = λ x y has.
-    let none : length c.args.chunk.now ≡ 0 = grind (arith, nat_tests) in
-    rw (no_bytes c.args.chunk.now none, append-nil x, append-nil y) (decoded c.args.reading _ x y has)
-
-pub returns-in-Ok-clause-begun : goal.returns-in-Ok-clause-begun
-returns-in-Ok-clause-begun c = λ x y has. decoded _ _ _ _ (c.in-Ok.ensures.ok x y has)
-
-pub returns-in-Err-clause-err : goal.returns-in-Err-clause-err
-returns-in-Err-clause-err c = λ e is x y has left end.
+pub parts-preserved-in-Ok : goal.parts-preserved-in-Ok
+parts-preserved-in-Ok c =
     let chunk = c.args.chunk.now in
-    let at = c.loop-byte.byte-index in
-    let i = c.loop-byte.invariant in
-    let out = c.loop-byte.output in
-    let read = i.decoded x y has in
-    let ensured =
-    c.in-Err.ensures.err (x ++ take at chunk) (y ++ take c.loop-byte.end out) (drop (at + 1) chunk) left read
-    (omega (arith, c.loop-byte.auto.output))
-    (omega (arith, length-drop (at + 1) chunk, c.requires.chunk, c.loop-byte-test.true)) in
-    rw (take-put_mid_below c.loop-byte.end _ c.loop-byte.output c.decode_byte.new.output c.loop-byte.end (omega arith)
-    (omega (arith, c.loop-byte.auto.output)))
-    (rw (cut_at x chunk at c.loop-byte-test.true, same_error c.in-Err.error e is) at ensured)
-
-pub returns-in-Err-clause-begun : goal.returns-in-Err-clause-begun
-returns-in-Err-clause-begun c = λ x y has.
-    let at = c.loop-byte.byte-index in
-    let i = c.loop-byte.invariant in
-    rw (take-put_mid_below c.loop-byte.end _ c.loop-byte.output c.decode_byte.new.output c.loop-byte.end (omega arith)
-    (omega (arith, c.loop-byte.auto.output)))
-    (decoded_before c.args.reading c.loop-byte.self x c.args.chunk.now
-    (y ++ take c.loop-byte.end c.loop-byte.output) at (i.decoded x y has))
-
-pub loop-byte-preserved : goal.loop-byte-preserved
-loop-byte-preserved c =
-    let chunk = c.args.chunk.now in
-    let at = c.loop-byte.byte-index in
-    let end = c.loop-byte.end in
-    let i = c.loop-byte.invariant in
-    let ensured = c.in-Ok-decode_byte.ensures in record {
-      fewer = omega (arith, ensured.most);
+    let done = c.parts.done in
+    let end = c.parts.end in
+    let out = c.parts.output in
+    let new = c.decode_part.new.output in
+    let count = c.in-Ok.count in
+    let i = c.parts.invariant in
+    let space = c.parts.auto.output in
+    let ensured = c.in-Ok.ensures in
+    let size = part_size chunk done c.parts.size (done + c.parts.size - done) i.within (omega arith) in record {
+      fewer = omega (arith, ensured.most, size);
+      within = omega arith;
+      some = λ more. omega arith;
       decoded = λ x y has.
-          let out = c.loop-byte.output in
-          let new = c.decode_byte.new.output in
-          let space = c.loop-byte.auto.output in
-          let count = c.in-Ok-decode_byte.count in
           let put = take_put end _ count out new (omega (arith, space))
-          (omega (arith, ensured.length, ensured.within, space)) in
-          rw (joined_one x chunk at c.loop-byte-test.true, append_assoc y (take end out) (take count new), sym put) at
-          (ensured.ok (x ++ take at chunk) (y ++ take end out) (i.decoded x y has));
+          (omega (arith, ensured.lengths.1, ensured.within, space)) in
+          rw (part_joined x chunk done c.parts.size (done + c.parts.size - done) (omega arith), append_assoc y (take end out) (take count new), sym put) at
+          (ensured.ok (x ++ take done chunk) (y ++ take end out) (i.decoded x y has));
     }
 
-pub returns-clause-begun : goal.returns-clause-begun
-returns-clause-begun c = λ x y has.
-    let i = c.loop-byte.invariant in
-    let out = y ++ take c.loop-byte.end c.loop-byte.output in
-    decoded_before c.args.reading c.loop-byte.self x c.args.chunk.now out c.loop-byte.byte-index (i.decoded x y has)
+pub parts-preserved : goal.parts-preserved
+parts-preserved c =
+    let i = c.parts.invariant in record {
+      fewer = i.fewer;
+      within = omega (arith, i.within);
+      some = λ more. omega (arith, i.some more, c.if-size-eq1.false);
+      decoded = λ x y has.
+          rw (take-put_mid_below c.parts.end _ c.parts.output c.decode_part.new.output c.parts.end (omega arith)
+          (omega (arith, c.parts.auto.output))) (i.decoded x y has);
+    }
 
-pub returns-clause-more : goal.returns-clause-more
-returns-clause-more c =
-    λ none some x y has.
-    rw (take_all c.loop-byte.byte-index c.args.chunk.now (omega arith)) at (c.loop-byte.invariant.decoded x y has)
+pub returns-then-size-eq1-clause-err : goal.returns-then-size-eq1-clause-err
+returns-then-size-eq1-clause-err c = λ e is x y left has.
+    let chunk = c.args.chunk.now in
+    let done = c.parts.done in
+    let end = c.parts.end in
+    let out = c.parts.output in
+    let i = c.parts.invariant in
+    let space = c.parts.auto.output in
+    let inside = c.parts-test.true in
+    let read = i.decoded x y has in
+    let size = part_size chunk done c.parts.size (done + c.parts.size - done) i.within (omega arith) in
+    let invalid = rw (part_joined x chunk done 1 (done + c.parts.size - done) (omega (arith, c.if-size-eq1.true))) at
+    (c.in-Err.ensures.err (x ++ take done chunk) (y ++ take end out) read (omega (arith, size, space, i.within))) in
+    rw (take-put_mid_below end _ out c.decode_part.new.output end (omega arith) (omega (arith, space)))
+    (rw (cut_at x chunk done inside, same_error _ e is) at
+    (c.error.ensures (x ++ take done chunk) (y ++ take end out) (drop (done + 1) chunk) left read
+    (omega (arith, length-drop (done + 1) chunk, c.requires.chunk, inside))
+    (rw (joined_one x chunk done inside) invalid)))
+
+pub returns-clause-ok : goal.returns-clause-ok
+returns-clause-ok c = λ none x y has.
+    rw (take_all c.parts.done c.args.chunk.now (omega arith)) at (c.parts.invariant.decoded x y has)

@@ -1,17 +1,20 @@
-use Rattle.std.proofs.Common.{refl}
+use Rattle.std.proofs.Common.{arith, refl}
 use Rattle.hexfilter_core.proofs.lemmas.Errors.{same_value}
 use Rattle.hexfilter_core.proofs.lemmas.Texts.{pairs}
 use Rattle.hexfilter_core.specs.Inputs.{text_of}
 use Rattle.hexfilter_core.proofs.input_decoder.InputDecoder.finish.Goals as goal
 
-pub returns-in-Ok-clause-ok : goal.returns-in-Ok-clause-ok
-returns-in-Ok-clause-ok c = λ r x y has none.
-    let bytes = has.text.bytes in (bytes, (c.in-Ok.ensures.ok (text_of r x) bytes has.text.read).0 refl, has.text.given)
+pub returns-in-Ok : goal.returns-in-Ok
+returns-in-Ok c = λ r s x y left has end.
+    let bytes = has.text.bytes in (
+      λ some. absurd (omega (arith, some)),
+      λ none. (bytes, (c.in-Ok.ensures.ok (text_of r x) bytes has.text.read).0 refl, has.text.given),
+    )
 
-pub returns-in-Err-clause-err : goal.returns-in-Err-clause-err
-returns-in-Err-clause-err c = λ r x y left has end.
+pub returns-in-Err : goal.returns-in-Err
+returns-in-Err c = λ r s x y left has end.
     let bytes = has.text.bytes in
     let ensured = c.in-Err.ensures.err (text_of r x) bytes has.text.read in
     let odd = (c.in-Err.ensures.odd (text_of r x) bytes has.text.read).0 ensured in
     rw (same_value _ _ ensured)
-    (bytes, (refl, end, odd, pairs r c.args.self.decoder x bytes has.text.read), has.text.given)
+    (bytes, (refl, end, odd, pairs r c.args.self.now.decoder x bytes has.text.read), has.text.given)

@@ -7,6 +7,6 @@ pub returns : goal.returns
 unfolding text_from next_from place_after
 returns c = λ r. record {
   text = record { bytes = _; read = c.new.ensures.starts; given = grind arith };
-  scanned = record { next = refl; line = λ some short. (refl, refl) };
+  scanned = record { next = refl; place = λ some short. (refl, refl) };
   count = refl;
 }
