@@ -1,21 +1,13 @@
 -- What a run has made of the chunks that it has read.
 use Rattle.std.specs.Prelude.{◌≡◌, ◌<◌, ◌≤◌, ◌++◌, Bool, true, ℕ, List, Option, None, Some, length}
-use Rattle.const_hex.specs.Decoding.{HasRead, counted}
-use Rattle.const_hex.specs.Texts.{full_text}
-use Rattle.const_hex.specs.declared.codec.decoder.Decoder.{Decoder}
-use Rattle.hexfilter_core.specs.Groups.{encoded, laid_out}
-use Rattle.hexfilter_core.specs.Inputs.{next_from, text_of}
-use Rattle.hexfilter_core.specs.Outcome.{IsErrorOf, Makes, written}
-use Rattle.hexfilter_core.specs.Places.{IsPlace, leaves_out}
-use Rattle.hexfilter_core.specs.declared.encoder.Encoder.{Encoder}
-use Rattle.hexfilter_core.specs.declared.error.RunError.{RunError}
-use Rattle.hexfilter_core.specs.declared.input_decoder.InputDecoder.{InputDecoder}
-use Rattle.hexfilter_core.specs.declared.mode.Groups.{Groups}
-use Rattle.hexfilter_core.specs.declared.mode.Mode.{Mode}
-use Rattle.hexfilter_core.specs.declared.mode.Mode.TheVariants.{Encode, Decode}
-use Rattle.hexfilter_core.specs.declared.mode.Reading.{Reading}
-use Rattle.hexfilter_core.specs.declared.scanner.Scanner.{Scanner}
-use Rattle.hexfilter_core.specs.declared.stage.Stage.{Stage}
+pub use Rattle.const_hex.specs.Decoding.{HasRead, counted}
+pub use Rattle.const_hex.specs.declared.codec.decoder.Decoder.{Decoder}
+use Rattle.hexfilter_core.specs.Dumps.{Groups, IsPlace, Reading, encoded, full_text, groups_from, leaves_out, next_from, text_of}
+use Rattle.hexfilter_core.specs.Runs.{Decode, Encode, IsErrorOf, Makes, Mode, RunError, written}
+pub use Rattle.hexfilter_core.specs.declared.encoder.Encoder.{Encoder}
+pub use Rattle.hexfilter_core.specs.declared.input_decoder.InputDecoder.{InputDecoder}
+pub use Rattle.hexfilter_core.specs.declared.scanner.Scanner.{Scanner}
+pub use Rattle.hexfilter_core.specs.declared.stage.Stage.{Stage}
 
 -- the scanner has read the input x
 pub record HasScanned (r : Reading) (s : Scanner) (x : List ℕ) : Type 0 where
@@ -42,7 +34,7 @@ pub record HasDecoded (r : Reading) (d : InputDecoder) (x z : List ℕ) : Type 0
 -- the encoder has read the bytes x and has written z: what is left is the text of more bytes
 pub record HasEncoded (prefix upper : Bool) (g : Groups) (e : Encoder) (x z : List ℕ) : Type 0 where
   pub left : (more : List ℕ)
-      → encoded prefix upper g (x ++ more) ≡ z ++ laid_out g e.column (full_text e.prefix upper more)
+      → encoded prefix upper g (x ++ more) ≡ z ++ groups_from g e.column (full_text e.prefix upper more)
   pub fits : e.column ≤ g.size
 
 -- in this mode, x was read and z was made

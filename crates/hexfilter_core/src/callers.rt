@@ -4,14 +4,16 @@
 ghost use Rattle.std.specs.Prelude.{◌≡◌, ◌⊎◌, [], Bool, map, string_bytes};
 ghost use Rattle.std.specs.Io.KnownBytes.{Appends};
 ghost use Rattle.std.specs.Process.{exit_status};
-ghost use Rattle.hexfilter_core.specs.Options.{AreBack};
+ghost use Rattle.hexfilter_core.specs.Dumps.{Groups, IgnoresLines, mirror};
+ghost use Rattle.hexfilter_core.specs.Options.{AreFor};
+ghost use Rattle.hexfilter_core.specs.declared.mode.Mode.TheVariants.{Decode, Encode};
 
 use crate::process::{Host, program};
 use std::io::Write;
 use std::process::ExitCode;
 
 /// Runs the program to encode bytes into a text, which is empty before, and again to decode the text. The arguments are
-/// those of any text, of lines or of groups, and those that the page names to read it back. These are the bytes again.
+/// those of any text, lines or groups, and those that read them back: lines without whitespace. These are the bytes again.
 fn encode_and_decode<H: Host, W: Write>(
     host: &H,
     write: &[String],
@@ -21,8 +23,9 @@ fn encode_and_decode<H: Host, W: Write>(
     output: &mut W,
 ) -> (ExitCode, ExitCode)
     requires empty { text.old.items ≡ [] }
-    requires asked { (prefix : Bool) × (upper : Bool)
-        × AreBack prefix upper (map string_bytes write.now) (map string_bytes read.now) }
+    requires asked { (prefix : Bool) × (upper : Bool) × (ignores : Bool) × (g : Groups) × IgnoresLines ignores g
+        × AreFor (Encode prefix upper g) (map string_bytes write.now)
+        × AreFor (Decode (mirror ignores g)) (map string_bytes read.now) }
     ensures written { (exit_status result.0 ≡ 0) ⊎ (exit_status result.0 ≡ 3) }
     ensures done { exit_status result.0 ≡ 0 → exit_status result.1 ≡ 0
         → Appends (W.contents output.old) (W.contents output.new) bytes.now }

@@ -2,10 +2,8 @@
 
 ghost use Rattle.std.specs.Prelude.{◌≡◌, ◌*◌, ◌+◌, ◌≤◌, ◌<◌, ◌++◌, [], List, ℕ, Bool, if◌then◌else◌, length, take, false};
 ghost use Rattle.const_hex.specs.Decoding.{listed};
-ghost use Rattle.const_hex.specs.Texts.{full_text};
-ghost use Rattle.hexfilter_core.specs.Groups.{BreaksInto, encoded, ended};
+ghost use Rattle.hexfilter_core.specs.Dumps.{Groups, PutsInto, encoded, ended, full_text};
 ghost use Rattle.hexfilter_core.specs.Stages.{HasEncoded, IsNew};
-ghost use Rattle.hexfilter_core.specs.declared.mode.Groups.{Groups};
 
 use crate::groups::{put, put_groups};
 use crate::mode::{Groups, Mode};
@@ -56,7 +54,7 @@ impl Encoder {
 
     /// The newline of a last line that has characters.
     fn newline(&self, groups: Groups, is_end: bool) -> Option<u8>
-        ensures { listed result ≡ (if is_end then ended groups.separator self.now.column else []) }
+        ensures { listed result ≡ (if is_end then ended groups self.now.column else []) }
     {
         if is_end && groups.separator == b'\n' && self.column > 0 {
             return Some(b'\n');
@@ -75,7 +73,7 @@ impl Encoder {
     ) -> usize
         requires text { 2 * length chunk.now + 2 ≤ length text.old }
         requires space { 4 * length chunk.now + 5 ≤ length output.old }
-        ensures text { self.old.column ≤ groups.size → BreaksInto groups self.old.column
+        ensures text { self.old.column ≤ groups.size → PutsInto groups self.old.column
             (full_text self.old.prefix upper chunk.now) (take result output.new) self.new.column }
         ensures column { self.old.column ≤ groups.size → self.new.column ≤ groups.size }
         ensures prefix { self.new.prefix ≡ false }

@@ -2,15 +2,9 @@
 
 ghost use Rattle.std.specs.Prelude.{◌≡◌, ◌+◌, ◌/◌, ◌≤◌, ◌<◌, ◌++◌, ◌∷◌, [], ℕ, List, Option, None, Some, length, take, IfOk, OnErr};
 ghost use Rattle.std.specs.Io.KnownBytes.{IsAtEnd};
-ghost use Rattle.const_hex.specs.Results.{body_of};
-ghost use Rattle.const_hex.specs.Texts.{AllDigits};
-ghost use Rattle.hexfilter_core.specs.Inputs.{chunk_size, text_of};
-ghost use Rattle.hexfilter_core.specs.Outcome.{IsErrorOf};
-ghost use Rattle.hexfilter_core.specs.Stages.{HasDecoded, HasWritten, Reaches};
-ghost use Rattle.hexfilter_core.specs.declared.error.RunError.{RunError};
-ghost use Rattle.hexfilter_core.specs.declared.mode.Mode.TheVariants.{Decode};
-ghost use Rattle.hexfilter_core.specs.declared.mode.Reading.{Reading};
-ghost use Rattle.hexfilter_core.specs.declared.stage.Stage.{Stage};
+ghost use Rattle.hexfilter_core.specs.Dumps.{AllDigits, Reading, body_of, chunk_size, text_of};
+ghost use Rattle.hexfilter_core.specs.Runs.{Decode, IsErrorOf, RunError};
+ghost use Rattle.hexfilter_core.specs.Stages.{HasDecoded, HasWritten, Reaches, Stage};
 
 use crate::error::RunError;
 use crate::mode::Reading;

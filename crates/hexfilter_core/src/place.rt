@@ -2,7 +2,7 @@
 
 ghost use Rattle.std.specs.Prelude.{◌≡◌, ◌≢◌, ◌++◌, ◌∷◌, [], List, ℕ, length};
 ghost use Rattle.std.specs.List.{All};
-ghost use Rattle.hexfilter_core.specs.Places.{IsPlace};
+ghost use Rattle.hexfilter_core.specs.Dumps.{IsPlace};
 
 /// The line and the column of a character. Both count from 1, and a line ends with `\n`.
 #[derive(Clone, Copy, PartialEq, Eq, Debug)]

@@ -4,8 +4,7 @@ ghost use Rattle.std.specs.Prelude.{◌≡◌, ◌+◌, ◌≤◌, ◌<◌, ◌�
 ghost use Rattle.std.specs.List.{All, prefix_len};
 ghost use Rattle.const_hex.specs.Decoding.{listed};
 ghost use Rattle.hexfilter_core.specs.Stages.{HasAdded, HasScanned};
-ghost use Rattle.hexfilter_core.specs.Inputs.{is_whitespace, kept, next};
-ghost use Rattle.hexfilter_core.specs.Places.{StandsAfter};
+ghost use Rattle.hexfilter_core.specs.Dumps.{StandsAfter, is_whitespace, kept, next};
 
 use crate::groups::put;
 use crate::mode::Reading;

@@ -2,7 +2,7 @@
 
 ghost use Rattle.std.specs.Prelude.{◌≡◌, ◌≤◌, ◌<◌, ◌+◌, ◌*◌, ◌++◌, [], ℕ, List, Option, None, Some, length, take};
 ghost use Rattle.std.specs.Io.KnownBytes.{IsAtEnd};
-ghost use Rattle.hexfilter_core.specs.Inputs.{chunk_size};
+ghost use Rattle.hexfilter_core.specs.Dumps.{chunk_size};
 ghost use Rattle.hexfilter_core.specs.Stages.{HasMade, Reaches};
 
 use crate::encoder::Encoder;

@@ -56,7 +56,7 @@ pub use self::formatting::text::*;
 //    2  before it reads a part, or ends
 //   50  deleted: attribute
 //  229  deleted: contract
-//  208  deleted: ghost item
+//  189  deleted: ghost item
 //    4  deleted: model
 //    2  each value may be dropped
 //    6  kernels that no target uses are left out, and callers that nothing exports

@@ -1,13 +1,11 @@
 -- Parts of a text that are written one after another.
-use Rattle.std.proofs.Common.{◌≡◌, ◌≢◌, ℕ, ◌≤◌, Bool, false, List, [], ◌∷◌, ◌++◌, length, Result, Ok, Err, refl, sym, ap, ◌∙◌, arith, append_assoc}
+use Rattle.std.proofs.Common.{◌≡◌, ℕ, ◌≤◌, Bool, false, List, [], ◌∷◌, ◌++◌, length, Result, Ok, Err, refl, sym, ap, ◌∙◌, arith, append_assoc}
 use Rattle.std.proofs.lemmas.List.{append-nil}
 use Rattle.std.specs.Prelude.{OnErr, OnOk}
 use Rattle.const_hex.specs.Texts.{full_text, hex_text, prefix_of}
 use Rattle.const_hex_arch.proofs.lemmas.Texts.{hex_text-append, hex_text-nil}
-use Rattle.hexfilter_core.specs.Groups.{BreaksInto, encoded, ended, groups_from, laid_out}
-use Rattle.hexfilter_core.specs.Stages.{HasEncoded}
-use Rattle.hexfilter_core.specs.declared.encoder.Encoder.{Encoder}
-use Rattle.hexfilter_core.specs.declared.mode.Groups.{Groups}
+use Rattle.hexfilter_core.specs.Dumps.{Groups, PutsInto, encoded, ended, groups_from}
+use Rattle.hexfilter_core.specs.Stages.{Encoder, HasEncoded}
 
 pub if_ok : {T E P : Type 0} (r : Result T E) → P → OnOk r P
 if_ok (Ok v) p = p
@@ -17,14 +15,6 @@ pub if_err : {T E P : Type 0} (r : Result T E) → P → OnErr r P
 if_err (Ok v) p = tt
 if_err (Err e) p = p
 
-pub BreaksInto-plain : (g : Groups) (c : ℕ) (t : List ℕ) → g.size ≡ 0 → BreaksInto g c t t c
-BreaksInto-plain g c t e rest = rw e refl
-
-pub BreaksInto-groups : (g : Groups) (c : ℕ) (t y : List ℕ) (d : ℕ) → g.size ≢ 0
-    → ((rest : List ℕ) → groups_from g.size g.separator c (t ++ rest) ≡ y ++ groups_from g.size g.separator d rest)
-    → BreaksInto g c t y d
-BreaksInto-groups g c t y d e h rest = let at = h rest in grind (arith, at)
-
 full_text-more : (prefix up : Bool) (x more : List ℕ)
     → full_text prefix up (x ++ more) ≡ full_text prefix up x ++ full_text false up more
 full_text-more prefix up x more =
@@ -33,30 +23,27 @@ full_text-more prefix up x more =
 -- a chunk more is encoded
 pub encoded_more : (prefix up : Bool) (g : Groups) (old new : Encoder) (x y chunk z : List ℕ)
     → HasEncoded prefix up g old x y
-    → BreaksInto g old.column (full_text old.prefix up chunk) z new.column → new.prefix ≡ false → new.column ≤ g.size
+    → PutsInto g old.column (full_text old.prefix up chunk) z new.column → new.prefix ≡ false → new.column ≤ g.size
     → HasEncoded prefix up g new (x ++ chunk) (y ++ z)
 encoded_more prefix up g old new x y chunk z has breaks due fits = record {
   left = λ more.
       let rest = full_text false up more in
-      rw due (ap (λ l. encoded prefix up g l) (append_assoc x chunk more) ∙ has.left (chunk ++ more)
-      ∙ ap (λ l. y ++ laid_out g old.column l) (full_text-more old.prefix up chunk more)
+      rw due (ap (encoded prefix up g) (append_assoc x chunk more) ∙ has.left (chunk ++ more)
+      ∙ ap (λ l. y ++ groups_from g old.column l) (full_text-more old.prefix up chunk more)
       ∙ ap (λ l. y ++ l) (breaks rest)
-      ∙ sym (append_assoc y z (laid_out g new.column rest)));
+      ∙ sym (append_assoc y z (groups_from g new.column rest)));
   fits = fits;
 }
 
 -- nothing more follows
 encoded_end : (prefix up : Bool) (g : Groups) (e : Encoder) (x y : List ℕ) → HasEncoded prefix up g e x y
     → e.prefix ≡ false
-    → encoded prefix up g x ≡ y ++ ended g.separator e.column
+    → encoded prefix up g x ≡ y ++ ended g e.column
 unfolding groups_from
 encoded_end prefix up g e x y has due =
-    let none : full_text false up [] ≡ [] = hex_text-nil up in
-    let fits = has.fits in
-    let end : laid_out g e.column [] ≡ ended g.separator e.column = grind (arith, fits) in
-    ap (λ l. encoded prefix up g l) (sym (append-nil x)) ∙ has.left []
-    ∙ ap (λ p. y ++ laid_out g e.column (full_text p up [])) due
-    ∙ ap (λ l. y ++ laid_out g e.column l) none ∙ ap (λ l. y ++ l) end
+    ap (encoded prefix up g) (sym (append-nil x)) ∙ has.left []
+    ∙ ap (λ p. y ++ groups_from g e.column (full_text p up [])) due
+    ∙ ap (λ l. y ++ groups_from g e.column l) (hex_text-nil up)
 
 pub no_bytes : (l : List ℕ) → length l ≡ 0 → l ≡ []
 no_bytes [] h = refl
@@ -65,8 +52,8 @@ no_bytes (b ∷ l) h = absurd (omega arith)
 -- the empty chunk is the end
 pub encoded_last : (prefix up : Bool) (g : Groups) (old new : Encoder) (x y chunk z : List ℕ)
     → HasEncoded prefix up g old x y
-    → BreaksInto g old.column (full_text old.prefix up chunk) z new.column → new.prefix ≡ false → new.column ≤ g.size
-    → y ++ (z ++ ended g.separator new.column) ≡ encoded prefix up g (x ++ chunk)
+    → PutsInto g old.column (full_text old.prefix up chunk) z new.column → new.prefix ≡ false → new.column ≤ g.size
+    → y ++ (z ++ ended g new.column) ≡ encoded prefix up g (x ++ chunk)
 encoded_last prefix up g old new x y chunk z has breaks due fits =
     let more = encoded_more prefix up g old new x y chunk z has breaks due fits in
-    sym (encoded_end prefix up g new (x ++ chunk) (y ++ z) more due ∙ append_assoc y z (ended g.separator new.column))
+    sym (encoded_end prefix up g new (x ++ chunk) (y ++ z) more due ∙ append_assoc y z (ended g new.column))

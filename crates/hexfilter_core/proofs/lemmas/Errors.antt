@@ -1,17 +1,10 @@
 -- The error of an input.
-use Rattle.std.proofs.Common.{◌≡◌, ◌≢◌, ℕ, List, Option, None, Some, Result, Ok, Err, refl}
-use Rattle.std.specs.Prelude.{IfOk, IfSome, OnErr}
+use Rattle.std.proofs.Common.{◌≡◌, ◌≢◌, ℕ, List, Option, Result, Ok, Err, refl}
+use Rattle.std.specs.Prelude.{OnErr}
 use Rattle.const_hex.specs.Decoding.{ChecksOn, ReadsOn}
-use Rattle.const_hex.specs.Results.{body_of}
-use Rattle.const_hex.specs.Texts.{AllDigits}
-use Rattle.const_hex.specs.declared.error.FromHexError.{FromHexError}
-use Rattle.const_hex.specs.declared.error.FromHexError.TheVariants.{OddLength, InvalidStringLength, InvalidHexCharacter, NoMemory}
+use Rattle.hexfilter_core.specs.Dumps.{AllDigits, FromHexError, InvalidHexCharacter, InvalidStringLength, NoMemory, OddLength, body_of}
 use Rattle.const_hex_arch.proofs.lemmas.FirstInvalid.{digits_no_bad}
-use Rattle.hexfilter_core.specs.Errors.{IsNotInterrupted}
-use Rattle.hexfilter_core.specs.Outcome.{IsErrorOf}
-use Rattle.hexfilter_core.specs.declared.error.RunError.{RunError}
-use Rattle.hexfilter_core.specs.declared.error.RunError.TheVariants.{Text, Read, Write}
-use Rattle.hexfilter_core.specs.declared.mode.Mode.{Mode}
+use Rattle.hexfilter_core.specs.Runs.{IsErrorOf, IsNotInterrupted, Mode, Read, RunError, Text, Write}
 
 -- a decoder that has space fails for a text that has not digits alone
 pub not_decoded : (t y : List ℕ) (space : ℕ) (r : Result ℕ FromHexError) → ReadsOn t y space r
@@ -32,20 +25,6 @@ not_checked t NoMemory h digits = h
 
 pub same_value : {V E : Type 0} (f g : E) → ◌≡◌ {A = Result V E} (Err f) (Err g) → f ≡ g
 same_value f g is = cc
-
-same_some : {T : Type 0} (u v : T) → ◌≡◌ {A = Option T} (Some u) (Some v) → u ≡ v
-same_some u v is = cc
-
-not_some : {T : Type 0} (v : T) → ◌≡◌ {A = Option T} None (Some v) → ⊥
-not_some v is = cc
-
-pub if_ok_weaker : {T E : Type 0} {P Q : T → Type 0} (r : Result T E) → ((v : T) → P v → Q v) → IfOk r P → IfOk r Q
-if_ok_weaker (Ok v) f h = f v h
-if_ok_weaker (Err e) f h = tt
-
-pub if_some : {T : Type 0} (P : T → Type 0) (o : Option T) (v : T) → o ≡ Some v → IfSome o P → P v
-if_some P (Some u) v is h = rw (same_some u v is) at h
-if_some P None v is h = absurd (not_some v is)
 
 -- an error of the text was not made by a signal
 pub text_not_interrupted : (m : Mode) (left : Option (List ℕ)) (x y : List ℕ) (e : RunError) → IsErrorOf m left x y e

@@ -1,29 +1,44 @@
 -- Parts of groups.
-use Rattle.std.proofs.Common.{◌≡◌, ℕ, ◌+◌, ◌-◌, ◌<◌, ◌≤◌, List, [], ◌∷◌, ◌++◌, length, take, drop, get_or, slice_set, refl, sym, ap, ◌∙◌, arith, append_assoc, length-append}
+use Rattle.std.proofs.Common.{◌≡◌, ℕ, ◌+◌, ◌-◌, ◌<◌, ◌≤◌, List, [], ◌∷◌, ◌++◌, length, min, take, drop, get_or, slice_set, refl, sym, ap, ◌∙◌, arith, append_assoc, length-append}
 use Rattle.std.proofs.Math.Seq.{take-add}
+use Rattle.std.proofs.lemmas.Bool.Decides.{nat_tests}
 use Rattle.std.proofs.lemmas.List.{length-set, length-take, length-take-le, length-drop, take-take, take_all}
 use borrow.Rule.Slice.PartMut.{put_mid}
 use Rattle.hexfilter_core.proofs.lemmas.Texts.{take_put}
-use Rattle.hexfilter_core.specs.Groups.{PutsInto, groups_from}
-use Rattle.hexfilter_core.specs.declared.mode.Groups.{Groups}
+use Rattle.hexfilter_core.specs.Dumps.{Groups, PutsInto, groups_from}
 
 -- a part that fits into the group
-within_group : (n s c : ℕ) (u t : List ℕ) → c + length u ≤ n
-    → groups_from n s c (u ++ t) ≡ u ++ groups_from n s (c + length u) t
+within_group : (g : Groups) (c : ℕ) (u t : List ℕ) → c + length u ≤ g.size
+    → groups_from g c (u ++ t) ≡ u ++ groups_from g (c + length u) t
 unfolding groups_from
-within_group n s c [] t h = grind arith
-within_group n s c (b ∷ u) t h = let more = within_group n s (c + 1) u t (omega arith) in grind (arith, more)
+within_group g c [] t h = grind arith
+within_group g c (b ∷ u) t h =
+    let more = within_group g (c + 1) u t (omega arith) in
+    let next : min (c + 1) g.size ≡ c + 1 = omega (arith, h) in
+    grind (arith, nat_tests, more, next, h)
+
+-- a text without groups
+pub without_groups : (g : Groups) (c : ℕ) (u t : List ℕ) → g.size ≡ 0 → c ≤ g.size
+    → groups_from g c (u ++ t) ≡ u ++ groups_from g c t
+unfolding groups_from
+without_groups g c [] t none fits = refl
+without_groups g c (b ∷ u) t none fits =
+    let more = without_groups g c u t none fits in
+    let next : min (c + 1) g.size ≡ c = omega (arith, none, fits) in
+    grind (arith, nat_tests, more, next, none)
 
 -- more after a whole group
-pub after_group : (n s : ℕ) (t : List ℕ) → 0 < n → 0 < length t → groups_from n s n t ≡ s ∷ groups_from n s 0 t
+pub after_group : (g : Groups) (t : List ℕ) → 0 < g.size → 0 < length t
+    → groups_from g g.size t ≡ g.separator ∷ groups_from g 0 t
 unfolding groups_from
-after_group n s [] h some = absurd (omega arith)
-after_group n s (b ∷ t) h some = grind arith
+after_group g [] h some = absurd (omega arith)
+after_group g (b ∷ t) h some =
+    let next : min (0 + 1) g.size ≡ 1 = omega (arith, h) in grind (arith, nat_tests, h, next)
 
 -- the first `done` characters stand in groups, and then `count` more
-module _ (n s first c : ℕ) (text : List ℕ) (done count : ℕ) (laid : List ℕ)
+module _ (g : Groups) (first c : ℕ) (text : List ℕ) (done count : ℕ) (laid : List ℕ)
     (before : (rest : List ℕ) → 0 < length rest
-    → groups_from n s first (take done text ++ rest) ≡ laid ++ groups_from n s c rest)
+    → groups_from g first (take done text ++ rest) ≡ laid ++ groups_from g c rest)
     (some : 0 < count) (within : done + count ≤ length text) where
   piece : List ℕ
   piece = take count (drop done text)
@@ -32,18 +47,18 @@ module _ (n s first c : ℕ) (text : List ℕ) (done count : ℕ) (laid : List �
   unfolding piece
   size = simp (length-take, length-drop) (omega arith)
 
-  pub goes_on : c + count ≤ n → (out : List ℕ) → out ≡ laid ++ take count (drop done text)
+  pub goes_on : c + count ≤ g.size → (out : List ℕ) → out ≡ laid ++ take count (drop done text)
       → (rest : List ℕ)
-      → groups_from n s first (take (done + count) text ++ rest) ≡ out ++ groups_from n s (c + count) rest
+      → groups_from g first (take (done + count) text ++ rest) ≡ out ++ groups_from g (c + count) rest
   unfolding piece
   goes_on h out put rest =
       let more : 0 < length (piece ++ rest) = omega (arith, size, length-append piece rest, some) in
-      ap (λ l. groups_from n s first (l ++ rest)) (take-add done count text)
-      ∙ ap (groups_from n s first) (append_assoc (take done text) piece rest)
-      ∙ before (piece ++ rest) more ∙ ap (λ l. laid ++ l) (within_group n s c piece rest (omega (arith, size)))
-      ∙ ap (λ k. laid ++ (piece ++ groups_from n s (c + k) rest)) size
-      ∙ sym (append_assoc laid piece (groups_from n s (c + count) rest))
-      ∙ ap (λ l. l ++ groups_from n s (c + count) rest) (sym put)
+      ap (λ l. groups_from g first (l ++ rest)) (take-add done count text)
+      ∙ ap (groups_from g first) (append_assoc (take done text) piece rest)
+      ∙ before (piece ++ rest) more ∙ ap (λ l. laid ++ l) (within_group g c piece rest (omega (arith, size)))
+      ∙ ap (λ k. laid ++ (piece ++ groups_from g (c + k) rest)) size
+      ∙ sym (append_assoc laid piece (groups_from g (c + count) rest))
+      ∙ ap (λ l. l ++ groups_from g (c + count) rest) (sym put)
 
 -- `done` characters stand in groups, and then `count` more are put there
 pub puts_more : (g : Groups) (c d e : ℕ) (text : List ℕ) (done count : ℕ) (out new : List ℕ) (end m k : ℕ)
@@ -56,20 +71,21 @@ puts_more g c d e text done count out new end m k within started enough first mo
     let next =
     rw (take_all (length text - done) (drop done text) (omega (arith, length-drop done text))) at more rest in
     rw (take-add done count text, take_put end m k out new started enough)
-    (ap (groups_from g.size g.separator c) (append_assoc (take done text) piece rest) ∙ first (piece ++ rest)
+    (ap (groups_from g c) (append_assoc (take done text) piece rest) ∙ first (piece ++ rest)
     ∙ ap (λ l. take end out ++ l) next
-    ∙ sym (append_assoc (take end out) (take k new) (groups_from g.size g.separator e rest)))
+    ∙ sym (append_assoc (take end out) (take k new) (groups_from g e rest)))
 
 first_set : (out : List ℕ) (s : ℕ) → 0 < length out → take 1 (slice_set out 0 s) ≡ s ∷ []
 first_set [] s h = absurd (omega arith)
 first_set (b ∷ out) s h = refl
 
 -- one group after a separator
-pub puts_one : (n s : ℕ) (text out new : List ℕ) → 0 < n → n ≤ 16 → 16 ≤ length text → 17 ≤ length out
-    → new ≡ take 16 text → (rest : List ℕ)
-    → groups_from n s n (take n text ++ rest)
-    ≡ take (n + 1) (put_mid 1 16 (slice_set out 0 s) new) ++ groups_from n s n rest
-puts_one n s text out new some short many space copied rest =
+pub puts_one : (g : Groups) (text out new : List ℕ) → 0 < g.size → g.size ≤ 16 → 16 ≤ length text → 17 ≤ length out
+    → new ≡ take 16 text
+    → PutsInto g g.size (take g.size text) (take (g.size + 1) (put_mid 1 16 (slice_set out 0 g.separator) new)) g.size
+puts_one g text out new some short many space copied rest =
+    let n = g.size in
+    let s = g.separator in
     let size : length (take n text) ≡ n = length-take-le n text (omega (arith, short, many)) in
     let all : length new ≡ 16 = rw copied (length-take-le 16 text many) in
     let added : n + 1 ≡ 1 + n = omega arith in
@@ -77,16 +93,16 @@ puts_one n s text out new some short many space copied rest =
     let put = take_put 1 16 n (slice_set out 0 s) new (omega (arith, length-set out 0 s, space)) (omega (arith, all, short)) in
     let front = first_set out s (omega (arith, space)) in
     let kept : take n new ≡ take n text = rw copied (take-take n 16 text short) in
-    after_group n s (take n text ++ rest) some (omega (arith, size, some, length-append (take n text) rest))
-    ∙ ap (λ l. s ∷ l) (within_group n s 0 (take n text) rest (omega (arith, size)))
-    ∙ ap (λ k. s ∷ (take n text ++ groups_from n s k rest)) end
+    after_group g (take n text ++ rest) some (omega (arith, size, some, length-append (take n text) rest))
+    ∙ ap (λ l. s ∷ l) (within_group g 0 (take n text) rest (omega (arith, size)))
+    ∙ ap (λ k. s ∷ (take n text ++ groups_from g k rest)) end
     ∙ rw (added, put, front, kept) refl
 
 -- four pairs, each after a separator
 pub puts_pairs : (s : ℕ) (text rest : List ℕ) → 8 ≤ length text
-    → groups_from 2 s 2 (take 8 text ++ rest)
+    → groups_from (record { size = 2; separator = s }) 2 (take 8 text ++ rest)
     ≡ s ∷ get_or text 0 0 ∷ get_or text 1 0 ∷ s ∷ get_or text 2 0 ∷ get_or text 3 0 ∷ s ∷ get_or text 4 0
-    ∷ get_or text 5 0 ∷ s ∷ get_or text 6 0 ∷ get_or text 7 0 ∷ groups_from 2 s 2 rest
+    ∷ get_or text 5 0 ∷ s ∷ get_or text 6 0 ∷ get_or text 7 0 ∷ groups_from (record { size = 2; separator = s }) 2 rest
 unfolding groups_from
 puts_pairs s [] rest many = absurd (omega arith)
 puts_pairs s (a ∷ []) rest many = absurd (omega arith)

@@ -3,8 +3,7 @@ use Rattle.std.proofs.Common.{◌≡◌, ◌≢◌, ℕ, ◌+◌, ◌%◌, ◌^�
 use Rattle.std.proofs.lemmas.Bool.Decides.{nat_tests}
 use Rattle.std.proofs.lemmas.List.Elements.{All-head, All-tail}
 use Rattle.std.specs.List.{All}
-use Rattle.hexfilter_core.specs.Places.{IsPlace, after, place_after}
-use Rattle.hexfilter_core.specs.declared.place.Place.{Place}
+use Rattle.hexfilter_core.specs.Dumps.{IsPlace, Place, after, place_after}
 
 place_after-append : (p : Place) (x y : List ℕ) → place_after p (x ++ y) ≡ place_after (place_after p x) y
 unfolding place_after

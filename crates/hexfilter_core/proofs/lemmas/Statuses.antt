@@ -2,17 +2,8 @@
 use Rattle.std.proofs.Common.{◌≡◌, ℕ, inl, inr, List, [], Bool, true, false, if◌then◌else◌, Option, Result, Ok, Err, refl, arith}
 use Rattle.std.proofs.KnownBytes.{Appends-nil, Consumes-nil}
 use Rattle.std.specs.Prelude.{IfErr, OnErr, OnOk}
-use Rattle.const_hex.specs.declared.error.FromHexError.{FromHexError}
-use Rattle.hexfilter_core.specs.Errors.{IsFailedWrite, status_of}
-use Rattle.hexfilter_core.specs.Inputs.{text_from}
-use Rattle.hexfilter_core.specs.Outcome.{MakesBeginning}
-use Rattle.hexfilter_core.specs.Programs.{Ends, EndsIf}
-use Rattle.hexfilter_core.specs.Streams.{RunsPartly, RunsToEnd, RunsToError}
-use Rattle.hexfilter_core.specs.declared.error.RunError.{RunError}
-use Rattle.hexfilter_core.specs.declared.error.RunError.TheVariants.{Text, Read, Write}
-use Rattle.hexfilter_core.specs.declared.mode.Mode.{Mode}
-use Rattle.hexfilter_core.specs.declared.mode.Mode.TheVariants.{Decode, Encode}
-use Rattle.hexfilter_core.specs.declared.place.Place.{Place}
+use Rattle.hexfilter_core.specs.Runs.{Decode, Encode, Ends, EndsIf, IsFailedWrite, MakesBeginning, Mode, Read, RunError, RunsPartly, RunsToEnd, RunsToError, Text, Write, status_of}
+use Rattle.hexfilter_core.specs.Dumps.{FromHexError, Place, text_from}
 
 -- a run
 pub ends : (m : Mode) (had left old new : Option (List ℕ)) (r : Result Unit RunError)

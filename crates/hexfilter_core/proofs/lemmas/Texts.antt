@@ -9,25 +9,10 @@ use Rattle.std.specs.List.{All}
 use Rattle.std.specs.Prelude.{nat_lt}
 use Rattle.const_hex.proofs.lemmas.Decoding.{read_digits, read_front}
 use Rattle.const_hex.specs.Decoding.{HasRead, counted, waiting_digit}
-use Rattle.const_hex.specs.Results.{Reads, body_of}
-use Rattle.const_hex.specs.declared.error.FromHexError.{FromHexError}
-use Rattle.const_hex.specs.declared.error.FromHexError.TheVariants.{InvalidHexCharacter, InvalidStringLength, NoMemory, OddLength}
-use Rattle.const_hex.specs.declared.codec.decoder.Decoder.{Decoder}
 use Rattle.const_hex_arch.proofs.lemmas.Spelling.{Spells-length, Spells-parts}
-use Rattle.hexfilter_core.specs.Stages.{HasAdded, HasDecoded, HasMade, HasScanned, HasWritten, Reaches}
-use Rattle.hexfilter_core.specs.Inputs.{HasError, SpellsBeginning, SpellsPairs, is_whitespace, kept, next, next_from, text_from, text_of}
-use Rattle.hexfilter_core.specs.Outcome.{IsErrorOf, Makes, MakesBeginning}
-use Rattle.hexfilter_core.specs.Groups.{encoded}
-use Rattle.hexfilter_core.specs.Places.{IsPlace, leaves_out}
-use Rattle.hexfilter_core.specs.declared.error.RunError.{RunError}
-use Rattle.hexfilter_core.specs.declared.error.RunError.TheVariants.{Text, Read, Write}
-use Rattle.hexfilter_core.specs.declared.input_decoder.InputDecoder.{InputDecoder}
-use Rattle.hexfilter_core.specs.declared.mode.Mode.{Mode}
-use Rattle.hexfilter_core.specs.declared.mode.Mode.TheVariants.{Decode, Encode}
-use Rattle.hexfilter_core.specs.declared.mode.Reading.{Reading}
-use Rattle.hexfilter_core.specs.declared.place.Place.{Place}
-use Rattle.hexfilter_core.specs.declared.scanner.Scanner.{Scanner}
-use Rattle.hexfilter_core.specs.declared.stage.Stage.{Stage}
+use Rattle.hexfilter_core.specs.Stages.{Decoder, HasAdded, HasDecoded, HasMade, HasScanned, HasWritten, InputDecoder, Reaches, Scanner, Stage}
+use Rattle.hexfilter_core.specs.Dumps.{FromHexError, HasError, InvalidHexCharacter, InvalidStringLength, IsPlace, NoMemory, OddLength, Place, Reading, SpellsBeginning, SpellsPairs, body_of, encoded, is_whitespace, kept, leaves_out, next, next_from, text_from, text_of}
+use Rattle.hexfilter_core.specs.Runs.{Decode, Encode, IsErrorOf, Makes, MakesBeginning, Mode, Read, Reads, RunError, Text, Write}
 
 pub text-append : (r : Reading) (k : ℕ) (x y : List ℕ)
     → text_from r k (x ++ y) ≡ text_from r k x ++ text_from r (next_from r k x) y

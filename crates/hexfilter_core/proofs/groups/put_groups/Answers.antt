@@ -20,7 +20,7 @@ groups-preserved c =
       within = omega arith;
       space = omega (arith, parted.within);
       column = omega (arith, parted.column);
-      groups = goes_on _ _ _ _ text done count _ (λ rest some. laid.groups rest ∙ parted.groups rest some)
+      groups = goes_on _ _ _ text done count _ (λ rest some. laid.groups rest ∙ parted.groups rest some)
           (omega arith) (omega arith) (omega arith) _ put;
     }
 

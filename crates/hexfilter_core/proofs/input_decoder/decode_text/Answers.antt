@@ -1,5 +1,6 @@
 use Rattle.std.proofs.Common.{◌++◌, refl}
-use Rattle.hexfilter_core.proofs.lemmas.Errors.{if_ok_weaker, not_checked, not_decoded}
+use Rattle.std.proofs.lemmas.Result.{IfOk-weaker}
+use Rattle.hexfilter_core.proofs.lemmas.Errors.{not_checked, not_decoded}
 use Rattle.hexfilter_core.proofs.input_decoder.decode_text.Goals as goal
 
 pub returns-in-Ok-clause-ok : goal.returns-in-Ok-clause-ok
@@ -14,7 +15,7 @@ returns-in-Err-clause-err c =
 pub returns-clause-ok : goal.returns-clause-ok
 returns-clause-ok c = λ t z has.
     let given = rw c.if-reading.false at has.given in
-    if_ok_weaker c.decode.result
+    IfOk-weaker c.decode.result _ _
     (λ n read. record { bytes = _; read = read; given = rw (c.if-reading.false, given) refl })
     (c.decode.ensures.ok t has.bytes has.read)
 

@@ -75,7 +75,8 @@ returns-then-count-eq0-clause-ok g c =
     if_ok c.flush.result (
       _,
       _,
-      (all, got.end c.if-count-eq0.true (omega (arith, c.read_chunk.auto.buffer))),
+      all,
+      got.end c.if-count-eq0.true (omega (arith, c.read_chunk.auto.buffer)),
       makes,
       Appends-kept _ _ _ _ more c.flush.ensures.bytes,
     )

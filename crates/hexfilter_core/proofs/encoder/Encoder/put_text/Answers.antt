@@ -1,4 +1,7 @@
-use Rattle.std.proofs.Common.{rules}
+use Rattle.std.proofs.Common.{arith, rules}
+use Rattle.std.proofs.lemmas.Grind.{common_steps}
+use Rattle.const_hex.specs.Texts.{full_text}
+use Rattle.hexfilter_core.proofs.lemmas.GroupBreaks.{without_groups}
 use Rattle.hexfilter_core.proofs.encoder.Encoder.put_text.Goals as goal
 
 pub returns-then-groups-eq0-clause-prefix : goal.returns-then-groups-eq0-clause-prefix
@@ -9,3 +12,9 @@ returns-clause-prefix c = search rules
 
 pub returns-clause-text : goal.returns-clause-text
 returns-clause-text c = search rules
+
+pub returns-then-groups-eq0-clause-text : goal.returns-then-groups-eq0-clause-text
+returns-then-groups-eq0-clause-text c = λ fits rest.
+    let text = full_text c.args.self.now.prefix c.args.upper c.args.chunk.now in
+    rw (without_groups c.args.groups c.args.self.now.column text rest c.if-groups-eq0.true fits)
+    (grind (arith, common_steps))

@@ -1,12 +1,12 @@
 use Rattle.std.proofs.Common.{arith, length-take, refl}
-use Rattle.hexfilter_core.proofs.lemmas.Errors.{if_ok_weaker}
+use Rattle.std.proofs.lemmas.Result.{IfOk-weaker}
 use Rattle.hexfilter_core.proofs.lemmas.Texts.{decoded_more, plain_added}
-use Rattle.hexfilter_core.specs.Inputs.{text_of}
+use Rattle.hexfilter_core.specs.Dumps.{text_of}
 use Rattle.hexfilter_core.proofs.input_decoder.InputDecoder.decode_part.Goals as goal
 
 pub returns-then-leaves_out-clause-ok : goal.returns-then-leaves_out-clause-ok
 returns-then-leaves_out-clause-ok c = λ x y has.
-    if_ok_weaker c.decode_text.result
+    IfOk-weaker c.decode_text.result _ _
     (λ n wrote. decoded_more _ _ _ _ x _ _ y _ has (c.text-count.ensures.added x has.scanned) wrote refl c.saturating_add-self.ensures)
     (c.decode_text.ensures.ok (text_of c.args.reading x) y has.text)
 
@@ -20,7 +20,7 @@ pub returns-clause-ok : goal.returns-clause-ok
 returns-clause-ok c = λ x y has.
     let none = rw c.leaves_out.ensures at c.if-leaves_out.false in
     let more = plain_added c.args.reading _ x c.args.part.now none has.scanned in
-    if_ok_weaker c.decode_text-2.result
+    IfOk-weaker c.decode_text-2.result _ _
     (λ n wrote. decoded_more _ _ _ _ x _ _ y _ has more wrote refl c.saturating_add-self.ensures)
     (c.decode_text-2.ensures.ok (text_of c.args.reading x) y has.text)
 

@@ -1,7 +1,7 @@
 use Rattle.std.proofs.Common.{arith, refl}
 use Rattle.hexfilter_core.proofs.lemmas.Errors.{same_value}
 use Rattle.hexfilter_core.proofs.lemmas.Texts.{pairs}
-use Rattle.hexfilter_core.specs.Inputs.{text_of}
+use Rattle.hexfilter_core.specs.Dumps.{text_of}
 use Rattle.hexfilter_core.proofs.input_decoder.InputDecoder.finish.Goals as goal
 
 pub returns-in-Ok : goal.returns-in-Ok

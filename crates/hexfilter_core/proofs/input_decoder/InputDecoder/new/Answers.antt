@@ -1,6 +1,5 @@
 use Rattle.std.proofs.Common.{arith, refl}
-use Rattle.hexfilter_core.specs.Inputs.{next_from, text_from}
-use Rattle.hexfilter_core.specs.Places.{place_after}
+use Rattle.hexfilter_core.specs.Dumps.{next_from, place_after, text_from}
 use Rattle.hexfilter_core.proofs.input_decoder.InputDecoder.new.Goals as goal
 
 pub returns : goal.returns

@@ -1,6 +1,6 @@
 use Rattle.std.proofs.Common.{◌∙◌, ◌++◌, ap, sym}
 use Rattle.hexfilter_core.proofs.lemmas.Texts.{next-byte, text-byte}
-use Rattle.hexfilter_core.specs.Inputs.{kept, next, text_of}
+use Rattle.hexfilter_core.specs.Dumps.{kept, next, text_of}
 use Rattle.hexfilter_core.proofs.scanner.Scanner.next.Goals as goal
 
 pub returns : goal.returns
