@@ -5,7 +5,7 @@ use Rattle.std.specs.Prelude.{OnErr, OnOk}
 use Rattle.const_hex.specs.Texts.{full_text, hex_text, prefix_of}
 use Rattle.const_hex_arch.proofs.lemmas.Texts.{hex_text-append, hex_text-nil}
 use Rattle.hexfilter_core.specs.Dumps.{Groups, PutsInto, encoded, ended, groups_from}
-use Rattle.hexfilter_core.specs.Stages.{Encoder, HasEncoded}
+use Rattle.hexfilter_core.specs.Stages.{Stage, HasEncoded}
 
 pub if_ok : {T E P : Type 0} (r : Result T E) → P → OnOk r P
 if_ok (Ok v) p = p
@@ -21,7 +21,7 @@ full_text-more prefix up x more =
     rw (hex_text-append up x more) (sym (append_assoc (prefix_of prefix) (hex_text up x) (hex_text up more)))
 
 -- a chunk more is encoded
-pub encoded_more : (prefix up : Bool) (g : Groups) (old new : Encoder) (x y chunk z : List ℕ)
+pub encoded_more : (prefix up : Bool) (g : Groups) (old new : Stage) (x y chunk z : List ℕ)
     → HasEncoded prefix up g old x y
     → PutsInto g old.column (full_text old.prefix up chunk) z new.column → new.prefix ≡ false → new.column ≤ g.size
     → HasEncoded prefix up g new (x ++ chunk) (y ++ z)
@@ -36,7 +36,7 @@ encoded_more prefix up g old new x y chunk z has breaks due fits = record {
 }
 
 -- nothing more follows
-encoded_end : (prefix up : Bool) (g : Groups) (e : Encoder) (x y : List ℕ) → HasEncoded prefix up g e x y
+encoded_end : (prefix up : Bool) (g : Groups) (e : Stage) (x y : List ℕ) → HasEncoded prefix up g e x y
     → e.prefix ≡ false
     → encoded prefix up g x ≡ y ++ ended g e.column
 unfolding groups_from
@@ -50,7 +50,7 @@ no_bytes [] h = refl
 no_bytes (b ∷ l) h = absurd (omega arith)
 
 -- the empty chunk is the end
-pub encoded_last : (prefix up : Bool) (g : Groups) (old new : Encoder) (x y chunk z : List ℕ)
+pub encoded_last : (prefix up : Bool) (g : Groups) (old new : Stage) (x y chunk z : List ℕ)
     → HasEncoded prefix up g old x y
     → PutsInto g old.column (full_text old.prefix up chunk) z new.column → new.prefix ≡ false → new.column ≤ g.size
     → y ++ (z ++ ended g new.column) ≡ encoded prefix up g (x ++ chunk)

@@ -10,9 +10,9 @@ use Rattle.std.specs.Prelude.{nat_lt}
 use Rattle.const_hex.proofs.lemmas.Decoding.{read_digits, read_front}
 use Rattle.const_hex.specs.Decoding.{HasRead, counted, waiting_digit}
 use Rattle.const_hex_arch.proofs.lemmas.Spelling.{Spells-length, Spells-parts}
-use Rattle.hexfilter_core.specs.Stages.{Decoder, HasAdded, HasDecoded, HasMade, HasScanned, HasWritten, InputDecoder, Reaches, Scanner, Stage}
+use Rattle.hexfilter_core.specs.Stages.{Decoder, HasAdded, HasDecoded, HasMade, HasScanned, HasWritten, Reaches, Scanner, Stage}
 use Rattle.hexfilter_core.specs.Dumps.{FromHexError, HasError, InvalidHexCharacter, InvalidStringLength, IsPlace, NoMemory, OddLength, Place, Reading, SpellsBeginning, SpellsPairs, body_of, encoded, is_whitespace, kept, leaves_out, next, next_from, text_from, text_of}
-use Rattle.hexfilter_core.specs.Runs.{Decode, Encode, IsErrorOf, Makes, MakesBeginning, Mode, Read, Reads, RunError, Text, Write}
+use Rattle.hexfilter_core.specs.Runs.{Decode, Encode, Makes, MakesBeginning, Mode, Read, Reads, RunError, Text, Write}
 
 pub text-append : (r : Reading) (k : ℕ) (x y : List ℕ)
     → text_from r k (x ++ y) ≡ text_from r k x ++ text_from r (next_from r k x) y
@@ -93,7 +93,7 @@ plain_added r s x u h is = record {
 }
 
 -- a part more is decoded
-pub decoded_more : (r : Reading) (old new : InputDecoder) (s : Scanner) (x part text y z : List ℕ)
+pub decoded_more : (r : Reading) (old new : Stage) (s : Scanner) (x part text y z : List ℕ)
     → HasDecoded r old x y → HasAdded r s x part text → HasWritten r new.decoder (text_of r x ++ text) (y ++ z)
     → new.scanner ≡ s → new.read ≡ counted (old.read + length part) → HasDecoded r new (x ++ part) (y ++ z)
 decoded_more r old new s x part text y z has more wrote is e = record {
@@ -268,7 +268,7 @@ pub so_far_made : (m : Mode) (s : Stage) (x y : List ℕ) → HasMade m s x y �
 so_far_made (Encode prefix upper g) s x y has =
     (_, ap (λ l. encoded prefix upper g l) (sym (append-nil x)) ∙ has.left [])
 so_far_made (Decode r) s x y has =
-    (has.text.bytes, spelled r s.decoder.decoder x has.text.bytes has.text.read, has.text.given)
+    (has.text.bytes, spelled r s.decoder x has.text.bytes has.text.read, has.text.given)
 
 all_made : (m : Mode) (x y : List ℕ) → Makes m x y → MakesBeginning m x y
 all_made (Encode prefix upper g) x y is = ([], sym is ∙ sym (append-nil y))
@@ -283,9 +283,3 @@ reached_begun (Decode r) s left n x y (Some (Text e place)) (bytes, fails, is) =
     (bytes, error_begun r left x bytes e place fails, is)
 reached_begun m s left n x y (Some (Read e)) h = absurd h
 reached_begun m s left n x y (Some (Write e)) h = absurd h
-
-pub decoded_reached : (r : Reading) (s : Stage) (left : Option (List ℕ)) (n : ℕ) (x y : List ℕ) (o : Option RunError)
-    → 0 < n → (o ≡ None → HasDecoded r s.decoder x y) → ((e : RunError) → o ≡ Some e → IsErrorOf (Decode r) left x y e)
-    → Reaches (Decode r) s left n x y o
-decoded_reached r s left n x y None some more error = (λ h. more refl, λ z. absurd (omega (arith, some, z)))
-decoded_reached r s left n x y (Some e) some more error = error e refl

@@ -43,10 +43,7 @@ impl Scanner {
             let count = scanner.run(reading, &chunk[done..], &mut output[end..]);
             done += count;
             end += count;
-            if count == LANES {
-                continue;
-            }
-            if done < chunk.len() {
+            if count < LANES && done < chunk.len() {
                 let added = scanner.next(reading, chunk[done]);
                 done += 1;
                 end = put(added, output, end);

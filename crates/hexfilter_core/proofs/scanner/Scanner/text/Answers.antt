@@ -3,19 +3,6 @@ use Rattle.const_hex.specs.Decoding.{listed}
 use Rattle.hexfilter_core.proofs.lemmas.Texts.{added_byte, added_run, rest-size}
 use Rattle.hexfilter_core.proofs.scanner.Scanner.text.Goals as goal
 
-pub runs-preserved-then-count-eq-LANES : goal.runs-preserved-then-count-eq-LANES
-runs-preserved-then-count-eq-LANES c =
-    let i = c.runs.invariant in
-    let ran = c.run-count.ensures in
-    let size = rest-size c.args.chunk.now c.runs.done in
-    let space = c.runs.auto.output in record {
-      within = omega (arith, ran.within, size);
-      fewer = omega arith;
-      so_far = λ x is.
-          added_run _ _ _ x _ _ c.runs.end c.runs.done (i.so_far x is) _ c.run-count.result _ i.within
-          (omega (arith, space)) (omega (arith, ran.length, ran.within, size, space)) ran.added;
-    }
-
 pub runs-preserved : goal.runs-preserved
 runs-preserved c =
     let i = c.runs.invariant in

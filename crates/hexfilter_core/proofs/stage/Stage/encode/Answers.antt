@@ -2,7 +2,7 @@ use Rattle.std.proofs.Common.{arith, rules}
 use Rattle.std.proofs.lemmas.Grind.{common_steps}
 use Rattle.const_hex.specs.Texts.{full_text}
 use Rattle.hexfilter_core.proofs.lemmas.GroupBreaks.{without_groups}
-use Rattle.hexfilter_core.proofs.encoder.Encoder.put_text.Goals as goal
+use Rattle.hexfilter_core.proofs.stage.Stage.encode.Goals as goal
 
 pub returns-then-groups-eq0-clause-prefix : goal.returns-then-groups-eq0-clause-prefix
 returns-then-groups-eq0-clause-prefix c = search rules

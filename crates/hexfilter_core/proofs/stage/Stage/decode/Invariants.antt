@@ -1,6 +1,6 @@
 use Rattle.std.proofs.Common.{◌+◌, ◌-◌, ◌<◌, ◌≤◌, ◌++◌, ℕ, List, length, take}
 use Rattle.hexfilter_core.specs.Stages.{HasDecoded}
-use Rattle.hexfilter_core.proofs.input_decoder.InputDecoder.decode.Given as goal
+use Rattle.hexfilter_core.proofs.stage.Stage.decode.Given as goal
 
 abbrev pub invariant-parts : goal.invariant-parts
 invariant-parts l = record {

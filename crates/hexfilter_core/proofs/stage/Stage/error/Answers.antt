@@ -1,6 +1,6 @@
 use Rattle.std.proofs.Common.{refl}
 use Rattle.hexfilter_core.proofs.lemmas.Texts.{pairs}
-use Rattle.hexfilter_core.proofs.input_decoder.InputDecoder.error.Goals as goal
+use Rattle.hexfilter_core.proofs.stage.Stage.error.Goals as goal
 
 pub returns : goal.returns
 returns c = λ x y rest left has soon invalid.

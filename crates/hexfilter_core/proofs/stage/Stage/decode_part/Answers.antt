@@ -2,7 +2,7 @@ use Rattle.std.proofs.Common.{arith, length-take, refl}
 use Rattle.std.proofs.lemmas.Result.{IfOk-weaker}
 use Rattle.hexfilter_core.proofs.lemmas.Texts.{decoded_more, plain_added}
 use Rattle.hexfilter_core.specs.Dumps.{text_of}
-use Rattle.hexfilter_core.proofs.input_decoder.InputDecoder.decode_part.Goals as goal
+use Rattle.hexfilter_core.proofs.stage.Stage.decode_part.Goals as goal
 
 pub returns-then-leaves_out-clause-ok : goal.returns-then-leaves_out-clause-ok
 returns-then-leaves_out-clause-ok c = λ x y has.

@@ -1,16 +1,12 @@
-use Rattle.std.proofs.Common.{◌≡◌, ◌∷◌, ◌++◌, ◌+◌, ◌-◌, ◌<◌, ◌≤◌, ℕ, List, Some, Option, length, take, drop, get_or, sym, arith, append_assoc, length-drop, length-take}
+use Rattle.std.proofs.Common.{◌≡◌, ◌∷◌, ◌++◌, ◌+◌, ◌-◌, ◌<◌, ◌≤◌, ℕ, List, length, take, drop, get_or, sym, arith, append_assoc, length-drop, length-take}
 use Rattle.std.proofs.lemmas.Grind.{common_steps}
 use Rattle.std.proofs.lemmas.List.{take_all}
 use Rattle.std.proofs.lemmas.Slice.{take-put_mid_below}
 use Rattle.hexfilter_core.proofs.lemmas.Texts.{joined_one, part_joined, take_put}
-use Rattle.hexfilter_core.specs.declared.error.RunError.{RunError}
-use Rattle.hexfilter_core.proofs.input_decoder.InputDecoder.decode.Goals as goal
+use Rattle.hexfilter_core.proofs.stage.Stage.decode.Goals as goal
 
 cut_at : (x u : List ℕ) (k : ℕ) → k < length u → (x ++ take k u) ++ get_or u k 0 ∷ drop (k + 1) u ≡ x ++ u
 cut_at x u k h = grind (arith, common_steps)
-
-same_error : (e f : RunError) → ◌≡◌ {A = Option RunError} (Some e) (Some f) → e ≡ f
-same_error e f is = cc
 
 part_size : (chunk : List ℕ) (done size k : ℕ) → done + size ≤ length chunk → k ≡ size
     → length (take k (drop done chunk)) ≡ size
@@ -49,8 +45,8 @@ parts-preserved c =
           (omega (arith, c.parts.auto.output))) (i.decoded x y has);
     }
 
-pub returns-then-size-eq1-clause-err : goal.returns-then-size-eq1-clause-err
-returns-then-size-eq1-clause-err c = λ e is x y left has.
+pub returns-then-size-eq1-clause-made : goal.returns-then-size-eq1-clause-made
+returns-then-size-eq1-clause-made c = λ x y left has.
     let chunk = c.args.chunk.now in
     let done = c.parts.done in
     let end = c.parts.end in
@@ -63,11 +59,13 @@ returns-then-size-eq1-clause-err c = λ e is x y left has.
     let invalid = rw (part_joined x chunk done 1 (done + c.parts.size - done) (omega (arith, c.if-size-eq1.true))) at
     (c.in-Err.ensures.err (x ++ take done chunk) (y ++ take end out) read (omega (arith, size, space, i.within))) in
     rw (take-put_mid_below end _ out c.decode_part.new.output end (omega arith) (omega (arith, space)))
-    (rw (cut_at x chunk done inside, same_error _ e is) at
+    (rw (cut_at x chunk done inside) at
     (c.error.ensures (x ++ take done chunk) (y ++ take end out) (drop (done + 1) chunk) left read
     (omega (arith, length-drop (done + 1) chunk, c.requires.chunk, inside))
     (rw (joined_one x chunk done inside) invalid)))
 
-pub returns-clause-ok : goal.returns-clause-ok
-returns-clause-ok c = λ none x y has.
-    rw (take_all c.parts.done c.args.chunk.now (omega arith)) at (c.parts.invariant.decoded x y has)
+pub returns-clause-made : goal.returns-clause-made
+returns-clause-made c = λ x y left has. (
+  λ some. rw (take_all c.parts.done c.args.chunk.now (omega arith)) at (c.parts.invariant.decoded x y has),
+  λ none. absurd (omega (arith, none, c.requires.chunk)),
+)
