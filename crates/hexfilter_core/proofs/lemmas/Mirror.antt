@@ -12,7 +12,7 @@ use Rattle.const_hex_arch.proofs.lemmas.Spelling.{Spells-digits}
 use Rattle.const_hex_arch.proofs.lemmas.Texts.{Spells-hex_text}
 use Rattle.hexfilter_core.specs.Dumps.{FromHexError, Groups, HasError, IgnoresLines, InvalidHexCharacter, InvalidStringLength, NoMemory, OddLength, Place, Reading, encoded, groups_from, is_whitespace, mirror, text_from, text_of}
 use Rattle.hexfilter_core.specs.Runs.{Decode, FailsWith, Makes}
-use Rattle.hexfilter_core.proofs.lemmas.Texts.{text-append}
+use Rattle.hexfilter_core.proofs.lemmas.Texts.{body-longer, text-append}
 
 abbrev reading : Bool → ℕ → ℕ → Reading
 reading i n s = record { is_check = false; ignore_whitespace = i; groups = record { size = n; separator = s } }
@@ -85,16 +85,12 @@ one_digit : (c d : ℕ) (v : List ℕ) (b : Bool) → ((c == 48) && (d == 120 ||
 one_digit c d v true e h = All-cons IsDigit c [] (zero_digit c (grind (arith, nat_tests, e))) (All-nil IsDigit)
 one_digit c d v false e h = All-cons IsDigit c [] (All-head IsDigit c (d ∷ v) h) (All-nil IsDigit)
 
-front_digits : (c d : ℕ) (u v : List ℕ) (b : Bool) → AllDigits (if b then u ++ v else c ∷ d ∷ (u ++ v))
-    → AllDigits (if b then u else c ∷ d ∷ u)
-front_digits c d u v true h = ((digits_append u v).0 h).0
-front_digits c d u v false h = ((digits_append (c ∷ d ∷ u) v).0 h).0
-
 body_front : (u v : List ℕ) → AllDigits (body_of (u ++ v)) → AllDigits (body_of u)
 body_front [] v h = All-nil IsDigit
 body_front (c ∷ []) [] h = h
 body_front (c ∷ []) (d ∷ v) h = one_digit c d v _ refl h
-body_front (c ∷ d ∷ u) v h = front_digits c d u v ((c == 48) && (d == 120 || d == 88)) h
+body_front (c ∷ d ∷ u) v h =
+    ((digits_append (body_of (c ∷ d ∷ u)) v).0 (rw (body-longer (c ∷ d ∷ u) v (omega arith)) at h)).0
 
 -- an input that has an error decodes to no bytes, whatever follows
 not_decoded : (r : Reading) (x rest y bytes : List ℕ) (e : FromHexError) (place : Option Place)

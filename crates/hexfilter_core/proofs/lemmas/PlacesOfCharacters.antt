@@ -1,5 +1,5 @@
 -- The places after parts of an input.
-use Rattle.std.proofs.Common.{◌≡◌, ◌≢◌, ℕ, ◌+◌, ◌%◌, ◌^◌, ◌≤◌, ◌==◌, cond, count_by, fold, if◌then◌else◌, List, [], ◌∷◌, ◌++◌, length, refl, sym, ap, ◌∙◌, arith, length-append}
+use Rattle.std.proofs.Common.{◌≡◌, ◌≢◌, ℕ, ◌+◌, ◌%◌, ◌^◌, ◌≤◌, ◌==◌, if◌then◌else◌, List, [], ◌∷◌, ◌++◌, length, refl, sym, ap, ◌∙◌, arith, length-append}
 use Rattle.std.proofs.lemmas.Bool.Decides.{nat_tests}
 use Rattle.std.proofs.lemmas.List.Elements.{All-head, All-tail}
 use Rattle.std.specs.List.{All}
@@ -55,35 +55,12 @@ place_after_newline x p line is e = λ short.
     rw (place_after-append (record { line = 1; column = 1 }) x (10 ∷ []))
     (omega (arith, short, e, before.0, few, size), refl)
 
-newlines_from : (n : ℕ) (x : List ℕ) → fold (λ a b. a + cond (b == 10) 1 0) n x ≡ n + count_by (λ b. b == 10) x
-newlines_from n [] = omega arith
-newlines_from n (b ∷ x) =
-    let one = newlines_from (0 + cond (b == 10) 1 0) x in
-    let more = newlines_from (n + cond (b == 10) 1 0) x in omega (arith, one, more)
-
-lines_counted : (p : Place) (x : List ℕ) → (place_after p x).line ≡ p.line + count_by (λ b. b == 10) x
-unfolding place_after
-lines_counted p [] = omega arith
-lines_counted p (b ∷ x) =
-    let more = lines_counted
-    (record { line = if b == 10 then p.line + 1 else p.line; column = if b == 10 then 1 else p.column + 1 }) x in
-    let one = newlines_from (0 + cond (b == 10) 1 0) x in
-    grind (arith, nat_tests, more, one)
-
--- the place in the last line, as editors count: from 1, after the newlines before it, and after its characters before it
+-- the column counts from 1 after the last newline
 pub in_last_line : (lines line : List ℕ) → All (λ b. b ≢ 10) line
-    → let here : Place = after ((lines ++ 10 ∷ []) ++ line) in
-    (here.line ≡ 1 + count_by (λ b. b == 10) ((lines ++ 10 ∷ []) ++ line)) × (here.column ≡ 1 + length line)
+    → (after ((lines ++ 10 ∷ []) ++ line)).column ≡ 1 + length line
 unfolding place_after
 in_last_line lines line plain =
-    let front = lines ++ 10 ∷ [] in
     let start : Place = record { line = 1; column = 1 } in
-    let whole = place_after-append start front line in
-    let column = (run (after front) line plain).1 in
-    let one = ap (λ p. p.column) (place_after-append start lines (10 ∷ [])) in
-    (lines_counted start (front ++ line), ap (λ p. p.column) whole ∙ column ∙ ap (λ n. n + length line) one)
-
--- and in the first line
-pub in_first_line : (line : List ℕ) → All (λ b. b ≢ 10) line
-    → ((after line).line ≡ 1) × ((after line).column ≡ 1 + length line)
-in_first_line line plain = run (record { line = 1; column = 1 }) line plain
+    let front = lines ++ 10 ∷ [] in
+    ap (λ p. p.column) (place_after-append start front line) ∙ (run (after front) line plain).1
+    ∙ ap (λ p. p.column + length line) (place_after-append start lines (10 ∷ []))

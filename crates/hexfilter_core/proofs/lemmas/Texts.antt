@@ -74,9 +74,6 @@ all_kept r x h =
 no_groups : (r : Reading) → leaves_out r ≡ false → r.groups.size ≡ 0
 no_groups r h = grind (arith, nat_tests, h)
 
-not_both : (b : Bool) → b ≡ true → b ≡ false → ⊥
-not_both b e h = cc
-
 -- an input of which nothing is left out
 pub text_plain : (r : Reading) (x : List ℕ) → leaves_out r ≡ false → text_of r x ≡ x
 text_plain r x h =
@@ -88,7 +85,7 @@ plain_added r s x u h is = record {
   text = text_plain r (x ++ u) h ∙ ap (λ l. l ++ u) (sym (text_plain r x h));
   scanned = record {
     next = omega (arith, is.next, no_groups r h, next_bound r 0 x (omega arith), next_bound r 0 (x ++ u) (omega arith));
-    place = λ some. absurd (not_both _ some h);
+    place = λ some. cc;
   };
 }
 
@@ -235,7 +232,7 @@ fewer_made (Decode r) x y k (bytes, spelled, is) =
 body-shorter : (t : List ℕ) → length (body_of t) ≤ length t
 body-shorter t = grind arith
 
-body-longer : (t u : List ℕ) → 2 ≤ length t → body_of (t ++ u) ≡ body_of t ++ u
+pub body-longer : (t u : List ℕ) → 2 ≤ length t → body_of (t ++ u) ≡ body_of t ++ u
 body-longer t u h = grind arith
 
 -- what all pairs of digits decode to is a beginning, whatever follows

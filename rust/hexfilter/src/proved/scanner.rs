@@ -43,11 +43,12 @@ impl Scanner {
             let count = scanner.run(reading, &chunk[done..], &mut output[end..]);
             done += count;
             end += count;
-            if count < LANES && done < chunk.len() {
-                let added = scanner.next(reading, chunk[done]);
-                done += 1;
-                end = put(added, output, end);
+            if count == LANES || done == chunk.len() {
+                continue;
             }
+            let added = scanner.next(reading, chunk[done]);
+            done += 1;
+            end = put(added, output, end);
         }
         *self = scanner;
         end

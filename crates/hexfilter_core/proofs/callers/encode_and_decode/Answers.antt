@@ -3,7 +3,7 @@ use Rattle.hexfilter_core.specs.Dumps.{FromHexError, Groups, Place, encoded, mir
 use Rattle.hexfilter_core.specs.Runs.{Decode, Encode, Ends, Mode, RunsToEnd, RunsToError}
 use Rattle.hexfilter_core.proofs.lemmas.Arguments.{asked}
 use Rattle.hexfilter_core.proofs.lemmas.Mirror.{decoded_again, never_rejected}
-use Rattle.hexfilter_core.proofs.lemmas.Statuses.{ends_always}
+use Rattle.hexfilter_core.proofs.lemmas.Runs.{ends_always}
 use Rattle.hexfilter_core.proofs.callers.encode_and_decode.Goals as goal
 
 -- the text that the first run has written

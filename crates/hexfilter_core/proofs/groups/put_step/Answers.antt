@@ -1,5 +1,5 @@
 use Rattle.std.proofs.Common.{arith}
-use Rattle.hexfilter_core.proofs.lemmas.GroupBreaks.{puts_more, puts_one}
+use Rattle.hexfilter_core.proofs.lemmas.Groups.{puts_more, puts_one}
 use Rattle.hexfilter_core.proofs.groups.put_step.Goals as goal
 
 pub returns-clause-groups : goal.returns-clause-groups

@@ -1,5 +1,5 @@
 use Rattle.std.proofs.Common.{[], ◌∷◌, sym, take, append_assoc, arith}
-use Rattle.hexfilter_core.proofs.lemmas.GroupBreaks.{after_group}
+use Rattle.hexfilter_core.proofs.lemmas.Groups.{after_group}
 use Rattle.hexfilter_core.proofs.groups.separate.Goals as goal
 
 pub returns-then-column-groups-clause-groups : goal.returns-then-column-groups-clause-groups

@@ -1,8 +1,8 @@
 use Rattle.std.proofs.Common.{◌++◌, ◌+◌, [], Some, length, take, arith, length-take, refl}
 use Rattle.std.proofs.KnownBytes.{Appends-kept, Appends-trans, Consumes-kept, Consumes-trans}
 use Rattle.std.proofs.Math.Seq.{take-append-add}
-use Rattle.hexfilter_core.proofs.lemmas.Encoding.{if_err, if_ok}
-use Rattle.hexfilter_core.proofs.lemmas.Errors.{same_value, text_not_interrupted}
+use Rattle.hexfilter_core.proofs.lemmas.Groups.{if_err, if_ok}
+use Rattle.hexfilter_core.proofs.lemmas.Runs.{same_value, text_not_interrupted}
 use Rattle.hexfilter_core.proofs.lemmas.Texts.{fewer_made, reached_begun, so_far_made}
 use Rattle.hexfilter_core.proofs.runs.run.Goals as goal
 

@@ -1,6 +1,6 @@
 use Rattle.std.proofs.Common.{◌++◌, refl}
 use Rattle.std.proofs.lemmas.Result.{IfOk-weaker}
-use Rattle.hexfilter_core.proofs.lemmas.Errors.{not_checked, not_decoded}
+use Rattle.hexfilter_core.proofs.lemmas.Runs.{not_checked, not_decoded}
 use Rattle.hexfilter_core.proofs.stage.decode_text.Goals as goal
 
 pub returns-in-Ok-clause-ok : goal.returns-in-Ok-clause-ok

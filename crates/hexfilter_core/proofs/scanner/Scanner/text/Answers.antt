@@ -3,8 +3,8 @@ use Rattle.const_hex.specs.Decoding.{listed}
 use Rattle.hexfilter_core.proofs.lemmas.Texts.{added_byte, added_run, rest-size}
 use Rattle.hexfilter_core.proofs.scanner.Scanner.text.Goals as goal
 
-pub runs-preserved : goal.runs-preserved
-runs-preserved c =
+pub runs-preserved-then-count-eq-LANES : goal.runs-preserved-then-count-eq-LANES
+runs-preserved-then-count-eq-LANES c =
     let i = c.runs.invariant in
     let ran = c.run-count.ensures in
     let size = rest-size c.args.chunk.now c.runs.done in
@@ -16,8 +16,8 @@ runs-preserved c =
           (omega (arith, space)) (omega (arith, ran.length, ran.within, size, space)) ran.added;
     }
 
-pub runs-preserved-then-done-chunk : goal.runs-preserved-then-done-chunk
-runs-preserved-then-done-chunk c =
+pub runs-preserved : goal.runs-preserved
+runs-preserved c =
     let chunk = c.args.chunk.now in
     let done = c.runs.done in
     let n = c.run-count.result in

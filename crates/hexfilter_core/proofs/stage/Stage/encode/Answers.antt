@@ -1,17 +1,8 @@
-use Rattle.std.proofs.Common.{arith, rules}
+use Rattle.std.proofs.Common.{arith}
 use Rattle.std.proofs.lemmas.Grind.{common_steps}
 use Rattle.const_hex.specs.Texts.{full_text}
-use Rattle.hexfilter_core.proofs.lemmas.GroupBreaks.{without_groups}
+use Rattle.hexfilter_core.proofs.lemmas.Groups.{without_groups}
 use Rattle.hexfilter_core.proofs.stage.Stage.encode.Goals as goal
-
-pub returns-then-groups-eq0-clause-prefix : goal.returns-then-groups-eq0-clause-prefix
-returns-then-groups-eq0-clause-prefix c = search rules
-
-pub returns-clause-prefix : goal.returns-clause-prefix
-returns-clause-prefix c = search rules
-
-pub returns-clause-text : goal.returns-clause-text
-returns-clause-text c = search rules
 
 pub returns-then-groups-eq0-clause-text : goal.returns-then-groups-eq0-clause-text
 returns-then-groups-eq0-clause-text c = λ fits rest.

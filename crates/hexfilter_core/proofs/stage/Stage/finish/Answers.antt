@@ -1,5 +1,5 @@
 use Rattle.std.proofs.Common.{arith, refl}
-use Rattle.hexfilter_core.proofs.lemmas.Errors.{same_value}
+use Rattle.hexfilter_core.proofs.lemmas.Runs.{same_value}
 use Rattle.hexfilter_core.proofs.lemmas.Texts.{pairs}
 use Rattle.hexfilter_core.specs.Dumps.{text_of}
 use Rattle.hexfilter_core.proofs.stage.Stage.finish.Goals as goal

@@ -1,6 +1,6 @@
 use Rattle.std.proofs.Common.{◌≡◌, ◌++◌, ◌∙◌, [], ℕ, List, Bool, true, false, if◌then◌else◌, ap, append-nil, arith, length}
 use Rattle.std.proofs.lemmas.Bool.Decides.{nat_tests}
-use Rattle.hexfilter_core.proofs.lemmas.Encoding.{encoded_last, encoded_more, no_bytes}
+use Rattle.hexfilter_core.proofs.lemmas.Groups.{encoded_last, encoded_more, no_bytes}
 use Rattle.hexfilter_core.proofs.stage.Stage.next.Goals as goal
 
 -- what is put after the text of a chunk
