@@ -71,6 +71,7 @@ impl Stage {
         ensures within { result.0 ≤ length output.new }
         ensures lengths { (length text.new ≡ length text.old) × (length output.new ≡ length output.old) }
     {
+        let is_end = chunk.is_empty();
         match mode {
             Mode::Encode {
                 prefix: _,
@@ -78,10 +79,10 @@ impl Stage {
                 groups,
             } => {
                 let end = self.encode(upper, groups, chunk, text, output);
-                let newline = self.newline(groups, chunk.is_empty());
+                let newline = self.newline(groups, is_end);
                 (put(newline, output, end), None)
             }
-            Mode::Decode(_) if chunk.is_empty() => (0, self.finish()),
+            Mode::Decode(_) if is_end => (0, self.finish()),
             Mode::Decode(reading) => self.decode(reading, chunk, text, output),
         }
     }

@@ -55,6 +55,7 @@ impl Stage {
         text: &mut [u8],
         output: &mut [u8],
     ) -> (usize, Option<RunError>) {
+        let is_end = chunk.is_empty();
         match mode {
             Mode::Encode {
                 prefix: _,
@@ -62,10 +63,10 @@ impl Stage {
                 groups,
             } => {
                 let end = self.encode(upper, groups, chunk, text, output);
-                let newline = self.newline(groups, chunk.is_empty());
+                let newline = self.newline(groups, is_end);
                 (put(newline, output, end), None)
             }
-            Mode::Decode(_) if chunk.is_empty() => (0, self.finish()),
+            Mode::Decode(_) if is_end => (0, self.finish()),
             Mode::Decode(reading) => self.decode(reading, chunk, text, output),
         }
     }

@@ -16,7 +16,7 @@ returns-in-Encode-clause-made c = λ x y left has end.
     let made = rw m.is at has in
     let ensured = c.encode-end.ensures in
     let new = c.encode-end.new.self in
-    let put = last c.is_empty.result _ _ _ _ c.newline-newline.ensures c.put.ensures.front in
+    let put = last c.is_empty-is_end.result _ _ _ _ c.newline-newline.ensures c.put.ensures.front in
     rw m.is (
       λ some. rw (put.1 (grind (arith, nat_tests, some)))
           (encoded_more m.prefix m.upper m.groups _ new x y c.args.chunk.now _ made (ensured.text made.fits) ensured.prefix
