@@ -1,9 +1,6 @@
 pub mod Arguments
-pub mod Colons
-pub mod Encoding
-pub mod Errors
-pub mod GroupBreaks
+pub mod Runs
+pub mod Groups
 pub mod Mirror
 pub mod PlacesOfCharacters
-pub mod Statuses
 pub mod Texts

@@ -1,10 +1,4 @@
-pub mod Errors
-pub mod Groups
-pub mod Inputs
+pub mod Dumps
 pub mod Options
-pub mod Outcome
-pub mod Pairs
-pub mod Places
-pub mod Programs
+pub mod Runs
 pub mod Stages
-pub mod Streams

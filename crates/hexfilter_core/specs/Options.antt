@@ -5,18 +5,16 @@ use Rattle.std.specs.List.{after_first, before_first, list_any, position_or_len}
 use Rattle.std.specs.Option.{is_some, unwrap_or}
 use Rattle.std.specs.Str.{all_ascii_digits, bytes_eq}
 use Rattle.std.specs.Str.Parse.{digits_value}
-use Rattle.hexfilter_core.specs.declared.mode.Groups.{Groups}
-use Rattle.hexfilter_core.specs.declared.mode.Mode.{Mode}
-use Rattle.hexfilter_core.specs.declared.mode.Reading.{Reading}
-use Rattle.hexfilter_core.specs.declared.mode.Mode.TheVariants.{Encode, Decode}
-use Rattle.hexfilter_core.specs.declared.options.UsageErrorKind.{UsageErrorKind}
-use Rattle.hexfilter_core.specs.declared.options.UsageErrorKind.TheVariants.{UnknownOption, MissingValue, InvalidNumber, InvalidSeparator, GroupsInLines, SecondFile}
-use Rattle.hexfilter_core.specs.declared.options.Options.{Options}
-use Rattle.hexfilter_core.specs.declared.options.Request.{Request}
-use Rattle.hexfilter_core.specs.declared.options.Request.TheVariants.{Help, Version, Run}
-use Rattle.hexfilter_core.specs.declared.options.UsageError.{UsageError}
-use Rattle.hexfilter_core.specs.declared.options.Value.{Value}
-use Rattle.hexfilter_core.specs.declared.options.Value.TheVariants.{Size, Separator}
+use Rattle.hexfilter_core.specs.Dumps.{Groups, Reading}
+use Rattle.hexfilter_core.specs.Runs.{Decode, Encode, Mode}
+pub use Rattle.hexfilter_core.specs.declared.options.UsageErrorKind.{UsageErrorKind}
+pub use Rattle.hexfilter_core.specs.declared.options.UsageErrorKind.TheVariants.{UnknownOption, MissingValue, InvalidNumber, InvalidSeparator, GroupsInLines, SecondFile}
+pub use Rattle.hexfilter_core.specs.declared.options.Options.{Options}
+pub use Rattle.hexfilter_core.specs.declared.options.Request.{Request}
+pub use Rattle.hexfilter_core.specs.declared.options.Request.TheVariants.{Help, Version, Run}
+pub use Rattle.hexfilter_core.specs.declared.options.UsageError.{UsageError}
+pub use Rattle.hexfilter_core.specs.declared.options.Value.{Value}
+pub use Rattle.hexfilter_core.specs.declared.options.Value.TheVariants.{Size, Separator}
 
 -- ---- the options
 
@@ -175,13 +173,6 @@ AsksFor (Encode prefix upper g) words =
     ⊎ IsPlain g words ⊎ WritesGroups g words
 AsksFor (Decode r) words = IsPlain r.groups words ⊎ WritesGroups r.groups words
 
--- the arguments that write a text, and those that read it back: lines with --ignore-whitespace, and groups with the
--- same bytes and separator
-abbrev pub AreBack : Bool → Bool → List (List ℕ) → List (List ℕ) → Type 0
-AreBack prefix upper write read =
-    (words : List (List ℕ)) × (write ≡ flag prefix (codes "--prefix") ++ (flag upper (codes "--upper") ++ words))
-    × (((words ≡ []) × (read ≡ codes "--decode" ∷ []))
-    ⊎ ((v : List ℕ) × (n : ℕ) × (number v ≡ Ok n) × (words ≡ codes "--wrap" ∷ v ∷ [])
-    × (read ≡ codes "--decode" ∷ codes "--ignore-whitespace" ∷ []))
-    ⊎ ((v : List ℕ) × (n : ℕ) × (b : ℕ) × (number v ≡ Ok n) × (is_separator b ≡ true)
-    × (words ≡ codes "--group" ∷ v ∷ codes "--separator" ∷ (b ∷ []) ∷ []) × (read ≡ codes "--decode" ∷ words)))
+-- the arguments ask for the mode
+abbrev pub AreFor : Mode → List (List ℕ) → Type 0
+AreFor m arguments = (words : List (List ℕ)) × AsksFor m words × (arguments ≡ arguments_of m words)

@@ -1,7 +1,7 @@
 //! Why a run fails.
 
 ghost use Rattle.std.specs.Prelude.{◌≡◌, Err};
-ghost use Rattle.hexfilter_core.specs.Errors.{status_of};
+ghost use Rattle.hexfilter_core.specs.Runs.{status_of};
 
 use crate::place::Place;
 use const_hex::FromHexError;

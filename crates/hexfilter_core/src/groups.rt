@@ -2,7 +2,7 @@
 
 ghost use Rattle.std.specs.Prelude.{◌≡◌, ◌≢◌, ◌+◌, ◌*◌, ◌≤◌, ◌<◌, ◌++◌, ◌∷◌, [], List, ℕ, length, take};
 ghost use Rattle.const_hex.specs.Decoding.{listed};
-ghost use Rattle.hexfilter_core.specs.Groups.{PutsInto, groups_from};
+ghost use Rattle.hexfilter_core.specs.Dumps.{PutsInto, groups_from};
 
 use crate::mode::Groups;
 
@@ -131,8 +131,8 @@ fn separate(groups: Groups, column: usize, output: &mut [u8], end: usize) -> (us
     ensures within { result.0 ≤ end + 1 }
     ensures column { result.1 < groups.size }
     ensures groups { (rest : List ℕ) → 0 < length rest
-        → take end output.old ++ groups_from groups.size groups.separator column rest
-        ≡ take result.0 output.new ++ groups_from groups.size groups.separator result.1 rest }
+        → take end output.old ++ groups_from groups column rest
+        ≡ take result.0 output.new ++ groups_from groups result.1 rest }
     ensures length { length output.new ≡ length output.old }
 {
     if column == groups.size {

@@ -6,10 +6,8 @@
 #![tactic(auto)]
 
 mod callers;
-mod encoder;
 mod error;
 mod groups;
-mod input_decoder;
 mod mode;
 mod options;
 mod place;

@@ -1,7 +1,7 @@
 //! What a run makes of its input.
 
 ghost use Rattle.std.specs.Prelude.{◌≡◌};
-ghost use Rattle.hexfilter_core.specs.Places.{leaves_out};
+ghost use Rattle.hexfilter_core.specs.Dumps.{leaves_out};
 
 /// What a run makes of its input.
 ///

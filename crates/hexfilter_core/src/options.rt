@@ -1,9 +1,8 @@
 //! What the arguments of the program ask for.
 
 ghost use Rattle.std.specs.Prelude.{◌≡◌, ℕ, List, None, Ok, map, string_bytes};
-ghost use Rattle.hexfilter_core.specs.Options.{AsksFor, find, is_separator, number, request, request_for, table, with_argument, with_letters, with_value, with_word, arguments_of};
+ghost use Rattle.hexfilter_core.specs.Options.{AsksFor, Run, arguments_of, find, is_separator, number, request, request_for, table, with_argument, with_letters, with_value, with_word};
 ghost use Rattle.hexfilter_core.specs.declared.mode.Mode.{Mode};
-ghost use Rattle.hexfilter_core.specs.declared.options.Request.TheVariants.{Run};
 
 use crate::mode::{Groups, Mode, Reading};
 

@@ -1,8 +1,8 @@
 //! Where a character stands, as editors count.
 
-ghost use Rattle.std.specs.Prelude.{◌≡◌, ◌+◌, ◌++◌, ◌∷◌, [], List, ℕ, length};
-ghost use Rattle.const_hex.specs.Decoding.{counted};
-ghost use Rattle.hexfilter_core.specs.Places.{IsCount, IsLine, IsPlace};
+ghost use Rattle.std.specs.Prelude.{◌≡◌, ◌≢◌, ◌++◌, ◌∷◌, [], List, ℕ, length};
+ghost use Rattle.std.specs.List.{All};
+ghost use Rattle.hexfilter_core.specs.Dumps.{IsPlace};
 
 /// The line and the column of a character. Both count from 1, and a line ends with `\n`.
 #[derive(Clone, Copy, PartialEq, Eq, Debug)]
@@ -13,43 +13,30 @@ pub struct Place {
     pub column: usize,
 }
 
-/// A line of an input.
-#[derive(Clone, Copy, Debug)]
-pub(crate) struct Line {
-    /// Its number.
-    number: usize,
-    /// The position where it starts.
-    start: usize,
-}
+impl Place {
+    /// The place of the first character.
+    pub(crate) const FIRST: Place = Place { line: 1, column: 1 };
 
-impl Line {
-    /// The first line.
-    pub(crate) const FIRST: Line = Line {
-        number: 1,
-        start: 0,
-    };
-
-    /// The line after one more byte, the last of `read`, which may be any number if there are more than `usize` counts.
-    pub(crate) fn after(self, byte: u8, read: usize) -> Line
-        ensures { (x : List ℕ) → IsLine x self → IsCount read (length x + 1) → IsLine (x ++ byte ∷ []) result }
+    /// The place after this byte.
+    pub(crate) fn after(self, byte: u8) -> Place
+        ensures { (x : List ℕ) → IsPlace x self → IsPlace (x ++ byte ∷ []) result }
     {
         if byte == b'\n' {
-            return Line {
-                number: self.number.wrapping_add(1),
-                start: read,
+            return Place {
+                line: self.line.wrapping_add(1),
+                column: 1,
             };
         }
-        self
+        self.right(1)
     }
 
-    /// The place of the byte after the first `read`.
-    #[tactic(auto, using(crate::proofs::lemmas::PlacesOfCharacters::place_in_line))]
-    pub(crate) fn place(self, read: usize) -> Place
-        ensures { (x : List ℕ) → IsLine x self → read ≡ counted (length x) → IsPlace x result }
+    /// The place after so many bytes, of which none is a newline.
+    pub(crate) fn right(self, count: usize) -> Place
+        ensures { (x u : List ℕ) → IsPlace x self → length u ≡ count → All (λ b. b ≢ 10) u → IsPlace (x ++ u) result }
     {
         Place {
-            line: self.number,
-            column: read.saturating_sub(self.start).saturating_add(1),
+            line: self.line,
+            column: self.column.wrapping_add(count),
         }
     }
 }

@@ -3,13 +3,8 @@
 ghost use Rattle.std.specs.Prelude.{◌≡◌, ◌++◌, ◌∷◌, [], List, ℕ, None, Some, Option, Bool, not, ◌&&◌, Ok, Err, IfOk, OnErr, OnOk, codes, map, string_bytes, is_ok};
 ghost use Rattle.std.specs.Io.KnownBytes.{Appends};
 ghost use Rattle.std.specs.Process.{exit_status};
-ghost use Rattle.const_hex.specs.Writers.{WritesBeginning};
-ghost use Rattle.hexfilter_core.specs.Errors.{status_of};
-ghost use Rattle.hexfilter_core.specs.Options.{request_for};
-ghost use Rattle.hexfilter_core.specs.Programs.{EndsIf, Prints, bytes_of, file_name};
-ghost use Rattle.hexfilter_core.specs.declared.mode.Mode.{Mode};
-ghost use Rattle.hexfilter_core.specs.declared.options.Request.TheVariants.{Help, Run, Version};
-ghost use Rattle.hexfilter_core.specs.declared.options.UsageError.{UsageError};
+ghost use Rattle.hexfilter_core.specs.Runs.{EndsIf, Mode, Prints, WritesBeginning, bytes_of, file_name, status_of};
+ghost use Rattle.hexfilter_core.specs.Options.{Help, Run, UsageError, Version, request_for};
 
 use crate::error::RunError;
 use crate::mode::Mode;

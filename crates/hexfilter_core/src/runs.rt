@@ -1,11 +1,8 @@
 //! A whole run over any reader and writer.
 
 ghost use Rattle.std.specs.Prelude.{◌≡◌, Err, Option, OnOk, OnErr, IfErr};
-ghost use Rattle.const_hex.specs.declared.error.FromHexError.{FromHexError};
-ghost use Rattle.hexfilter_core.specs.Errors.{IsNotInterrupted};
-ghost use Rattle.hexfilter_core.specs.Streams.{RunsPartly, RunsToEnd, RunsToError};
-ghost use Rattle.hexfilter_core.specs.declared.error.RunError.TheVariants.{Text};
-ghost use Rattle.hexfilter_core.specs.declared.place.Place.{Place};
+ghost use Rattle.hexfilter_core.specs.Dumps.{FromHexError, Place};
+ghost use Rattle.hexfilter_core.specs.Runs.{IsNotInterrupted, RunsPartly, RunsToEnd, RunsToError, Text};
 
 use crate::error::RunError;
 use crate::mode::Mode;

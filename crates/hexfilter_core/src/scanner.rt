@@ -2,14 +2,13 @@
 
 ghost use Rattle.std.specs.Prelude.{◌≡◌, ◌+◌, ◌≤◌, ◌<◌, ◌∷◌, [], List, ℕ, false, length, min, take, not, nat_lt};
 ghost use Rattle.std.specs.List.{All, prefix_len};
-ghost use Rattle.const_hex.specs.Decoding.{counted, listed};
+ghost use Rattle.const_hex.specs.Decoding.{listed};
 ghost use Rattle.hexfilter_core.specs.Stages.{HasAdded, HasScanned};
-ghost use Rattle.hexfilter_core.specs.Inputs.{is_whitespace, kept, next};
-ghost use Rattle.hexfilter_core.specs.Places.{IsCount, StandsAfter};
+ghost use Rattle.hexfilter_core.specs.Dumps.{StandsAfter, is_whitespace, kept, next};
 
 use crate::groups::put;
 use crate::mode::Reading;
-use crate::place::{Line, Place};
+use crate::place::Place;
 use std::simd::prelude::*;
 
 /// How many bytes are looked at together.
@@ -20,51 +19,32 @@ const LANES: usize = 32;
 pub(crate) struct Scanner {
     /// How many characters came since the last separator, if there are groups.
     column: usize,
-    /// If bytes may be left out: the line after these bytes.
-    line: Line,
+    /// If bytes may be left out: the place of the next byte.
+    place: Place,
 }
 
 impl Scanner {
     /// A scanner that has read nothing.
     pub(crate) const START: Scanner = Scanner {
         column: 0,
-        line: Line::FIRST,
+        place: Place::FIRST,
     };
 
-    /// The place of the next byte, after `read` bytes.
-    pub(crate) fn place(self, reading: Reading, read: usize) -> Option<Place>
-        ensures { (x : List ℕ) → HasScanned reading self x → read ≡ counted (length x) → StandsAfter reading x result }
+    /// The place of the next byte.
+    pub(crate) fn place(self, reading: Reading) -> Option<Place>
+        ensures { (x : List ℕ) → HasScanned reading self x → StandsAfter reading x result }
     {
         if reading.leaves_out() {
-            return Some(self.line.place(read));
+            return Some(self.place);
         }
         None
     }
 
-    /// Reads a byte, the last of `read`, which may be any number if there are more than `usize` counts. Returns what
-    /// it adds to the text.
-    pub(crate) fn next(&mut self, reading: Reading, byte: u8, read: usize) -> Option<u8>
-        ensures { (x : List ℕ) → HasScanned reading self.old x → IsCount read (length x + 1)
-            → HasAdded reading self.new x (byte ∷ []) (listed result) }
-    {
-        let (added, column) = step(reading, self.column, byte);
-        self.column = column;
-        self.line = self.line.after(byte, read);
-        added
-    }
-
-    /// Reads a chunk after `read` bytes. Puts what it adds to the text into the front of the output, and returns
-    /// how long that is.
-    pub(crate) fn text(
-        &mut self,
-        reading: Reading,
-        read: usize,
-        chunk: &[u8],
-        output: &mut [u8],
-    ) -> usize
+    /// Reads a chunk. Puts what it adds to the text into the front of the output, and returns how long that is.
+    pub(crate) fn text(&mut self, reading: Reading, chunk: &[u8], output: &mut [u8]) -> usize
         requires { length chunk.now ≤ length output.old }
         ensures within { result ≤ length chunk.now }
-        ensures added { (x : List ℕ) → HasScanned reading self.old x → read ≡ counted (length x)
+        ensures added { (x : List ℕ) → HasScanned reading self.old x
             → HasAdded reading self.new x chunk.now (take result output.new) }
         ensures length { length output.new ≡ length output.old }
     {
@@ -75,18 +55,26 @@ impl Scanner {
             let count = scanner.run(reading, &chunk[done..], &mut output[end..]);
             done += count;
             end += count;
-            if count == LANES {
+            if count == LANES || done == chunk.len() {
                 continue;
             }
-            if done < chunk.len() {
-                let byte = chunk[done];
-                done += 1;
-                let added = scanner.next(reading, byte, read.wrapping_add(done));
-                end = put(added, output, end);
-            }
+            let added = scanner.next(reading, chunk[done]);
+            done += 1;
+            end = put(added, output, end);
         }
         *self = scanner;
         end
+    }
+
+    /// Reads a byte, and returns what it adds to the text.
+    fn next(&mut self, reading: Reading, byte: u8) -> Option<u8>
+        ensures { (x : List ℕ) → HasScanned reading self.old x
+            → HasAdded reading self.new x (byte ∷ []) (listed result) }
+    {
+        let (added, column) = step(reading, self.column, byte);
+        self.column = column;
+        self.place = self.place.after(byte);
+        added
     }
 
     /// Copies bytes before the next that is left out or is below 33, or fewer. Returns how many.
@@ -100,10 +88,12 @@ impl Scanner {
     {
         let count = copy_block(chunk, output);
         if reading.groups.size == 0 {
+            self.place = self.place.right(count);
             return count;
         }
         let count = count.min(reading.groups.size.saturating_sub(self.column));
         self.column = self.column.saturating_add(count);
+        self.place = self.place.right(count);
         count
     }
 }

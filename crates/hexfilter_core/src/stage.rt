@@ -1,25 +1,34 @@
 //! What a run makes of its input, chunk after chunk.
 
-ghost use Rattle.std.specs.Prelude.{◌≡◌, ◌≤◌, ◌<◌, ◌+◌, ◌*◌, ◌++◌, [], ℕ, List, Option, None, Some, length, take};
+ghost use Rattle.std.specs.Prelude.{◌≡◌, ◌*◌, ◌+◌, ◌≤◌, ◌<◌, ◌++◌, [], List, ℕ, Bool, if◌then◌else◌, length, take, false, ◌/◌, ◌∷◌, Option, None, Some, IfOk, OnErr};
+ghost use Rattle.const_hex.specs.Decoding.{listed};
+ghost use Rattle.hexfilter_core.specs.Dumps.{Groups, PutsInto, encoded, ended, full_text, AllDigits, Reading, body_of, chunk_size, text_of};
+ghost use Rattle.hexfilter_core.specs.Stages.{HasDecoded, HasWritten, Reaches, HasMade};
 ghost use Rattle.std.specs.Io.KnownBytes.{IsAtEnd};
-ghost use Rattle.hexfilter_core.specs.Inputs.{chunk_size};
-ghost use Rattle.hexfilter_core.specs.Outcome.{IsErrorOf, Makes, MakesBeginning};
-ghost use Rattle.hexfilter_core.specs.Stages.{HasMade};
-ghost use Rattle.hexfilter_core.specs.declared.error.RunError.{RunError};
+ghost use Rattle.hexfilter_core.specs.Runs.{Decode, IsErrorOf, RunError};
 
-use crate::encoder::Encoder;
 use crate::error::RunError;
-use crate::input_decoder::InputDecoder;
-use crate::mode::Mode;
+use crate::groups::{put, put_groups};
+use crate::mode::{Groups, Mode, Reading};
+use crate::scanner::Scanner;
+use const_hex::{Decoder, FixedKernel, FromHexError, fill_text};
 
 /// How many bytes a chunk has at most.
 pub(crate) const CHUNK: usize = 16_384;
 
 /// What a run has read and made.
-#[derive(Drop)]
+#[derive(Clone, Copy, Debug)]
 pub(crate) struct Stage {
-    encoder: Encoder,
-    decoder: InputDecoder,
+    /// Whether the prefix has yet to be written.
+    prefix: bool,
+    /// How many characters the last group has that was written.
+    column: usize,
+    /// What has decoded the text, without what is left out.
+    decoder: Decoder,
+    /// How far the input was read as a text.
+    scanner: Scanner,
+    /// How many bytes of it were read, or `usize::MAX` for more.
+    read: usize,
 }
 
 impl Stage {
@@ -27,9 +36,19 @@ impl Stage {
     pub(crate) fn new(mode: Mode) -> Stage
         ensures { HasMade mode result [] [] }
     {
-        Stage {
-            encoder: Encoder::new(mode),
-            decoder: InputDecoder::new(),
+        let mut stage = Stage {
+            prefix: false,
+            column: 0,
+            decoder: Decoder::new(),
+            scanner: Scanner::START,
+            read: 0,
+        };
+        match mode {
+            Mode::Encode { prefix, .. } => {
+                stage.prefix = prefix;
+                stage
+            }
+            Mode::Decode(_) => stage,
         }
     }
 
@@ -46,30 +65,188 @@ impl Stage {
         requires chunk { length chunk.now ≤ chunk_size }
         requires text { 2 * length chunk.now + 2 ≤ length text.old }
         requires space { 4 * length chunk.now + 5 ≤ length output.old }
-        ensures more { result.1 ≡ None → 0 < length chunk.now → (x y : List ℕ) → HasMade mode self.old x y
-            → HasMade mode self.new (x ++ chunk.now) (y ++ take result.0 output.new) }
-        ensures end { result.1 ≡ None → length chunk.now ≡ 0 → (x y : List ℕ) → HasMade mode self.old x y
-            → Makes mode x (y ++ take result.0 output.new) }
-        ensures err { (e : RunError) → result.1 ≡ Some e → (x y : List ℕ) → HasMade mode self.old x y
-            → (left : Option (List ℕ)) → (length chunk.now ≡ 0 → IsAtEnd left)
-            → IsErrorOf mode left (x ++ chunk.now) (y ++ take result.0 output.new) e }
-        ensures begun { (x y : List ℕ) → HasMade mode self.old x y
-            → MakesBeginning mode (x ++ chunk.now) (y ++ take result.0 output.new) }
+        ensures made { (x y : List ℕ) (left : Option (List ℕ)) → HasMade mode self.old x y
+            → (length chunk.now ≡ 0 → IsAtEnd left)
+            → Reaches mode self.new left (length chunk.now) (x ++ chunk.now) (y ++ take result.0 output.new) result.1 }
         ensures within { result.0 ≤ length output.new }
         ensures lengths { (length text.new ≡ length text.old) × (length output.new ≡ length output.old) }
     {
+        let is_end = chunk.is_empty();
         match mode {
             Mode::Encode {
                 prefix: _,
                 upper,
                 groups,
             } => {
-                (
-                    self.encoder.encode(upper, groups, chunk, text, output),
-                    None,
-                )
+                let end = self.encode(upper, groups, chunk, text, output);
+                let newline = self.newline(groups, is_end);
+                (put(newline, output, end), None)
             }
-            Mode::Decode(reading) => self.decoder.decode(reading, chunk, text, output),
+            Mode::Decode(_) if is_end => (0, self.finish()),
+            Mode::Decode(reading) => self.decode(reading, chunk, text, output),
         }
     }
+
+    /// Encodes the next chunk into the front of the output. Returns the number of bytes there.
+    fn encode(
+        &mut self,
+        upper: bool,
+        groups: Groups,
+        chunk: &[u8],
+        text: &mut [u8],
+        output: &mut [u8],
+    ) -> usize
+        requires text { 2 * length chunk.now + 2 ≤ length text.old }
+        requires space { 4 * length chunk.now + 5 ≤ length output.old }
+        ensures text { self.old.column ≤ groups.size → PutsInto groups self.old.column
+            (full_text self.old.prefix upper chunk.now) (take result output.new) self.new.column }
+        ensures column { self.old.column ≤ groups.size → self.new.column ≤ groups.size }
+        ensures prefix { self.new.prefix ≡ false }
+        ensures within { result + 1 ≤ length output.new }
+        ensures lengths { (length text.new ≡ length text.old) × (length output.new ≡ length output.old) }
+    {
+        let count = 2 * chunk.len() + if self.prefix { 2 } else { 0 };
+        let prefix = self.prefix;
+        self.prefix = false;
+        if groups.size == 0 {
+            fill_text::<FixedKernel>(chunk, prefix, upper, &mut output[..count]);
+            return count;
+        }
+        let text = &mut text[..count];
+        fill_text::<FixedKernel>(chunk, prefix, upper, text);
+        let column = self.column.min(groups.size);
+        let (end, next) = put_groups(groups, column, text, output);
+        self.column = next;
+        end
+    }
+
+    /// The newline of a last line that has characters.
+    fn newline(&self, groups: Groups, is_end: bool) -> Option<u8>
+        ensures { listed result ≡ (if is_end then ended groups self.now.column else []) }
+    {
+        if is_end && groups.separator == b'\n' && self.column > 0 {
+            return Some(b'\n');
+        }
+        None
+    }
+
+    /// Decodes the next chunk into the front of the output. Returns the number of bytes there, which are all before the
+    /// error, if there is one. The text is space for the chunk.
+    fn decode(
+        &mut self,
+        reading: Reading,
+        chunk: &[u8],
+        text: &mut [u8],
+        output: &mut [u8],
+    ) -> (usize, Option<RunError>)
+        requires chunk { (0 < length chunk.now) × (length chunk.now ≤ chunk_size) }
+        requires text { length chunk.now ≤ length text.old }
+        requires space { length chunk.now ≤ length output.old }
+        ensures made { (x y : List ℕ) (left : Option (List ℕ)) → HasDecoded reading self.old x y
+            → Reaches (Decode reading) self.new left (length chunk.now) (x ++ chunk.now)
+            (y ++ take result.0 output.new) result.1 }
+        ensures within { result.0 ≤ length output.new }
+        ensures lengths { (length text.new ≡ length text.old) × (length output.new ≡ length output.old) }
+    {
+        let mut done = 0;
+        let mut end = 0;
+        let mut size = chunk.len();
+        'parts: while done < chunk.len() {
+            let mut next = *self;
+            let part = &chunk[done..done + size];
+            match next.decode_part(reading, part, text, &mut output[end..]) {
+                Ok(count) => {
+                    *self = next;
+                    done += size;
+                    end += count;
+                    size = size.min(chunk.len() - done);
+                }
+                Err(_) => {
+                    // The half with the invalid character is cut again, down to this character.
+                    if size == 1 {
+                        return (end, Some(self.error(reading, chunk[done])));
+                    }
+                    size /= 2;
+                }
+            }
+        }
+        (end, None)
+    }
+
+    /// Decodes a part of a chunk into the front of the output, and returns the number of bytes there. After an error,
+    /// this decoder cannot go on.
+    fn decode_part(
+        &mut self,
+        reading: Reading,
+        part: &[u8],
+        text: &mut [u8],
+        output: &mut [u8],
+    ) -> Result<usize, FromHexError>
+        requires { length part.now ≤ length text.old }
+        ensures ok { (x y : List ℕ) → HasDecoded reading self.old x y
+            → IfOk result (λ n. HasDecoded reading self.new (x ++ part.now) (y ++ take n output.new)) }
+        ensures err { (x y : List ℕ) → HasDecoded reading self.old x y → length part.now ≤ length output.old
+            → OnErr result (AllDigits (body_of (text_of reading (x ++ part.now))) → ⊥) }
+        ensures within { IfOk result (λ n. n ≤ length output.old) }
+        ensures most { IfOk result (λ n. n ≤ length part.now) }
+        ensures lengths { (length text.new ≡ length text.old) × (length output.new ≡ length output.old) }
+    {
+        self.read = self.read.saturating_add(part.len());
+        if reading.leaves_out() {
+            let count = self.scanner.text(reading, part, text);
+            return decode_text(&mut self.decoder, reading, &text[..count], output);
+        }
+        decode_text(&mut self.decoder, reading, part, output)
+    }
+
+    /// The error that the next byte is invalid.
+    fn error(&self, reading: Reading, byte: u8) -> RunError
+        ensures { (x y rest : List ℕ) (left : Option (List ℕ)) → HasDecoded reading self.now x y → length rest < chunk_size
+            → (AllDigits (body_of (text_of reading (x ++ byte ∷ []))) → ⊥)
+            → IsErrorOf (Decode reading) left (x ++ byte ∷ rest) y result }
+    {
+        let error = FromHexError::InvalidHexCharacter {
+            c: char::from(byte),
+            index: self.read,
+        };
+        RunError::Text(error, self.scanner.place(reading))
+    }
+
+    /// Ends the input. Returns `OddLength` if the text has an odd number of digits.
+    fn finish(&self) -> Option<RunError>
+        ensures { (r : Reading) (x y : List ℕ) (left : Option (List ℕ)) → HasDecoded r self.now x y → IsAtEnd left
+            → Reaches (Decode r) self.now left 0 x y result }
+    {
+        let end = *self;
+        match end.decoder.finish() {
+            Ok(()) => None,
+            Err(error) => Some(RunError::Text(error, None)),
+        }
+    }
+}
+
+/// Decodes the next part of a text into the front of the output, or only checks it. Returns the number of
+/// bytes there.
+#[inline(always)]
+fn decode_text(
+    decoder: &mut Decoder,
+    reading: Reading,
+    text: &[u8],
+    output: &mut [u8],
+) -> Result<usize, FromHexError>
+    ensures ok { (t z : List ℕ) → HasWritten reading decoder.old t z
+        → IfOk result (λ n. HasWritten reading decoder.new (t ++ text.now) (z ++ take n output.new)) }
+    ensures err { (t z : List ℕ) → HasWritten reading decoder.old t z → (length text.now + 1) / 2 ≤ length output.old
+        → OnErr result (AllDigits (body_of (t ++ text.now)) → ⊥) }
+    ensures within { IfOk result (λ n. n ≤ length output.old) }
+    ensures most { IfOk result (λ n. n ≤ (length text.now + 1) / 2) }
+    ensures length { length output.new ≡ length output.old }
+{
+    if reading.is_check {
+        return match decoder.check(text) {
+            Ok(()) => Ok(0),
+            Err(error) => Err(error),
+        };
+    }
+    decoder.decode(text, output)
 }

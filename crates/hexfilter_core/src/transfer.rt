@@ -2,8 +2,7 @@
 
 ghost use Rattle.std.specs.Prelude.{◌≡◌, ◌≢◌, ◌<◌, ◌≤◌, length, take, OnOk, OnErr, IfErr, IfOk};
 ghost use Rattle.std.specs.Io.KnownBytes.{Appends, Consumes, IsAtEnd, Keeps};
-ghost use Rattle.const_hex.specs.Writers.{WritesBeginning};
-ghost use Rattle.hexfilter_core.specs.Errors.{IsFailedRead, IsFailedWrite};
+ghost use Rattle.hexfilter_core.specs.Runs.{IsFailedRead, IsFailedWrite, WritesBeginning};
 
 use crate::error::RunError;
 use std::io::{Error, ErrorKind, Read, Write};

@@ -37,11 +37,11 @@ pub use self::formatting::text::*;
 
 // The places that each rule of rust/erase has changed:
 //
-//   21  Rattle's std is the module std_shim
+//   20  Rattle's std is the module std_shim
 //    1  Rust's errors are not copied
 //   26  a formatter has a lifetime in place of its writer's type
 //   10  a function for C takes slices, which capi makes of pointers and lengths, and is compiled there alone
-//   88  all crates are one module
+//   83  all crates are one module
 //    5  an allocation never fails: without memory the program ends
 //  109  an assertion names no runtime
 //    3  an example names a kernel that each target has
@@ -53,10 +53,10 @@ pub use self::formatting::text::*;
 //   15  and panics instead of returning an error
 //    1  and the crate's decoder is cloned
 //    1  and writes a text to memory that is not cleared
-//    1  before it reads a chunk
-//   51  deleted: attribute
-//  231  deleted: contract
-//  209  deleted: ghost item
+//    2  before it reads a part, or ends
+//   48  deleted: attribute
+//  228  deleted: contract
+//  182  deleted: ghost item
 //    4  deleted: model
 //    2  each value may be dropped
 //    6  kernels that no target uses are left out, and callers that nothing exports
@@ -64,5 +64,5 @@ pub use self::formatting::text::*;
 //    1  the kernel is chosen for the processor
 //   16  what a constant calls is constant
 //    2  what allocates is there with the feature alloc
-//    3  what hexfilter uses of const_hex is a module of std_shim
+//    2  what hexfilter uses of const_hex is a module of std_shim
 //    7  what is for C calls the kernel for the processor

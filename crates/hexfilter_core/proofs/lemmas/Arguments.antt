@@ -8,15 +8,9 @@ use Rattle.std.specs.Str.Parse.{ParsesUnsigned, digits_value}
 use Rattle.std.proofs.lemmas.List.{drop_all, drop_more, get_or-map, length-map}
 use Rattle.std.proofs.lemmas.Str.{IsCharBoundary-after_ascii}
 use Rattle.std.proofs.lemmas.Str.Parse.{numerals_by_value, parse_plain, tells_all_ascii_digits}
-use Rattle.hexfilter_core.specs.Options.{AsksFor, IsPlain, WritesGroups, at, find, number, request, request_for, arguments_of, start, with_argument, with_arguments, and_then, with_letters, table, with_value}
-use Rattle.hexfilter_core.specs.declared.mode.Groups.{Groups}
-use Rattle.hexfilter_core.specs.declared.mode.Mode.{Mode}
-use Rattle.hexfilter_core.specs.declared.mode.Mode.TheVariants.{Decode, Encode}
-use Rattle.hexfilter_core.specs.declared.mode.Reading.{Reading}
-use Rattle.hexfilter_core.specs.declared.options.UsageErrorKind.{UsageErrorKind}
-use Rattle.hexfilter_core.specs.declared.options.UsageErrorKind.TheVariants.{InvalidNumber, UnknownOption}
-use Rattle.hexfilter_core.specs.declared.options.Options.{Options}
-use Rattle.hexfilter_core.specs.declared.options.Request.TheVariants.{Run}
+use Rattle.hexfilter_core.specs.Options.{AreFor, AsksFor, InvalidNumber, IsPlain, Options, Run, UnknownOption, UsageErrorKind, WritesGroups, and_then, arguments_of, at, find, number, request, request_for, start, table, with_argument, with_arguments, with_letters, with_value}
+use Rattle.hexfilter_core.specs.Dumps.{Groups, Reading}
+use Rattle.hexfilter_core.specs.Runs.{Decode, Encode, Mode}
 
 abbrev pub as_number : {E : Type 0} → Result ℕ E → Result ℕ UsageErrorKind
 as_number (Ok n) = Ok n
@@ -140,3 +134,6 @@ read_back (Encode prefix upper g) words h =
 read_back (Decode r) words h =
     let (i, is) = reads_flags r.is_check r.ignore_whitespace r.groups words in
     is ∙ reads r.is_check r.ignore_whitespace r.groups words i h
+
+pub asked : (m : Mode) (arguments : List (List ℕ)) → AreFor m arguments → request_for arguments ≡ Ok (Run m None)
+asked m arguments (words, asks, is) = rw is (read_back m words asks)

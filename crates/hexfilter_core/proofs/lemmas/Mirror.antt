@@ -1,73 +1,45 @@
 -- What was encoded is decoded again.
-use Rattle.std.proofs.Common.{◌≡◌, ◌≢◌, ℕ, ◌+◌, ◌<◌, ◌≤◌, ◌==◌, ◌&&◌, ◌||◌, nat_lt, Bool, true, false, if◌then◌else◌, List, [], ◌∷◌, ◌++◌, length, Option, Some, Result, Ok, refl, sym, ap, ◌∙◌, arith, append_assoc, append-nil}
+use Rattle.std.proofs.Common.{◌≡◌, ◌≢◌, ℕ, ◌+◌, ◌<◌, ◌≤◌, ◌==◌, ◌&&◌, ◌||◌, Bool, true, false, if◌then◌else◌, List, [], ◌∷◌, ◌++◌, length, min, Option, Some, Result, Ok, refl, sym, ap, ◌∙◌, arith, append_assoc, append-nil}
 use Rattle.std.proofs.lemmas.Bool.Decides.{nat_tests}
 use Rattle.std.proofs.lemmas.List.Elements.{All-cons, All-head, All-nil, All-tail, All-weaker}
 use Rattle.std.specs.List.{All}
 use Rattle.const_hex.proofs.lemmas.Reading.{one_answer}
-use Rattle.const_hex.proofs.lemmas.RoundTrip.{Reads-full_text, body-full_text}
-use Rattle.const_hex.specs.Results.{AreBytes, IsEven, IsOdd, body_of}
+use Rattle.const_hex.proofs.lemmas.RoundTrip.{Reads-full_text}
+use Rattle.const_hex.specs.Results.{AreBytes, IsEven, Reads, body_of}
 use Rattle.const_hex.specs.Texts.{AllDigits, IsDigit, full_text, hex_text, prefix_of}
-use Rattle.const_hex.specs.declared.error.FromHexError.{FromHexError}
-use Rattle.const_hex.specs.declared.error.FromHexError.TheVariants.{InvalidHexCharacter, InvalidStringLength, NoMemory, OddLength}
 use Rattle.const_hex_arch.proofs.lemmas.DigitTexts.{digits_append}
 use Rattle.const_hex_arch.proofs.lemmas.Spelling.{Spells-digits}
 use Rattle.const_hex_arch.proofs.lemmas.Texts.{Spells-hex_text}
-use Rattle.hexfilter_core.specs.Groups.{encoded, groups_from, laid_out}
-use Rattle.hexfilter_core.specs.Inputs.{is_whitespace, text_from, text_of}
-use Rattle.hexfilter_core.specs.Outcome.{FailsWith, Makes}
-use Rattle.hexfilter_core.specs.declared.mode.Groups.{Groups}
-use Rattle.hexfilter_core.specs.declared.mode.Mode.TheVariants.{Decode}
-use Rattle.hexfilter_core.specs.declared.mode.Reading.{Reading}
-use Rattle.hexfilter_core.specs.declared.place.Place.{Place}
-use Rattle.hexfilter_core.proofs.lemmas.Texts.{text-append}
-
--- how a text in these groups is read: lines without their ends
-abbrev pub mirror : Bool → Groups → Reading
-mirror i g = record {
-  is_check = false;
-  ignore_whitespace = i;
-  groups = if g.separator == 10 then record { size = 0; separator = 10 } else g;
-}
-
--- whitespace is left out if there are lines
-abbrev pub IgnoresLines : Bool → Groups → Type 0
-IgnoresLines i g = (g.separator == 10) && nat_lt 0 g.size ≡ true → i ≡ true
+use Rattle.hexfilter_core.specs.Dumps.{FromHexError, Groups, HasError, IgnoresLines, InvalidHexCharacter, InvalidStringLength, NoMemory, OddLength, Place, Reading, encoded, groups_from, is_whitespace, mirror, text_from, text_of}
+use Rattle.hexfilter_core.specs.Runs.{Decode, FailsWith, Makes}
+use Rattle.hexfilter_core.proofs.lemmas.Texts.{body-longer, text-append}
 
 abbrev reading : Bool → ℕ → ℕ → Reading
 reading i n s = record { is_check = false; ignore_whitespace = i; groups = record { size = n; separator = s } }
 
--- a text without whitespace
-plain_read : (i : Bool) (s : ℕ) (t : List ℕ) → All (λ b. is_whitespace b ≡ false) t → text_from (reading i 0 s) 0 t ≡ t
-unfolding text_from
-plain_read i s [] plain = refl
-plain_read i s (b ∷ t) plain =
-    let one = All-head (λ b. is_whitespace b ≡ false) b t plain in
-    let more = plain_read i s t (All-tail (λ b. is_whitespace b ≡ false) b t plain) in
-    grind (arith, nat_tests, one, more)
-
--- lines without their ends
-lines_read : (n c : ℕ) (t : List ℕ) → All (λ b. is_whitespace b ≡ false) t
-    → text_from (reading true 0 10) 0 (groups_from n 10 c t) ≡ t
+-- lines without their ends, or a text without groups
+lines_read : (i : Bool) (n k : ℕ) (t : List ℕ) → (0 < n → i ≡ true) → k ≤ n → All (λ b. is_whitespace b ≡ false) t
+    → text_from (reading i 0 10) 0 (groups_from (record { size = n; separator = 10 }) k t) ≡ t
 unfolding groups_from text_from
-lines_read n c [] plain = grind (arith, nat_tests)
-lines_read n c (b ∷ t) plain =
+lines_read i n k [] all fits plain = grind (arith, nat_tests, all, fits)
+lines_read i n k (b ∷ t) all fits plain =
     let one = All-head (λ b. is_whitespace b ≡ false) b t plain in
     let rest = All-tail (λ b. is_whitespace b ≡ false) b t plain in
-    let first = lines_read n 1 t rest in
-    let more = lines_read n (c + 1) t rest in grind (arith, nat_tests, one, first, more)
+    let first = λ (h : 0 < n). lines_read i n 1 t all (omega (arith, h)) rest in
+    let more = lines_read i n (min (k + 1) n) t all (omega arith) rest in
+    grind (arith, nat_tests, all, one, first, more)
 
 -- groups without their separators
-groups_read : (i : Bool) (n s k : ℕ) (t : List ℕ) → 0 < n → k ≤ n → s ≢ 10 → All (λ b. is_whitespace b ≡ false) t
-    → text_from (reading i n s) k (groups_from n s k t) ≡ t
+groups_read : (i : Bool) (n s k : ℕ) (t : List ℕ) → k ≤ n → s ≢ 10 → All (λ b. is_whitespace b ≡ false) t
+    → text_from (reading i n s) k (groups_from (record { size = n; separator = s }) k t) ≡ t
 unfolding groups_from text_from
-groups_read i n s k [] some fits other plain = grind (arith, nat_tests, other)
-groups_read i n s k (b ∷ t) some fits other plain =
+groups_read i n s k [] fits other plain = grind (arith, nat_tests, other)
+groups_read i n s k (b ∷ t) fits other plain =
     let one = All-head (λ b. is_whitespace b ≡ false) b t plain in
     let rest = All-tail (λ b. is_whitespace b ≡ false) b t plain in
-    let first = groups_read i n s 1 t some (omega (arith, some)) other rest in
-    let more = λ (h : k < n).
-    groups_read i n s (k + 1) t some (omega (arith, h)) other rest in
-    grind (arith, nat_tests, some, fits, other, one, first, more)
+    let first = λ (h : 0 < n). groups_read i n s 1 t (omega (arith, h)) other rest in
+    let more = groups_read i n s (min (k + 1) n) t (omega arith) other rest in
+    grind (arith, nat_tests, fits, other, one, first, more)
 
 digit_plain : (b : ℕ) → IsDigit b → is_whitespace b ≡ false
 digit_plain b h = grind (arith, nat_tests, h)
@@ -84,9 +56,6 @@ with_prefix false t h = h
 same_bytes : (a b : List ℕ) → ◌≡◌ {A = Result (List ℕ) FromHexError} (Ok a) (Ok b) → a ≡ b
 same_bytes a b is = cc
 
-pub regroup : (a : List ℕ) (c : ℕ) (b d : List ℕ) → (a ++ c ∷ b) ++ d ≡ (a ++ c ∷ []) ++ (b ++ d)
-regroup a c b d = append_assoc a (c ∷ b) d ∙ sym (append_assoc a (c ∷ []) (b ++ d))
-
 text_plain_chars : (prefix up : Bool) (x : List ℕ) → AreBytes x
     → All (λ b. is_whitespace b ≡ false) (full_text prefix up x)
 text_plain_chars prefix up x h =
@@ -95,72 +64,66 @@ text_plain_chars prefix up x h =
     (Spells-digits (hex_text up x) x (Spells-hex_text up x h)) in
     with_prefix prefix (hex_text up x) digits
 
-by_separator : (i : Bool) (n s : ℕ) (t : List ℕ) (lines none : Bool) → (s == 10) ≡ lines → (n == 0) ≡ none
+by_separator : (i : Bool) (n s : ℕ) (t : List ℕ) (lines : Bool) → (s == 10) ≡ lines
     → All (λ b. is_whitespace b ≡ false) t
     → let g : Groups = record { size = n; separator = s } in
-    IgnoresLines i g → text_of (mirror i g) (laid_out g 0 t) ≡ t
-by_separator i n s t true true e f plain ignores =
-    let zero : n ≡ 0 = grind (arith, nat_tests, f) in rw (zero, e) (plain_read i 10 t plain)
-by_separator i n s t false true e f plain ignores =
-    let zero : n ≡ 0 = grind (arith, nat_tests, f) in rw (zero, e) (plain_read i s t plain)
-by_separator i n s t true false e f plain ignores =
+    IgnoresLines i g → text_of (mirror i g) (groups_from g 0 t) ≡ t
+by_separator i n s t true e plain ignores =
     let newline : s ≡ 10 = grind (arith, nat_tests, e) in
-    let all : i ≡ true = ignores (grind (arith, nat_tests, e, f)) in rw (all, newline, f) (lines_read n 0 t plain)
-by_separator i n s t false false e f plain ignores =
-    let some : 0 < n = grind (arith, nat_tests, f) in
-    let other : s ≢ 10 = λ is. grind (arith, nat_tests, e, is) in
-    rw (f, e) (groups_read i n s 0 t some (omega arith) other plain)
+    rw newline (lines_read i n 0 t (λ some. ignores (grind (arith, nat_tests, e, some))) (omega arith) plain)
+by_separator i n s t false e plain ignores =
+    rw e (groups_read i n s 0 t (omega arith) (λ is. grind (arith, nat_tests, e, is)) plain)
 
 -- the text of what was encoded
 mirrored : (prefix up i : Bool) (g : Groups) (x : List ℕ) → AreBytes x → IgnoresLines i g
     → text_of (mirror i g) (encoded prefix up g x) ≡ full_text prefix up x
 mirrored prefix up i g x h ignores =
-    by_separator i g.size g.separator (full_text prefix up x) _ _ refl refl (text_plain_chars prefix up x h) ignores
-
-even_not_odd : (n : ℕ) → IsEven n → IsOdd n → ⊥
-even_not_odd n e h = omega (arith, e, h)
+    by_separator i g.size g.separator (full_text prefix up x) _ refl (text_plain_chars prefix up x h) ignores
 
 one_digit : (c d : ℕ) (v : List ℕ) (b : Bool) → ((c == 48) && (d == 120 || d == 88)) ≡ b
     → AllDigits (if b then v else c ∷ d ∷ v) → AllDigits (c ∷ [])
 one_digit c d v true e h = All-cons IsDigit c [] (zero_digit c (grind (arith, nat_tests, e))) (All-nil IsDigit)
 one_digit c d v false e h = All-cons IsDigit c [] (All-head IsDigit c (d ∷ v) h) (All-nil IsDigit)
 
-front_digits : (c d : ℕ) (u v : List ℕ) (b : Bool) → AllDigits (if b then u ++ v else c ∷ d ∷ (u ++ v))
-    → AllDigits (if b then u else c ∷ d ∷ u)
-front_digits c d u v true h = ((digits_append u v).0 h).0
-front_digits c d u v false h = ((digits_append (c ∷ d ∷ u) v).0 h).0
-
-pub body_front : (u v : List ℕ) → AllDigits (body_of (u ++ v)) → AllDigits (body_of u)
+body_front : (u v : List ℕ) → AllDigits (body_of (u ++ v)) → AllDigits (body_of u)
 body_front [] v h = All-nil IsDigit
 body_front (c ∷ []) [] h = h
 body_front (c ∷ []) (d ∷ v) h = one_digit c d v _ refl h
-body_front (c ∷ d ∷ u) v h = front_digits c d u v ((c == 48) && (d == 120 || d == 88)) h
+body_front (c ∷ d ∷ u) v h =
+    ((digits_append (body_of (c ∷ d ∷ u)) v).0 (rw (body-longer (c ∷ d ∷ u) v (omega arith)) at h)).0
+
+-- an input that has an error decodes to no bytes, whatever follows
+not_decoded : (r : Reading) (x rest y bytes : List ℕ) (e : FromHexError) (place : Option Place)
+    → HasError r (Some rest) x y e place → Reads (text_of r (x ++ rest)) (Ok bytes) → ⊥
+not_decoded r x rest y bytes OddLength place (none, end, odd, pairs) (even, spelled) =
+    let whole = ap (λ l. x ++ l) end ∙ append-nil x in
+    let same : IsEven (length (text_of r x)) = rw whole at even in omega (arith, odd, same)
+not_decoded r x rest y bytes InvalidStringLength place fails reads = fails
+not_decoded r x rest y bytes (InvalidHexCharacter c k) place fails (even, spelled) =
+    let front = fails.front ++ c ∷ [] in
+    let more = fails.rest ++ rest in
+    let cut : x ++ rest ≡ front ++ more =
+    ap (λ l. l ++ rest) fails.cut ∙ append_assoc fails.front (c ∷ fails.rest) rest
+    ∙ sym (append_assoc fails.front (c ∷ []) more) in
+    let text = ap (text_of r) cut ∙ text-append r 0 front more in
+    let digits = Spells-digits (body_of (text_of r (x ++ rest))) bytes spelled in
+    fails.invalid (body_front (text_of r front) _ (rw text at digits))
+not_decoded r x rest y bytes NoMemory place fails reads = fails
 
 module _ (prefix up i : Bool) (g : Groups) (ignores : IgnoresLines i g) (bytes : List ℕ) (are : AreBytes bytes) where
+  -- the bytes are what the text of the encoded bytes decodes to
+  read : (x : List ℕ) → x ≡ encoded prefix up g bytes → Reads (text_of (mirror i g) x) (Ok bytes)
+  read x is =
+      Reads-full_text _ prefix up bytes are (ap (text_of (mirror i g)) is ∙ mirrored prefix up i g bytes are ignores)
+
   -- the bytes are decoded again
   pub decoded_again : (x y : List ℕ) → x ≡ encoded prefix up g bytes → Makes (Decode (mirror i g)) x y → y ≡ bytes
-  decoded_again x y cut (found, reads, is) =
-      let text = ap (text_of (mirror i g)) cut ∙ mirrored prefix up i g bytes are ignores in
-      is ∙ same_bytes found bytes
-      (one_answer _ (Ok found) (Ok bytes) reads (Reads-full_text _ prefix up bytes are text))
+  decoded_again x y is (found, reads, same) =
+      same ∙ same_bytes found bytes (one_answer _ (Ok found) (Ok bytes) reads (read x is))
 
   -- and never rejected
   pub never_rejected : (x rest y : List ℕ) (e : FromHexError) (place : Option Place)
       → encoded prefix up g bytes ≡ x ++ rest
       → FailsWith (Decode (mirror i g)) (Some rest) x y e place → ⊥
-  never_rejected x rest y OddLength place cut (found, (none, at, odd, pairs), is) =
-      let whole = sym (cut ∙ ap (λ l. x ++ l) at ∙ append-nil x) in
-      let text = ap (text_of (mirror i g)) whole ∙ mirrored prefix up i g bytes are ignores in
-      even_not_odd (length (full_text prefix up bytes)) (Reads-full_text _ prefix up bytes are refl).0 (rw text at odd)
-  never_rejected x rest y InvalidStringLength place cut (found, fails, is) = fails
-  never_rejected x rest y (InvalidHexCharacter c k) place cut (found, fails, is) =
-      let r = mirror i g in
-      let front = fails.front ++ c ∷ [] in
-      let more = fails.rest ++ rest in
-      let whole : encoded prefix up g bytes ≡ front ++ more =
-      cut ∙ ap (λ l. l ++ rest) fails.cut ∙ regroup fails.front c fails.rest rest in
-      let text = sym (mirrored prefix up i g bytes are ignores) ∙ ap (text_of r) whole ∙ text-append r 0 front more in
-      let digits : AllDigits (body_of (full_text prefix up bytes)) =
-      rw (body-full_text prefix up bytes) (Spells-digits (hex_text up bytes) bytes (Spells-hex_text up bytes are)) in
-      fails.invalid (body_front (text_of r front) _ (rw text at digits))
-  never_rejected x rest y NoMemory place cut (found, fails, is) = fails
+  never_rejected x rest y e place cut (found, fails, is) =
+      not_decoded (mirror i g) x rest found bytes e place fails (read (x ++ rest) (sym cut))

@@ -1,6 +1,6 @@
 -- The text of an input, part after part.
 use borrow.Rule.Slice.PartMut.{put_mid, post_of}
-use Rattle.std.proofs.Common.{◌≡◌, ◌≢◌, ℕ, ◌+◌, ◌-◌, ◌*◌, ◌/◌, ◌<◌, ◌≤◌, ◌&&◌, min, if◌then◌else◌, Bool, true, false, List, [], ◌∷◌, ◌++◌, length, take, drop, get_or, refl, sym, ap, ◌∙◌, arith, append_assoc, length-append}
+use Rattle.std.proofs.Common.{◌≡◌, ◌≢◌, ℕ, ◌+◌, ◌-◌, ◌*◌, ◌/◌, ◌<◌, ◌≤◌, ◌&&◌, min, if◌then◌else◌, Bool, true, false, List, [], ◌∷◌, ◌++◌, Option, None, Some, Ok, suc, zero, length, take, drop, get_or, refl, sym, ap, ◌∙◌, arith, append_assoc, length-append}
 use Rattle.std.proofs.Math.Seq.{take-add, take-append-add}
 use Rattle.std.proofs.lemmas.Bool.Decides.{nat_tests}
 use Rattle.std.proofs.lemmas.List.{append-nil, length-drop, length-take, length-take-le, take-append-drop, take-append-le, take-take, take_all, take_min, take_more}
@@ -8,22 +8,11 @@ use Rattle.std.proofs.lemmas.List.Elements.{All-from_get_or, All-head, All-same,
 use Rattle.std.specs.List.{All}
 use Rattle.std.specs.Prelude.{nat_lt}
 use Rattle.const_hex.proofs.lemmas.Decoding.{read_digits, read_front}
-use Rattle.const_hex.specs.Decoding.{HasRead, waiting_digit}
-use Rattle.const_hex.specs.Results.{body_of}
-use Rattle.const_hex.specs.declared.codec.decoder.Decoder.{Decoder}
+use Rattle.const_hex.specs.Decoding.{HasRead, counted, waiting_digit}
 use Rattle.const_hex_arch.proofs.lemmas.Spelling.{Spells-length, Spells-parts}
-use Rattle.hexfilter_core.specs.Stages.{HasAdded, HasDecoded, HasMade, HasScanned}
-use Rattle.hexfilter_core.specs.Inputs.{SpellsBeginning, SpellsPairs, is_whitespace, kept, next, next_from, text_from, text_of}
-use Rattle.hexfilter_core.specs.Outcome.{MakesBeginning}
-use Rattle.hexfilter_core.specs.Groups.{encoded}
-use Rattle.hexfilter_core.specs.Places.{leaves_out}
-use Rattle.hexfilter_core.specs.declared.input_decoder.InputDecoder.{InputDecoder}
-use Rattle.hexfilter_core.proofs.lemmas.PlacesOfCharacters.{line_after_run}
-use Rattle.hexfilter_core.specs.declared.mode.Mode.{Mode}
-use Rattle.hexfilter_core.specs.declared.mode.Mode.TheVariants.{Decode, Encode}
-use Rattle.hexfilter_core.specs.declared.mode.Reading.{Reading}
-use Rattle.hexfilter_core.specs.declared.scanner.Scanner.{Scanner}
-use Rattle.hexfilter_core.specs.declared.stage.Stage.{Stage}
+use Rattle.hexfilter_core.specs.Stages.{Decoder, HasAdded, HasDecoded, HasMade, HasScanned, HasWritten, Reaches, Scanner, Stage}
+use Rattle.hexfilter_core.specs.Dumps.{FromHexError, HasError, InvalidHexCharacter, InvalidStringLength, IsPlace, NoMemory, OddLength, Place, Reading, SpellsBeginning, SpellsPairs, body_of, encoded, is_whitespace, kept, leaves_out, next, next_from, text_from, text_of}
+use Rattle.hexfilter_core.specs.Runs.{Decode, Encode, Makes, MakesBeginning, Mode, Read, Reads, RunError, Text, Write}
 
 pub text-append : (r : Reading) (k : ℕ) (x y : List ℕ)
     → text_from r k (x ++ y) ≡ text_from r k x ++ text_from r (next_from r k x) y
@@ -85,9 +74,6 @@ all_kept r x h =
 no_groups : (r : Reading) → leaves_out r ≡ false → r.groups.size ≡ 0
 no_groups r h = grind (arith, nat_tests, h)
 
-not_both : (b : Bool) → b ≡ true → b ≡ false → ⊥
-not_both b e h = cc
-
 -- an input of which nothing is left out
 pub text_plain : (r : Reading) (x : List ℕ) → leaves_out r ≡ false → text_of r x ≡ x
 text_plain r x h =
@@ -99,8 +85,18 @@ plain_added r s x u h is = record {
   text = text_plain r (x ++ u) h ∙ ap (λ l. l ++ u) (sym (text_plain r x h));
   scanned = record {
     next = omega (arith, is.next, no_groups r h, next_bound r 0 x (omega arith), next_bound r 0 (x ++ u) (omega arith));
-    line = λ some. absurd (not_both _ some h);
+    place = λ some. cc;
   };
+}
+
+-- a part more is decoded
+pub decoded_more : (r : Reading) (old new : Stage) (s : Scanner) (x part text y z : List ℕ)
+    → HasDecoded r old x y → HasAdded r s x part text → HasWritten r new.decoder (text_of r x ++ text) (y ++ z)
+    → new.scanner ≡ s → new.read ≡ counted (old.read + length part) → HasDecoded r new (x ++ part) (y ++ z)
+decoded_more r old new s x part text y z has more wrote is e = record {
+  text = rw more.text wrote;
+  scanned = rw is more.scanned;
+  count = omega (arith, has.count, e, length-append x part);
 }
 
 -- bytes above the space
@@ -108,11 +104,12 @@ high : (ignores : Bool) (b : ℕ) → nat_lt b 33 ≡ false → ((ignores && is_
 high true b h = (grind (arith, nat_tests, h), λ e. grind (arith, nat_tests, h, e))
 high false b h = (refl, λ e. grind (arith, nat_tests, h, e))
 
-pub high_added : (r : Reading) (s : Scanner) (column : ℕ) (x u : List ℕ) → HasScanned r s x
+pub high_added : (r : Reading) (s : Scanner) (column : ℕ) (place : Place) (x u : List ℕ) → HasScanned r s x
     → All (λ b. nat_lt b 33 ≡ false) u
     → (0 < r.groups.size → s.column + length u ≤ r.groups.size) → column ≡ min (s.column + length u) r.groups.size
-    → HasAdded r (record { column = column; line = s.line }) x u u
-high_added r s column x u is above fits at =
+    → (IsPlace x s.place → All (λ b. b ≢ 10) u → IsPlace (x ++ u) place)
+    → HasAdded r (record { column = column; place = place }) x u u
+high_added r s column place x u is above fits at goes =
     let all = All-weaker (λ b. nat_lt b 33 ≡ false) (λ b. (r.ignore_whitespace && is_whitespace b) ≡ false)
     (λ b h. (high r.ignore_whitespace b h).0) u above in
     let none = All-weaker (λ b. nat_lt b 33 ≡ false) (λ b. b ≢ 10) (λ b h. (high r.ignore_whitespace b h).1) u above in
@@ -120,7 +117,7 @@ high_added r s column x u is above fits at =
       text = text-append r 0 x u ∙ ap (λ t. text_of r x ++ t) (rw is.next at kept.0);
       scanned = record {
         next = at ∙ sym (next-append r 0 x u ∙ ap (λ k. next_from r k u) (sym is.next) ∙ kept.1);
-        line = λ some. line_after_run x u s.line (is.line some) none;
+        place = λ some. goes (is.place some) none;
       };
     }
 
@@ -154,6 +151,11 @@ pub joined : (x chunk : List ℕ) (done n : ℕ) → done ≤ length chunk
 joined x chunk done n started =
     rw (take_all (length chunk - done) (drop done chunk) (omega (arith, length-drop done chunk)), take-add done n chunk)
     (append_assoc x (take done chunk) (take n (drop done chunk)))
+
+pub part_joined : (x chunk : List ℕ) (done size k : ℕ) → k ≡ size
+    → (x ++ take done chunk) ++ take k (drop done chunk) ≡ x ++ take (done + size) chunk
+part_joined x chunk done size k e =
+    rw (e, take-add done size chunk) (append_assoc x (take done chunk) (take size (drop done chunk)))
 
 -- one more
 pub joined_one : (x chunk : List ℕ) (done : ℕ) → done < length chunk
@@ -194,13 +196,8 @@ at_most_one : (d : Decoder) → length (waiting_digit d) ≤ 1
 at_most_one d = grind arith
 
 module _ (r : Reading) (d : Decoder) (x y : List ℕ) (has : HasRead d (text_of r x) y) where
-  -- whatever follows
-  pub spelled_before : (more : List ℕ) → SpellsBeginning r (x ++ more) y
-  spelled_before more =
-      rw (text-append r 0 x more) (read_front d (text_of r x) y (text_from r (next_from r 0 x) more) has)
-
-  pub spelled : SpellsBeginning r x y
-  spelled = rw append-nil at (spelled_before [])
+  spelled : SpellsBeginning r x y
+  spelled = rw append-nil at (read_front d (text_of r x) y [] has)
 
   pub pairs : SpellsPairs (text_of r x) y
   pairs =
@@ -232,22 +229,54 @@ fewer_made (Encode prefix upper g) x y k (left, is) =
 fewer_made (Decode r) x y k (bytes, spelled, is) =
     (take k bytes, fewer_spelled r x bytes k spelled, ap (take k) is ∙ take_written r.is_check bytes k)
 
--- what a decoder has written is a beginning, whatever follows
-module _ (r : Reading) (d : InputDecoder) (x z : List ℕ) (has : HasDecoded r d x z) where
-  pub decoded_then : (more : List ℕ) → MakesBeginning (Decode r) (x ++ more) z
-  decoded_then more = (has.text.bytes, spelled_before r d.decoder x has.text.bytes has.text.read more, has.text.given)
+body-shorter : (t : List ℕ) → length (body_of t) ≤ length t
+body-shorter t = grind arith
 
-  pub decoded : MakesBeginning (Decode r) x z
-  decoded = rw append-nil at (decoded_then [])
+pub body-longer : (t u : List ℕ) → 2 ≤ length t → body_of (t ++ u) ≡ body_of t ++ u
+body-longer t u h = grind arith
 
-pub decoded_before : (r : Reading) (d : InputDecoder) (x chunk z : List ℕ) (k : ℕ)
-    → HasDecoded r d (x ++ take k chunk) z → MakesBeginning (Decode r) (x ++ chunk) z
-decoded_before r d x chunk z k has =
-    let whole : (x ++ take k chunk) ++ drop k chunk ≡ x ++ chunk =
-    append_assoc x (take k chunk) (drop k chunk) ∙ ap (λ l. x ++ l) (take-append-drop k chunk) in
-    rw whole at (decoded_then r d (x ++ take k chunk) z has (drop k chunk))
+-- what all pairs of digits decode to is a beginning, whatever follows
+pairs_begin : (r : Reading) (x more y : List ℕ) → SpellsPairs (text_of r x) y → SpellsBeginning r (x ++ more) y
+pairs_begin r x more [] h = tt
+pairs_begin r x more (b ∷ y) (digits, spelled) =
+    let t = text_of r x in
+    let u = text_from r (next_from r 0 x) more in
+    let n = 2 * (length (body_of t) / 2) in
+    let twice = Spells-length (take n (body_of t)) (b ∷ y) spelled in
+    let size : n ≡ 2 * length (b ∷ y) = omega (arith, twice, length-take n (body_of t)) in
+    let longer : body_of (t ++ u) ≡ body_of t ++ u =
+    body-longer t u (omega (arith, size, body-shorter t)) in
+    rw (text-append r 0 x more, longer, take-append-le (2 * length (b ∷ y)) (body_of t) u (omega (arith, size)), ← size) spelled
+
+read_begun : (r : Reading) (x y : List ℕ) → Reads (text_of r x) (Ok y) → SpellsBeginning r x y
+read_begun r x y (even, spelled) =
+    let twice = Spells-length (body_of (text_of r x)) y spelled in
+    rw (take_all (2 * length y) (body_of (text_of r x)) (omega (arith, twice))) spelled
+
+error_begun : (r : Reading) (left : Option (List ℕ)) (x y : List ℕ) (e : FromHexError) (place : Option Place)
+    → HasError r left x y e place → SpellsBeginning r x y
+error_begun r left x y OddLength place (none, end, odd, pairs) = rw append-nil at (pairs_begin r x [] y pairs)
+error_begun r left x y InvalidStringLength place h = absurd h
+error_begun r left x y (InvalidHexCharacter c i) place h =
+    rw h.cut (pairs_begin r h.front (c ∷ h.rest) y h.bytes)
+error_begun r left x y NoMemory place h = absurd h
 
 pub so_far_made : (m : Mode) (s : Stage) (x y : List ℕ) → HasMade m s x y → MakesBeginning m x y
 so_far_made (Encode prefix upper g) s x y has =
     (_, ap (λ l. encoded prefix upper g l) (sym (append-nil x)) ∙ has.left [])
-so_far_made (Decode r) s x y has = decoded r s.decoder x y has
+so_far_made (Decode r) s x y has =
+    (has.text.bytes, spelled r s.decoder x has.text.bytes has.text.read, has.text.given)
+
+all_made : (m : Mode) (x y : List ℕ) → Makes m x y → MakesBeginning m x y
+all_made (Encode prefix upper g) x y is = ([], sym is ∙ sym (append-nil y))
+all_made (Decode r) x y (bytes, reads, is) = (bytes, read_begun r x bytes reads, is)
+
+pub reached_begun : (m : Mode) (s : Stage) (left : Option (List ℕ)) (n : ℕ) (x y : List ℕ) (o : Option RunError)
+    → Reaches m s left n x y o → MakesBeginning m x y
+reached_begun m s left zero x y None (more, end) = all_made m x y (end refl)
+reached_begun m s left (suc n) x y None (more, end) = so_far_made m s x y (more (omega arith))
+reached_begun (Encode prefix upper g) s left n x y (Some (Text e place)) h = absurd h
+reached_begun (Decode r) s left n x y (Some (Text e place)) (bytes, fails, is) =
+    (bytes, error_begun r left x bytes e place fails, is)
+reached_begun m s left n x y (Some (Read e)) h = absurd h
+reached_begun m s left n x y (Some (Write e)) h = absurd h

@@ -7,10 +7,8 @@
 
 use crate::std_shim::prelude::*;
 
-mod encoder;
 mod error;
 mod groups;
-mod input_decoder;
 mod mode;
 mod options;
 mod place;

@@ -12,38 +12,26 @@ pub struct Place {
     pub column: usize,
 }
 
-/// A line of an input.
-#[derive(Clone, Copy, Debug)]
-pub(crate) struct Line {
-    /// Its number.
-    number: usize,
-    /// The position where it starts.
-    start: usize,
-}
+impl Place {
+    /// The place of the first character.
+    pub(crate) const FIRST: Place = Place { line: 1, column: 1 };
 
-impl Line {
-    /// The first line.
-    pub(crate) const FIRST: Line = Line {
-        number: 1,
-        start: 0,
-    };
-
-    /// The line after one more byte, the last of `read`, which may be any number if there are more than `usize` counts.
-    pub(crate) fn after(self, byte: u8, read: usize) -> Line {
+    /// The place after this byte.
+    pub(crate) fn after(self, byte: u8) -> Place {
         if byte == b'\n' {
-            return Line {
-                number: self.number.wrapping_add(1),
-                start: read,
+            return Place {
+                line: self.line.wrapping_add(1),
+                column: 1,
             };
         }
-        self
+        self.right(1)
     }
 
-    /// The place of the byte after the first `read`.
-    pub(crate) fn place(self, read: usize) -> Place {
+    /// The place after so many bytes, of which none is a newline.
+    pub(crate) fn right(self, count: usize) -> Place {
         Place {
-            line: self.number,
-            column: read.saturating_sub(self.start).saturating_add(1),
+            line: self.line,
+            column: self.column.wrapping_add(count),
         }
     }
 }

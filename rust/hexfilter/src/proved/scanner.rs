@@ -4,7 +4,7 @@
 use crate::std_shim::prelude::*;
 use crate::proved::groups::put;
 use crate::proved::mode::Reading;
-use crate::proved::place::{Line, Place};
+use crate::proved::place::Place;
 use crate::std_shim::simd::prelude::*;
 
 /// How many bytes are looked at together.
@@ -15,43 +15,27 @@ const LANES: usize = 32;
 pub(crate) struct Scanner {
     /// How many characters came since the last separator, if there are groups.
     column: usize,
-    /// If bytes may be left out: the line after these bytes.
-    line: Line,
+    /// If bytes may be left out: the place of the next byte.
+    place: Place,
 }
 
 impl Scanner {
     /// A scanner that has read nothing.
     pub(crate) const START: Scanner = Scanner {
         column: 0,
-        line: Line::FIRST,
+        place: Place::FIRST,
     };
 
-    /// The place of the next byte, after `read` bytes.
-    pub(crate) fn place(self, reading: Reading, read: usize) -> Option<Place> {
+    /// The place of the next byte.
+    pub(crate) fn place(self, reading: Reading) -> Option<Place> {
         if reading.leaves_out() {
-            return Some(self.line.place(read));
+            return Some(self.place);
         }
         None
     }
 
-    /// Reads a byte, the last of `read`, which may be any number if there are more than `usize` counts. Returns what
-    /// it adds to the text.
-    pub(crate) fn next(&mut self, reading: Reading, byte: u8, read: usize) -> Option<u8> {
-        let (added, column) = step(reading, self.column, byte);
-        self.column = column;
-        self.line = self.line.after(byte, read);
-        added
-    }
-
-    /// Reads a chunk after `read` bytes. Puts what it adds to the text into the front of the output, and returns
-    /// how long that is.
-    pub(crate) fn text(
-        &mut self,
-        reading: Reading,
-        read: usize,
-        chunk: &[u8],
-        output: &mut [u8],
-    ) -> usize {
+    /// Reads a chunk. Puts what it adds to the text into the front of the output, and returns how long that is.
+    pub(crate) fn text(&mut self, reading: Reading, chunk: &[u8], output: &mut [u8]) -> usize {
         let mut scanner = *self;
         let mut done = 0;
         let mut end = 0;
@@ -59,18 +43,23 @@ impl Scanner {
             let count = scanner.run(reading, &chunk[done..], &mut output[end..]);
             done += count;
             end += count;
-            if count == LANES {
+            if count == LANES || done == chunk.len() {
                 continue;
             }
-            if done < chunk.len() {
-                let byte = chunk[done];
-                done += 1;
-                let added = scanner.next(reading, byte, read.wrapping_add(done));
-                end = put(added, output, end);
-            }
+            let added = scanner.next(reading, chunk[done]);
+            done += 1;
+            end = put(added, output, end);
         }
         *self = scanner;
         end
+    }
+
+    /// Reads a byte, and returns what it adds to the text.
+    fn next(&mut self, reading: Reading, byte: u8) -> Option<u8> {
+        let (added, column) = step(reading, self.column, byte);
+        self.column = column;
+        self.place = self.place.after(byte);
+        added
     }
 
     /// Copies bytes before the next that is left out or is below 33, or fewer. Returns how many.
@@ -78,10 +67,12 @@ impl Scanner {
     fn run(&mut self, reading: Reading, chunk: &[u8], output: &mut [u8]) -> usize {
         let count = copy_block(chunk, output);
         if reading.groups.size == 0 {
+            self.place = self.place.right(count);
             return count;
         }
         let count = count.min(reading.groups.size.saturating_sub(self.column));
         self.column = self.column.saturating_add(count);
+        self.place = self.place.right(count);
         count
     }
 }

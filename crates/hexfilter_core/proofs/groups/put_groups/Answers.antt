@@ -1,6 +1,6 @@
 use Rattle.std.proofs.Common.{◌≡◌, ◌∙◌, ◌+◌, ◌-◌, ◌++◌, take, drop, ap, arith}
 use Rattle.std.proofs.lemmas.List.{take-take}
-use Rattle.hexfilter_core.proofs.lemmas.GroupBreaks.{goes_on, puts_more}
+use Rattle.hexfilter_core.proofs.lemmas.Groups.{goes_on, puts_more}
 use Rattle.hexfilter_core.proofs.lemmas.Texts.{take_put}
 use Rattle.hexfilter_core.proofs.groups.put_groups.Goals as goal
 
@@ -20,7 +20,7 @@ groups-preserved c =
       within = omega arith;
       space = omega (arith, parted.within);
       column = omega (arith, parted.column);
-      groups = goes_on _ _ _ _ text done count _ (λ rest some. laid.groups rest ∙ parted.groups rest some)
+      groups = goes_on _ _ _ text done count _ (λ rest some. laid.groups rest ∙ parted.groups rest some)
           (omega arith) (omega arith) (omega arith) _ put;
     }
 

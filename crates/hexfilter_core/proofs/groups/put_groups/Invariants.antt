@@ -1,5 +1,5 @@
-use Rattle.std.proofs.Common.{◌≡◌, ◌-◌, ◌*◌, ◌≤◌, List, ℕ, ◌++◌, length, take}
-use Rattle.hexfilter_core.specs.Groups.{groups_from}
+use Rattle.std.proofs.Common.{◌-◌, ◌*◌, ◌≤◌, length, take}
+use Rattle.hexfilter_core.specs.Dumps.{PutsInto}
 use Rattle.hexfilter_core.proofs.groups.put_groups.Given as goal
 
 abbrev pub invariant-groups : goal.invariant-groups
@@ -7,8 +7,7 @@ invariant-groups l = record {
   within : l.done ≤ length l.text;
   space : l.end ≤ 2 * l.done;
   column : l.column ≤ l.groups.size;
-  groups : (rest : List ℕ) → groups_from l.groups.size l.groups.separator l.initial.column (take l.done l.text ++ rest)
-      ≡ take l.end l.output ++ groups_from l.groups.size l.groups.separator l.column rest;
+  groups : PutsInto l.groups l.initial.column (take l.done l.text) (take l.end l.output) l.column;
 }
 
 abbrev pub decreases-groups : goal.decreases-groups

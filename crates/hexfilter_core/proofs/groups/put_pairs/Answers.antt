@@ -1,5 +1,5 @@
 use Rattle.std.proofs.Common.{◌≡◌, ◌≤◌, ◌++◌, ◌∙◌, drop, length, length-take, refl, arith}
-use Rattle.hexfilter_core.proofs.lemmas.GroupBreaks.{puts_pairs}
+use Rattle.hexfilter_core.proofs.lemmas.Groups.{puts_pairs}
 use Rattle.hexfilter_core.proofs.lemmas.Texts.{take_put}
 use Rattle.hexfilter_core.proofs.groups.put_pairs.Goals as goal
 

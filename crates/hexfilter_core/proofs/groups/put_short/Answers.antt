@@ -1,5 +1,5 @@
 use Rattle.std.proofs.Common.{arith}
-use Rattle.hexfilter_core.proofs.lemmas.GroupBreaks.{puts_more}
+use Rattle.hexfilter_core.proofs.lemmas.Groups.{puts_more}
 use Rattle.hexfilter_core.proofs.groups.put_short.Goals as goal
 
 pub steps-preserved : goal.steps-preserved

@@ -1,5 +1,5 @@
 use Rattle.std.proofs.Common.{◌*◌, ◌≤◌, ◌-◌, length, take}
-use Rattle.hexfilter_core.specs.Groups.{PutsInto}
+use Rattle.hexfilter_core.specs.Dumps.{PutsInto}
 use Rattle.hexfilter_core.proofs.groups.put_short.Given as goal
 
 abbrev pub invariant-steps : goal.invariant-steps

@@ -1,7 +1,7 @@
 use Rattle.std.proofs.Common.{◌≡◌, ◌∙◌, List, ℕ, Some, Option, true, false, refl, sym, ap}
 use Rattle.std.specs.Borrow.{Bor}
-use Rattle.hexfilter_core.specs.Programs.{bytes_of}
-use Rattle.hexfilter_core.proofs.lemmas.Statuses.{ends}
+use Rattle.hexfilter_core.specs.Runs.{bytes_of}
+use Rattle.hexfilter_core.proofs.lemmas.Runs.{ends}
 use Rattle.hexfilter_core.proofs.process.run_on.Goals as goal
 
 same_name : (name : Option (Bor (List ℕ))) (b : Bor (List ℕ)) (n : List ℕ) → name ≡ Some b → bytes_of name ≡ Some n

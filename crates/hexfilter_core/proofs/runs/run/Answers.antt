@@ -1,9 +1,9 @@
-use Rattle.std.proofs.Common.{◌++◌, ◌+◌, length, take, arith, append-nil, length-take}
+use Rattle.std.proofs.Common.{◌++◌, ◌+◌, [], Some, length, take, arith, length-take, refl}
 use Rattle.std.proofs.KnownBytes.{Appends-kept, Appends-trans, Consumes-kept, Consumes-trans}
 use Rattle.std.proofs.Math.Seq.{take-append-add}
-use Rattle.hexfilter_core.proofs.lemmas.Encoding.{if_err, if_ok}
-use Rattle.hexfilter_core.proofs.lemmas.Errors.{same_value, text_not_interrupted}
-use Rattle.hexfilter_core.proofs.lemmas.Texts.{fewer_made, so_far_made}
+use Rattle.hexfilter_core.proofs.lemmas.Groups.{if_err, if_ok}
+use Rattle.hexfilter_core.proofs.lemmas.Runs.{same_value, text_not_interrupted}
+use Rattle.hexfilter_core.proofs.lemmas.Texts.{fewer_made, reached_begun, so_far_made}
 use Rattle.hexfilter_core.proofs.runs.run.Goals as goal
 
 -- x was read and y written so far; has, read and wrote are the facts of the invariant
@@ -19,7 +19,7 @@ returns-in_err-write_piece-clause-begun g c =
     let piece = take c.next-end.result.0 c.next-end.new.output in
     let (n, begun) = c.in_err-write_piece.ensures.begun in
     let fewer = rw (take-append-add y piece n) at (fewer_made c.args.mode _ (y ++ piece) (length y + n)
-    (c.next-end.ensures.begun x y has)) in
+    (reached_begun _ _ (Some []) _ _ _ _ (c.next-end.ensures.made x y (Some []) has (λ none. refl)))) in
     if_err c.from_residual-in_err-write_piece.result
     (_, _, Consumes-trans _ _ _ x _ read c.in_ok-count.ensures.bytes, fewer, Appends-trans _ _ _ y _ wrote begun)
 
@@ -27,7 +27,7 @@ pub returns-in-Some-clause-begun : goal.returns-in-Some-clause-begun
 returns-in-Some-clause-begun g c =
     let (x, y, has, read, wrote) = c.chunks.invariant in
     let more = Appends-trans _ _ _ y _ wrote c.in_ok-write_piece.ensures.ok in
-    (_, _, Consumes-trans _ _ _ x _ read c.in_ok-count.ensures.bytes, c.next-end.ensures.begun x y has, more)
+    (_, _, Consumes-trans _ _ _ x _ read c.in_ok-count.ensures.bytes, reached_begun _ _ (Some []) _ _ _ _ (c.next-end.ensures.made x y (Some []) has (λ none. refl)), more)
 
 pub chunks-preserved : goal.chunks-preserved
 chunks-preserved g c =
@@ -35,13 +35,12 @@ chunks-preserved g c =
     let more = Appends-trans _ _ _ y _ wrote c.in_ok-write_piece.ensures.ok in (
       _,
       _,
-      c.next-end.ensures.more c.in_default.is
-          (omega (
-            arith,
-            length-take c.in_ok-count.count c.read_chunk.new.buffer,
-            c.in_ok-count.ensures.bound,
-            c.if-count-eq0.false,
-          )) x y has,
+      (rw c.in_default.is at (c.next-end.ensures.made x y (Some []) has (λ none. refl))).0 (omega (
+        arith,
+        length-take c.in_ok-count.count c.read_chunk.new.buffer,
+        c.in_ok-count.ensures.bound,
+        c.if-count-eq0.false,
+      )),
       Consumes-trans _ _ _ x _ read c.in_ok-count.ensures.bytes,
       more,
     )
@@ -54,33 +53,30 @@ pub returns-in-Some-clause-text : goal.returns-in-Some-clause-text
 returns-in-Some-clause-text g c = λ e place is.
     let (x, y, has, read, wrote) = c.chunks.invariant in
     let more = Appends-trans _ _ _ y _ wrote c.in_ok-write_piece.ensures.ok in
-    let fails = c.next-end.ensures.err c.in-Some.error c.in-Some.is x y has (g.R.Read.remaining c.read_chunk.new.input)
+    let fails = rw c.in-Some.is at (c.next-end.ensures.made x y (g.R.Read.remaining c.read_chunk.new.input) has
     (λ none. c.in_ok-count.ensures.end
     (omega (arith, none, length-take c.in_ok-count.count c.read_chunk.new.buffer, c.in_ok-count.ensures.bound))
-    (omega (arith, c.read_chunk.auto.buffer))) in
+    (omega (arith, c.read_chunk.auto.buffer)))) in
     (_, _, Consumes-trans _ _ _ x _ read c.in_ok-count.ensures.bytes, rw (same_value _ _ is) at fails, more)
 
 pub returns-in-Some-clause-retried : goal.returns-in-Some-clause-retried
 returns-in-Some-clause-retried g c =
     let (x, y, has, read, wrote) = c.chunks.invariant in
-    text_not_interrupted c.args.mode _ _ _ c.in-Some.error
-    (c.next-end.ensures.err c.in-Some.error c.in-Some.is x y has (g.R.Read.remaining c.read_chunk.new.input)
-    (λ none. c.in_ok-count.ensures.end
-    (omega (arith, none, length-take c.in_ok-count.count c.read_chunk.new.buffer, c.in_ok-count.ensures.bound))
-    (omega (arith, c.read_chunk.auto.buffer))))
+    text_not_interrupted c.args.mode _ _ _ c.in-Some.error (rw c.in-Some.is at (c.next-end.ensures.made x y (Some []) has (λ none. refl)))
 
 pub returns-then-count-eq0-clause-ok : goal.returns-then-count-eq0-clause-ok
 returns-then-count-eq0-clause-ok g c =
     let (x, y, has, read, wrote) = c.chunks.invariant in
     let got = c.in_ok-count.ensures in
-    let all = rw (c.if-count-eq0.true, append-nil x) at (Consumes-trans _ _ _ x _ read got.bytes) in
+    let all = Consumes-trans _ _ _ x _ read got.bytes in
     let more = Appends-trans _ _ _ y _ wrote c.in_ok-write_piece.ensures.ok in
-    let makes = c.next-end.ensures.end c.in_default.is
-    (omega (arith, length-take c.in_ok-count.count c.read_chunk.new.buffer, c.if-count-eq0.true)) x y has in
+    let makes = (rw c.in_default.is at (c.next-end.ensures.made x y (Some []) has (λ none. refl))).1
+    (omega (arith, length-take c.in_ok-count.count c.read_chunk.new.buffer, c.if-count-eq0.true)) in
     if_ok c.flush.result (
-      x,
       _,
-      (all, got.end c.if-count-eq0.true (omega (arith, c.read_chunk.auto.buffer))),
+      _,
+      all,
+      got.end c.if-count-eq0.true (omega (arith, c.read_chunk.auto.buffer)),
       makes,
       Appends-kept _ _ _ _ more c.flush.ensures.bytes,
     )
@@ -93,6 +89,6 @@ returns-then-count-eq0-clause-begun g c =
       _,
       _,
       Consumes-trans _ _ _ x _ read c.in_ok-count.ensures.bytes,
-      c.next-end.ensures.begun x y has,
+      reached_begun _ _ (Some []) _ _ _ _ (c.next-end.ensures.made x y (Some []) has (λ none. refl)),
       Appends-kept _ _ _ _ more c.flush.ensures.bytes,
     )

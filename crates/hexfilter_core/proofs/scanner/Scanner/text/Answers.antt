@@ -1,5 +1,4 @@
-use Rattle.std.proofs.Common.{◌+◌, ◌<◌, length, take, arith, length-append}
-use Rattle.std.proofs.lemmas.List.{length-take}
+use Rattle.std.proofs.Common.{◌+◌, ◌<◌, length, arith}
 use Rattle.const_hex.specs.Decoding.{listed}
 use Rattle.hexfilter_core.proofs.lemmas.Texts.{added_byte, added_run, rest-size}
 use Rattle.hexfilter_core.proofs.scanner.Scanner.text.Goals as goal
@@ -12,26 +11,13 @@ runs-preserved-then-count-eq-LANES c =
     let space = c.runs.auto.output in record {
       within = omega (arith, ran.within, size);
       fewer = omega arith;
-      so_far = λ x is at.
-          added_run _ _ _ x _ _ c.runs.end c.runs.done (i.so_far x is at) _ c.run-count.result _ i.within
+      so_far = λ x is.
+          added_run _ _ _ x _ _ c.runs.end c.runs.done (i.so_far x is) _ c.run-count.result _ i.within
           (omega (arith, space)) (omega (arith, ran.length, ran.within, size, space)) ran.added;
     }
 
 pub runs-preserved : goal.runs-preserved
 runs-preserved c =
-    let i = c.runs.invariant in
-    let ran = c.run-count.ensures in
-    let size = rest-size c.args.chunk.now c.runs.done in
-    let space = c.runs.auto.output in record {
-      within = omega (arith, ran.within, size);
-      fewer = omega arith;
-      so_far = λ x is at.
-          added_run _ _ _ x _ _ c.runs.end c.runs.done (i.so_far x is at) _ c.run-count.result _ i.within
-          (omega (arith, space)) (omega (arith, ran.length, ran.within, size, space)) ran.added;
-    }
-
-pub runs-preserved-then-done-chunk : goal.runs-preserved-then-done-chunk
-runs-preserved-then-done-chunk c =
     let chunk = c.args.chunk.now in
     let done = c.runs.done in
     let n = c.run-count.result in
@@ -42,11 +28,10 @@ runs-preserved-then-done-chunk c =
     let space = c.runs.auto.output in record {
       within = omega arith;
       fewer = omega (arith, c.put-end.ensures.within);
-      so_far = λ x is at.
-          let run = added_run _ _ _ x chunk _ c.runs.end done (i.so_far x is at) _ n _ i.within (omega (arith, space))
+      so_far = λ x is.
+          let run = added_run _ _ _ x chunk _ c.runs.end done (i.so_far x is) _ n _ i.within (omega (arith, space))
           (omega (arith, ran.length, ran.within, size, space)) ran.added in
           added_byte _ _ _ x chunk _ (c.runs.end + n) (done + n) run _ (listed c.next-added.result) c.put-end.result
           inside c.put-end.ensures.front
-          (c.next-added.ensures _ run.scanned
-          (λ short. omega (arith, short, at, length-append x (take (done + n) chunk), length-take (done + n) chunk)));
+          (c.next-added.ensures _ run.scanned);
     }

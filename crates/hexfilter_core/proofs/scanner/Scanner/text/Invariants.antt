@@ -1,5 +1,4 @@
-use Rattle.std.proofs.Common.{◌≡◌, ◌-◌, ◌≤◌, List, ℕ, length, take}
-use Rattle.const_hex.specs.Decoding.{counted}
+use Rattle.std.proofs.Common.{◌-◌, ◌≤◌, List, ℕ, length, take}
 use Rattle.hexfilter_core.specs.Stages.{HasAdded, HasScanned}
 use Rattle.hexfilter_core.proofs.scanner.Scanner.text.Given as goal
 
@@ -7,7 +6,7 @@ abbrev pub invariant-runs : goal.invariant-runs
 invariant-runs l = record {
   within : l.done ≤ length l.chunk;
   fewer : l.end ≤ l.done;
-  so_far : (x : List ℕ) → HasScanned l.reading l.fn.self x → l.read ≡ counted (length x)
+  so_far : (x : List ℕ) → HasScanned l.reading l.fn.self x
       → HasAdded l.reading l.scanner x (take l.done l.chunk) (take l.end l.output);
 }
 

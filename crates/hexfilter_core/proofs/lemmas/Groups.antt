@@ -1,0 +1,170 @@
+-- Parts of groups, and of a text that is encoded part after part.
+use Rattle.std.proofs.Common.{◌≡◌, ℕ, ◌+◌, ◌-◌, ◌<◌, ◌≤◌, List, [], ◌∷◌, ◌++◌, length, min, take, drop, get_or, slice_set, refl, sym, ap, ◌∙◌, arith, append_assoc, length-append, Bool, false, Result, Ok, Err}
+use Rattle.std.proofs.Math.Seq.{take-add}
+use Rattle.std.proofs.lemmas.Bool.Decides.{nat_tests}
+use Rattle.std.proofs.lemmas.List.{length-set, length-take, length-take-le, length-drop, take-take, take_all, append-nil}
+use borrow.Rule.Slice.PartMut.{put_mid}
+use Rattle.hexfilter_core.proofs.lemmas.Texts.{take_put}
+use Rattle.hexfilter_core.specs.Dumps.{Groups, PutsInto, groups_from, encoded, ended}
+use Rattle.std.specs.Prelude.{OnErr, OnOk}
+use Rattle.const_hex.specs.Texts.{full_text, hex_text, prefix_of}
+use Rattle.const_hex_arch.proofs.lemmas.Texts.{hex_text-append, hex_text-nil}
+use Rattle.hexfilter_core.specs.Stages.{Stage, HasEncoded}
+
+-- a part that fits into the group
+within_group : (g : Groups) (c : ℕ) (u t : List ℕ) → c + length u ≤ g.size
+    → groups_from g c (u ++ t) ≡ u ++ groups_from g (c + length u) t
+unfolding groups_from
+within_group g c [] t h = grind arith
+within_group g c (b ∷ u) t h =
+    let more = within_group g (c + 1) u t (omega arith) in
+    let next : min (c + 1) g.size ≡ c + 1 = omega (arith, h) in
+    grind (arith, nat_tests, more, next, h)
+
+-- a text without groups
+pub without_groups : (g : Groups) (c : ℕ) (u t : List ℕ) → g.size ≡ 0 → c ≤ g.size
+    → groups_from g c (u ++ t) ≡ u ++ groups_from g c t
+unfolding groups_from
+without_groups g c [] t none fits = refl
+without_groups g c (b ∷ u) t none fits =
+    let more = without_groups g c u t none fits in
+    let next : min (c + 1) g.size ≡ c = omega (arith, none, fits) in
+    grind (arith, nat_tests, more, next, none)
+
+-- more after a whole group
+pub after_group : (g : Groups) (t : List ℕ) → 0 < g.size → 0 < length t
+    → groups_from g g.size t ≡ g.separator ∷ groups_from g 0 t
+unfolding groups_from
+after_group g [] h some = absurd (omega arith)
+after_group g (b ∷ t) h some =
+    let next : min (0 + 1) g.size ≡ 1 = omega (arith, h) in grind (arith, nat_tests, h, next)
+
+-- the first `done` characters stand in groups, and then `count` more
+module _ (g : Groups) (first c : ℕ) (text : List ℕ) (done count : ℕ) (laid : List ℕ)
+    (before : (rest : List ℕ) → 0 < length rest
+    → groups_from g first (take done text ++ rest) ≡ laid ++ groups_from g c rest)
+    (some : 0 < count) (within : done + count ≤ length text) where
+  piece : List ℕ
+  piece = take count (drop done text)
+
+  size : length piece ≡ count
+  unfolding piece
+  size = simp (length-take, length-drop) (omega arith)
+
+  pub goes_on : c + count ≤ g.size → (out : List ℕ) → out ≡ laid ++ take count (drop done text)
+      → (rest : List ℕ)
+      → groups_from g first (take (done + count) text ++ rest) ≡ out ++ groups_from g (c + count) rest
+  unfolding piece
+  goes_on h out put rest =
+      let more : 0 < length (piece ++ rest) = omega (arith, size, length-append piece rest, some) in
+      ap (λ l. groups_from g first (l ++ rest)) (take-add done count text)
+      ∙ ap (groups_from g first) (append_assoc (take done text) piece rest)
+      ∙ before (piece ++ rest) more ∙ ap (λ l. laid ++ l) (within_group g c piece rest (omega (arith, size)))
+      ∙ ap (λ k. laid ++ (piece ++ groups_from g (c + k) rest)) size
+      ∙ sym (append_assoc laid piece (groups_from g (c + count) rest))
+      ∙ ap (λ l. l ++ groups_from g (c + count) rest) (sym put)
+
+-- `done` characters stand in groups, and then `count` more are put there
+pub puts_more : (g : Groups) (c d e : ℕ) (text : List ℕ) (done count : ℕ) (out new : List ℕ) (end m k : ℕ)
+    → done ≤ length text → end ≤ length out → k ≤ length new
+    → PutsInto g c (take done text) (take end out) d
+    → PutsInto g d (take count (take (length text - done) (drop done text))) (take k new) e
+    → PutsInto g c (take (done + count) text) (take (end + k) (put_mid end m out new)) e
+puts_more g c d e text done count out new end m k within started enough first more rest =
+    let piece = take count (drop done text) in
+    let next =
+    rw (take_all (length text - done) (drop done text) (omega (arith, length-drop done text))) at more rest in
+    rw (take-add done count text, take_put end m k out new started enough)
+    (ap (groups_from g c) (append_assoc (take done text) piece rest) ∙ first (piece ++ rest)
+    ∙ ap (λ l. take end out ++ l) next
+    ∙ sym (append_assoc (take end out) (take k new) (groups_from g e rest)))
+
+first_set : (out : List ℕ) (s : ℕ) → 0 < length out → take 1 (slice_set out 0 s) ≡ s ∷ []
+first_set [] s h = absurd (omega arith)
+first_set (b ∷ out) s h = refl
+
+-- one group after a separator
+pub puts_one : (g : Groups) (text out new : List ℕ) → 0 < g.size → g.size ≤ 16 → 16 ≤ length text → 17 ≤ length out
+    → new ≡ take 16 text
+    → PutsInto g g.size (take g.size text) (take (g.size + 1) (put_mid 1 16 (slice_set out 0 g.separator) new)) g.size
+puts_one g text out new some short many space copied rest =
+    let n = g.size in
+    let s = g.separator in
+    let size : length (take n text) ≡ n = length-take-le n text (omega (arith, short, many)) in
+    let all : length new ≡ 16 = rw copied (length-take-le 16 text many) in
+    let added : n + 1 ≡ 1 + n = omega arith in
+    let end : 0 + length (take n text) ≡ n = omega (arith, size) in
+    let put = take_put 1 16 n (slice_set out 0 s) new (omega (arith, length-set out 0 s, space)) (omega (arith, all, short)) in
+    let front = first_set out s (omega (arith, space)) in
+    let kept : take n new ≡ take n text = rw copied (take-take n 16 text short) in
+    after_group g (take n text ++ rest) some (omega (arith, size, some, length-append (take n text) rest))
+    ∙ ap (λ l. s ∷ l) (within_group g 0 (take n text) rest (omega (arith, size)))
+    ∙ ap (λ k. s ∷ (take n text ++ groups_from g k rest)) end
+    ∙ rw (added, put, front, kept) refl
+
+-- four pairs, each after a separator
+pub puts_pairs : (s : ℕ) (text rest : List ℕ) → 8 ≤ length text
+    → groups_from (record { size = 2; separator = s }) 2 (take 8 text ++ rest)
+    ≡ s ∷ get_or text 0 0 ∷ get_or text 1 0 ∷ s ∷ get_or text 2 0 ∷ get_or text 3 0 ∷ s ∷ get_or text 4 0
+    ∷ get_or text 5 0 ∷ s ∷ get_or text 6 0 ∷ get_or text 7 0 ∷ groups_from (record { size = 2; separator = s }) 2 rest
+unfolding groups_from
+puts_pairs s [] rest many = absurd (omega arith)
+puts_pairs s (a ∷ []) rest many = absurd (omega arith)
+puts_pairs s (a ∷ b ∷ []) rest many = absurd (omega arith)
+puts_pairs s (a ∷ b ∷ c ∷ []) rest many = absurd (omega arith)
+puts_pairs s (a ∷ b ∷ c ∷ d ∷ []) rest many = absurd (omega arith)
+puts_pairs s (a ∷ b ∷ c ∷ d ∷ e ∷ []) rest many = absurd (omega arith)
+puts_pairs s (a ∷ b ∷ c ∷ d ∷ e ∷ f ∷ []) rest many = absurd (omega arith)
+puts_pairs s (a ∷ b ∷ c ∷ d ∷ e ∷ f ∷ g ∷ []) rest many = absurd (omega arith)
+puts_pairs s (a ∷ b ∷ c ∷ d ∷ e ∷ f ∷ g ∷ h ∷ text) rest many = refl
+
+pub if_ok : {T E P : Type 0} (r : Result T E) → P → OnOk r P
+if_ok (Ok v) p = p
+if_ok (Err e) p = tt
+
+pub if_err : {T E P : Type 0} (r : Result T E) → P → OnErr r P
+if_err (Ok v) p = tt
+if_err (Err e) p = p
+
+full_text-more : (prefix up : Bool) (x more : List ℕ)
+    → full_text prefix up (x ++ more) ≡ full_text prefix up x ++ full_text false up more
+full_text-more prefix up x more =
+    rw (hex_text-append up x more) (sym (append_assoc (prefix_of prefix) (hex_text up x) (hex_text up more)))
+
+-- a chunk more is encoded
+pub encoded_more : (prefix up : Bool) (g : Groups) (old new : Stage) (x y chunk z : List ℕ)
+    → HasEncoded prefix up g old x y
+    → PutsInto g old.column (full_text old.prefix up chunk) z new.column → new.prefix ≡ false → new.column ≤ g.size
+    → HasEncoded prefix up g new (x ++ chunk) (y ++ z)
+encoded_more prefix up g old new x y chunk z has breaks due fits = record {
+  left = λ more.
+      let rest = full_text false up more in
+      rw due (ap (encoded prefix up g) (append_assoc x chunk more) ∙ has.left (chunk ++ more)
+      ∙ ap (λ l. y ++ groups_from g old.column l) (full_text-more old.prefix up chunk more)
+      ∙ ap (λ l. y ++ l) (breaks rest)
+      ∙ sym (append_assoc y z (groups_from g new.column rest)));
+  fits = fits;
+}
+
+-- nothing more follows
+encoded_end : (prefix up : Bool) (g : Groups) (e : Stage) (x y : List ℕ) → HasEncoded prefix up g e x y
+    → e.prefix ≡ false
+    → encoded prefix up g x ≡ y ++ ended g e.column
+unfolding groups_from
+encoded_end prefix up g e x y has due =
+    ap (encoded prefix up g) (sym (append-nil x)) ∙ has.left []
+    ∙ ap (λ p. y ++ groups_from g e.column (full_text p up [])) due
+    ∙ ap (λ l. y ++ groups_from g e.column l) (hex_text-nil up)
+
+pub no_bytes : (l : List ℕ) → length l ≡ 0 → l ≡ []
+no_bytes [] h = refl
+no_bytes (b ∷ l) h = absurd (omega arith)
+
+-- the empty chunk is the end
+pub encoded_last : (prefix up : Bool) (g : Groups) (old new : Stage) (x y chunk z : List ℕ)
+    → HasEncoded prefix up g old x y
+    → PutsInto g old.column (full_text old.prefix up chunk) z new.column → new.prefix ≡ false → new.column ≤ g.size
+    → y ++ (z ++ ended g new.column) ≡ encoded prefix up g (x ++ chunk)
+encoded_last prefix up g old new x y chunk z has breaks due fits =
+    let more = encoded_more prefix up g old new x y chunk z has breaks due fits in
+    sym (encoded_end prefix up g new (x ++ chunk) (y ++ z) more due ∙ append_assoc y z (ended g new.column))

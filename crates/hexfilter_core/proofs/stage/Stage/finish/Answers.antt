@@ -1,0 +1,20 @@
+use Rattle.std.proofs.Common.{arith, refl}
+use Rattle.hexfilter_core.proofs.lemmas.Runs.{same_value}
+use Rattle.hexfilter_core.proofs.lemmas.Texts.{pairs}
+use Rattle.hexfilter_core.specs.Dumps.{text_of}
+use Rattle.hexfilter_core.proofs.stage.Stage.finish.Goals as goal
+
+pub returns-in-Ok : goal.returns-in-Ok
+returns-in-Ok c = λ r x y left has end.
+    let bytes = has.text.bytes in (
+      λ some. absurd (omega (arith, some)),
+      λ none. (bytes, (c.in-Ok.ensures.ok (text_of r x) bytes has.text.read).0 refl, has.text.given),
+    )
+
+pub returns-in-Err : goal.returns-in-Err
+returns-in-Err c = λ r x y left has end.
+    let bytes = has.text.bytes in
+    let ensured = c.in-Err.ensures.err (text_of r x) bytes has.text.read in
+    let odd = (c.in-Err.ensures.odd (text_of r x) bytes has.text.read).0 ensured in
+    rw (same_value _ _ ensured)
+    (bytes, (refl, end, odd, pairs r c.args.self.now.decoder x bytes has.text.read), has.text.given)

@@ -1,0 +1,25 @@
+use Rattle.std.proofs.Common.{◌++◌, refl}
+use Rattle.std.proofs.lemmas.Result.{IfOk-weaker}
+use Rattle.hexfilter_core.proofs.lemmas.Runs.{not_checked, not_decoded}
+use Rattle.hexfilter_core.proofs.stage.decode_text.Goals as goal
+
+pub returns-in-Ok-clause-ok : goal.returns-in-Ok-clause-ok
+returns-in-Ok-clause-ok c = λ t z has.
+    let given = rw c.if-reading.true at has.given in
+    record { bytes = _; read = (c.in-Ok.ensures.ok t has.bytes has.read).1; given = rw (c.if-reading.true, given) refl }
+
+pub returns-in-Err-clause-err : goal.returns-in-Err-clause-err
+returns-in-Err-clause-err c =
+    λ t z has space. not_checked (t ++ c.args.text.now) _ (c.in-Err.ensures.answer t has.bytes has.read)
+
+pub returns-clause-ok : goal.returns-clause-ok
+returns-clause-ok c = λ t z has.
+    let given = rw c.if-reading.false at has.given in
+    IfOk-weaker c.decode.result _ _
+    (λ n read. record { bytes = _; read = read; given = rw (c.if-reading.false, given) refl })
+    (c.decode.ensures.ok t has.bytes has.read)
+
+pub returns-clause-err : goal.returns-clause-err
+returns-clause-err c = λ t z has space.
+    not_decoded (t ++ c.args.text.now) has.bytes _ c.decode.result (c.decode.ensures.answer t has.bytes has.read)
+    (c.decode.ensures.enough space)
