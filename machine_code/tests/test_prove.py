@@ -128,6 +128,6 @@ class TestProve(unittest.TestCase):
     def test_local_functions_that_call_each_other(self):
         """What is called by its contract calls no other so: each of two would be right if the other one were."""
         contract = next(contract for contract in FUNCTIONS if contract.function == "decoder_fail")
-        content = linked(LOCAL_ONES.format(contract.symbol, "const_hex_body_find_invalid_character"))
+        content = linked(LOCAL_ONES.format(contract.symbol, "const_hex_body_locate_invalid"))
         with self.assertRaisesRegex(Refused, "nothing counts down"):
             proofs.prove(content, contract.symbol, contract)

@@ -14,7 +14,7 @@ HOLE = (f"cmp rdx,3; jne 98f; push rdi; push rsi; push rdx; push rdx; mov esi,2;
         f"mov rdi,[rsp+24]; mov rsi,[rsp+16]; add rdi,2; inc rsi; mov edx,1; {CALL_READ}; 97: pop rdx; pop rdx; "
         f"pop rsi; pop rdi; 98: {CALL_READ}")
 C, ARM_C, ARM = "functions_x86_64", "functions_aarch64", "dispatch for AArch64"
-FIND, FAIL = "find_invalid_character", "decoder_fail"
+FIND, FAIL = "locate_invalid", "decoder_fail"
 
 # What is wrong; the build; the function; the lines before and after; what is said of it; the contract's name, if it is
 # not the first; the function, the constant or the macro, if it is not the function's own; and the starts, if not all.
@@ -51,10 +51,10 @@ WRONG = [
      f"{CALL_CHECK}; dec r13; jne 1b; pop r14; pop r13; pop r12; pop rbx",
      "a loop or a call in a loop"),
     ("unknown flags have a size", C, "encoded_size", "", "cmp esi,9; jne 1f; xor eax,eax; ret; 1:", "another size"),
-    ("a size that is too small", C, "encode", "cmp r11,rcx; jae 2b", "cmp r11,rcx", OUTSIDE),
+    ("a size that is too small", C, "encode", "cmp r11,rax; jae 2b", "cmp r11,rax", OUTSIDE),
     ("a byte decides a jump", C, "encode", "", "test rsi,rsi; je 1f; cmp byte ptr [rdi],0x61; jb 1f; nop; 1:", SECRET),
     ("a kernel writes a byte too many", C, "encode", CALL_FILL, f"inc rsi; {CALL_FILL}", OUTSIDE),
-    ("a kernel writes over the prefix", C, "encode", "lea rcx,[rax+0x2]", "mov rcx,rax", "beside the digits",
+    ("a kernel writes over the prefix", C, "encode", "add rcx,0x2", "", "beside the digits",
      "flags 2"),
     ("a kernel that decodes in place of one that encodes", C, "encode", CALL_FILL,
      f"mov rdx,rsi; shr rdx,1; mov rsi,rcx; {CALL_READ}", "may be odd or even"),
@@ -63,13 +63,12 @@ WRONG = [
      "test rsi,rsi; je 1f; mov al,[rdi]; sub rsp,16; mov [rsp],al; mov byte ptr [rsp+1],0x7a; push rdi; push rsi; "
      f"lea rdi,[rsp+16]; mov esi,2; {CALL_CHECK}; pop rsi; pop rdi; add rsp,16; 1: {CALL_CHECK}",
      "a text that is never valid"),
-    ("the search counts in 32 bits", C, FIND, "add rax,0x4", "add eax,4", "at the head of a loop|nothing counts"),
-    ("the search begins behind two of which one is tested", C, FIND, "or r8b,BYTE PTR [rax+rcx*1]", "test r8b,r8b",
-     "result is wrong at"),
-    ("the search tests three of four", C, FIND, "or r10b,BYTE PTR [r9+rcx*1]; js 12f", "test r10b,r10b; js 12f",
+    ("the search counts in 32 bits", C, FIND, "lea r9,[rsi+0x4]", "lea r9d,[rsi+0x4]", "at the head of a loop|nothing counts"),
+    ("the search begins behind any 0", C, FIND, "cmp ecx,0x7830", "cmp cl,0x30", "another index"),
+    ("the search tests three of four", C, FIND, "or r10b,BYTE PTR [r9+rdx*1]; js 12f", "test r10b,r10b; js 12f",
      PASSES),
-    ("what a kernel returns is not tested", C, "decode_exact", "test al,al; je 4f", "", PASSES),
-    ("the other bits of what a kernel returns", C, "decode_exact", "test al,al; je 4f", "test eax,eax; je 4f",
+    ("what a kernel returns is not tested", C, "decode_exact", "jne 8f", "jmp 8f", PASSES),
+    ("the other bits of what a kernel returns", C, "decode_exact", "test cl,cl", "test ecx,ecx",
      f"{PASSES}|{SECRET}"),
     ("a kernel writes to an input", C, "decode_exact", CALL_READ, f"mov rsi,rdi; {CALL_READ}", "to what is no output"),
     ("what a kernel has left after an invalid character is read", C, "decode_exact", CALL_READ,
