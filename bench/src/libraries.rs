@@ -194,11 +194,17 @@ macro_rules! with_arrays {
             $library::check(text).unwrap()
         });
         let text = $cases.text.clone();
-        $cases.add("decode_to_slice of arrays", $name, text, $size, |text, bytes| {
-            let (text, bytes): (&[u8; 2 * $size], &mut [u8; $size]) =
-                (text.try_into().unwrap(), bytes.try_into().unwrap());
-            $library::decode_to_slice(text, bytes).unwrap()
-        });
+        $cases.add(
+            "decode_to_slice of arrays",
+            $name,
+            text,
+            $size,
+            |text, bytes| {
+                let (text, bytes): (&[u8; 2 * $size], &mut [u8; $size]) =
+                    (text.try_into().unwrap(), bytes.try_into().unwrap());
+                $library::decode_to_slice(text, bytes).unwrap()
+            },
+        );
         let text = $cases.text.clone();
         let call = "decode_to_slice, wrong length";
         $cases.add(call, $name, text, $size + 1, |text, bytes| {
@@ -216,9 +222,13 @@ fn of_data_encoding(cases: &mut Cases) {
     });
     cases.encoding("encode", name, |bytes, _| HEXLOWER.encode(bytes));
     let (text, size) = (cases.text.clone(), cases.bytes.len());
-    cases.add("decode_to_slice", name, text.clone(), size, |text, bytes| {
-        HEXLOWER_PERMISSIVE.decode_mut(text, bytes).unwrap()
-    });
+    cases.add(
+        "decode_to_slice",
+        name,
+        text.clone(),
+        size,
+        |text, bytes| HEXLOWER_PERMISSIVE.decode_mut(text, bytes).unwrap(),
+    );
     cases.add("decode", name, text, 0, |text, _| {
         HEXLOWER_PERMISSIVE.decode(text).unwrap()
     });

@@ -43,7 +43,11 @@ const BUILDS: [(&str, &str, &str); 8] = [
     ("fat LTO", "", "--profile lto"),
     ("x86-64-v3, fat LTO", V3, "--profile lto"),
     ("portable", "", "--release --features force-generic"),
-    ("portable, fat LTO", "", "--profile lto --features force-generic"),
+    (
+        "portable, fat LTO",
+        "",
+        "--profile lto --features force-generic",
+    ),
     ("dev", "", ""),
     (IN_C, "", "--profile lto --features c"),
 ];
@@ -86,7 +90,9 @@ fn cells(only: &[String]) -> impl Iterator<Item = (String, &'static str, usize)>
 /// The cases of the named libraries, or of all, up to the number of bytes that the variable `MOST` says.
 fn chosen(only: &[String]) -> impl Iterator<Item = const_hex_bench::Case> + '_ {
     let most = env::var("MOST").ok().and_then(|most| most.parse().ok());
-    let sizes = SIZES.into_iter().filter(move |size| *size <= most.unwrap_or(usize::MAX));
+    let sizes = SIZES
+        .into_iter()
+        .filter(move |size| *size <= most.unwrap_or(usize::MAX));
     sizes
         .flat_map(cases)
         .filter(move |case| only.is_empty() || only.iter().any(|name| name == case.library))
@@ -144,10 +150,13 @@ fn count(only: &[String]) -> io::Result<Vec<u64>> {
         false => counted_by_callgrind(only)?,
     };
     // Of each case, what was counted before its first round, in it, between both, and in its second round.
-    let cells = rounds.chunks_exact(4).zip(chosen(only)).map(|(counted, case)| {
-        let (few, more) = calls(case.size);
-        counted[3].saturating_sub(counted[1]) / (more - few) as u64
-    });
+    let cells = rounds
+        .chunks_exact(4)
+        .zip(chosen(only))
+        .map(|(counted, case)| {
+            let (few, more) = calls(case.size);
+            counted[3].saturating_sub(counted[1]) / (more - few) as u64
+        });
     Ok(cells.collect())
 }
 
@@ -155,28 +164,39 @@ fn count(only: &[String]) -> io::Result<Vec<u64>> {
 fn counted_program(command: &str, only: &[String]) -> io::Result<Command> {
     let mut words = command.split(' ');
     let mut counted = Command::new(words.next().unwrap_or_default());
-    counted.args(words).arg(env::current_exe()?).arg("--repeat").args(only);
+    counted
+        .args(words)
+        .arg(env::current_exe()?)
+        .arg("--repeat")
+        .args(only);
     Ok(counted)
 }
 
 /// What callgrind counted up to each mark.
 fn counted_by_callgrind(only: &[String]) -> io::Result<Vec<u64>> {
     let path = env::temp_dir().join(format!("const-hex-bench.{}", process::id()));
-    let command = format!("valgrind -q --tool=callgrind --combine-dumps=yes --callgrind-out-file={}", path.display());
+    let command = format!(
+        "valgrind -q --tool=callgrind --combine-dumps=yes --callgrind-out-file={}",
+        path.display()
+    );
     let status = counted_program(&command, only)?.status()?;
     let dumps = fs::read_to_string(&path)?;
     fs::remove_file(&path)?;
     if !status.success() {
         return Err(io::Error::other(format!("{command}: {status}")));
     }
-    let totals = dumps.lines().filter_map(|line| line.strip_prefix("totals: "));
+    let totals = dumps
+        .lines()
+        .filter_map(|line| line.strip_prefix("totals: "));
     Ok(totals.filter_map(|total| total.parse().ok()).collect())
 }
 
 /// The lines that QEMU printed up to each mark, one for each instruction.
 fn counted_by_qemu(only: &[String]) -> io::Result<Vec<u64>> {
     let command = "qemu-aarch64 -L /usr/aarch64-linux-gnu -singlestep -d nochain,exec";
-    let mut child = counted_program(command, only)?.stderr(Stdio::piped()).spawn()?;
+    let mut child = counted_program(command, only)?
+        .stderr(Stdio::piped())
+        .spawn()?;
     let (mut rounds, mut count) = (Vec::new(), 0);
     for line in BufReader::new(child.stderr.take().unwrap()).lines() {
         let line = line?;
@@ -207,7 +227,11 @@ fn print_tables(cells: &[Cell]) {
                 libraries.push(library);
             }
         }
-        println!("\n| {call} | {} |\n|{}", libraries.join(" | "), "---|".repeat(libraries.len() + 1));
+        println!(
+            "\n| {call} | {} |\n|{}",
+            libraries.join(" | "),
+            "---|".repeat(libraries.len() + 1)
+        );
         for size in SIZES {
             let row: Vec<String> = of_call
                 .clone()

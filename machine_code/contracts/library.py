@@ -115,17 +115,12 @@ class CheckRaw(CheckKernel):
     function, symbol = "check_raw", "const_hex_check_raw"
 
 
-class Search(Function):
-    """A search for the first character that is no digit."""
-
-    is_called = is_local = may_leak = True
-    requires = z3.ULT(N, 1 << 63),
-
-
-class FirstInvalid(Search):
+class FirstInvalid(Function):
     """locate_invalid(text, length): the index of the first invalid character, or the length if there is none."""
 
+    is_called = is_local = may_leak = True
     symbol, function, name = "const_hex_body_locate_invalid", "locate_invalid", "any text"
+    requires = z3.ULT(N, 1 << 63),
     regions, arguments = (TEXT,), (base("input"), N)
 
     def cases(self, state):
@@ -341,7 +336,7 @@ class ChangedDecoder(DecoderUpdate):
         """Any result, and any error."""
 
 
-class DecoderFail(Search):
+class DecoderFail(FirstInvalid):
     """decoder_fail(result, decoder, before, text, length), of a chunk, before which come some characters: the decoder
     moves to the invalid one, and keeps the error."""
 
