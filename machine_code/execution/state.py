@@ -149,9 +149,9 @@ class State:
         """That the input is valid, as far as it was read."""
         return [fact for condition in self.contract.valid(self) for fact in facts_of(condition)]
 
-    def either(self, condition, one, other):
+    def either(self, condition, one, other, is_asked=False):
         """The first of two terms where a condition holds, else the second: just that one, if it is known which."""
-        if is_public(condition):
+        if is_asked or is_public(condition):
             for term, way in (one, condition), (other, z3.Not(condition)):
                 if self.holds(way):
                     return term

@@ -183,7 +183,7 @@ def select(function):
     def handler(s, i):
         to, one, other, name = i.operands
         a, b = s.number(one, to.size), s.number(other, to.size)
-        s.put(to, s.either(holds(s, CONDITIONS[name.text]), a, simple(function(b))))
+        s.put(to, s.either(holds(s, CONDITIONS[name.text]), a, simple(function(b)), is_asked=True))
     return handler
 
 
