@@ -220,11 +220,11 @@ pub fn decode<T: AsRef<[u8]>>(data: T) -> Result<Vec<u8>, FromHexError> {
     }
 }
 
-/// Returns the error for an invalid text, and drops what had space for its bytes.
-// A function of its own, so that the code for a valid text need not keep the text in registers, or a result in parts.
+/// Returns the error for an invalid text, and drops the vector for its bytes.
+// A function of its own, so that the code for a valid text need not keep the text in registers.
+#[cfg(feature = "alloc")]
 #[cold]
-#[inline(never)]
-fn invalid<T>(text: &[u8], _: T) -> FromHexError {
+fn invalid(text: &[u8], _: Vec<u8>) -> FromHexError {
     find_invalid_character(text)
 }
 
@@ -298,7 +298,9 @@ pub fn decode_to_array<T: AsRef<[u8]>, const N: usize>(input: T) -> Result<[u8; 
     if digits.len() != N << 1 {
         return Err(FromHexError::InvalidStringLength);
     }
-    kernel::Space::new().bytes(digits).ok_or_else(|| invalid(text, ()))
+    kernel::Space::new()
+        .bytes(digits)
+        .ok_or_else(|| find_invalid_character(text))
 }
 
 /// Returns `Ok` if a text can be decoded, or else [`FromHexError::OddLength`] or
