@@ -16,10 +16,9 @@ from reading.image import AARCH64, X86_64
 
 # `refused` says why it must not be run, or is None.
 Instruction = collections.namedtuple("Instruction", "address size mnemonic operands text refused", defaults=[None])
-# By the processor: what prints its instructions, and what begins a comment there.
-COMMANDS = {X86_64: (["objdump", "-m", "i386:x86-64", "-M", "intel", "-w"], "[#<]"),
-            AARCH64: (["aarch64-linux-gnu-objdump", "-m", "aarch64"], "//|<")}
-COPY = {X86_64: "objcopy", AARCH64: "aarch64-linux-gnu-objcopy"}
+# By the processor: what prints its instructions, what begins a comment there, and what copies from an object.
+COMMANDS = {X86_64: (["objdump", "-m", "i386:x86-64", "-M", "intel", "-w"], "[#<]", "objcopy"),
+            AARCH64: (["aarch64-linux-gnu-objdump", "-m", "aarch64"], "//|<", "aarch64-linux-gnu-objcopy")}
 LINE = re.compile(r"^\s*([0-9a-f]+):\t((?:(?:[0-9a-f]{2})+ )+)\s*\t(.*)$")
 # Each text is assembled in a place of its own, which has more bytes than an instruction, and these where none is.
 PLACE, FILL = 16, b"\xcc"
@@ -48,7 +47,7 @@ def read(part, processor, operands, command, text_of, is_same):
 def printed(part, processor, operands=lambda text: ()):
     """The instructions of some code, by address, as `objdump` prints them."""
     first, content = part
-    command, comment = COMMANDS[processor]
+    command, comment, _ = COMMANDS[processor]
     with tempfile.NamedTemporaryFile() as file:
         file.write(content)
         file.flush()
@@ -78,7 +77,7 @@ def _assembled(processor, command, texts):
         run = subprocess.run(command, input="".join(lines), capture_output=True, text=True, env=english)
         if not file.exists():
             raise OSError(f"{command[0]} fails: {run.stderr}")
-        subprocess.run([COPY[processor], "-O", "binary", "-j", ".text", file, f"{folder}/text"], check=True)
+        subprocess.run([COMMANDS[processor][2], "-O", "binary", "-j", ".text", file, f"{folder}/text"], check=True)
         made = pathlib.Path(folder, "text").read_bytes()
     said = collections.defaultdict(list)
     for line, words in SAID.findall(run.stderr):

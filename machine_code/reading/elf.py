@@ -15,8 +15,8 @@ FORMS = {(kind, form[0]): form for kind in (2, 3) for form in ((X86_64, 1 << 12)
 # loader's table, what is closed after relocations, a note of properties, the loader's name, where the headers lie; and
 # of TLS, EH_FRAME and STACK, which are harmless.
 Header = namedtuple("Header", "kind flags offset address physical in_file in_memory alignment")
-LOAD, DYNAMIC, CLOSED, PROPERTIES, LOADER, HEADERS = 1, 2, 0x6474E552, 0x6474E553, 3, 6
-SEVERAL, ONCE = (LOAD, 4, 0), (DYNAMIC, CLOSED, PROPERTIES, LOADER, HEADERS, 7, 0x6474E550, 0x6474E551)
+LOAD, DYNAMIC, CLOSED, NOTES, PROPERTIES, LOADER, HEADERS = 1, 2, 0x6474E552, 4, 0x6474E553, 3, 6
+SEVERAL, ONCE = (LOAD, NOTES, 0), (DYNAMIC, CLOSED, PROPERTIES, LOADER, HEADERS, 7, 0x6474E550, 0x6474E551)
 GUARDS = {X86_64: 0xC0000002, AARCH64: 0xC0000000}  # the property whose bits say what calls and returns need
 KINDS = {4: CONSTANTS, 5: CODE, 6: WRITTEN}  # of segments, by their flags
 # Tags of the loader's table. Each may stand there once, but for NEEDED; with what else is harmless: STRSZ, SYMENT,
@@ -62,15 +62,15 @@ def read(data):
     said = one.get(HEADERS)
     if (said or LOADER in one) and (not said or said.address != image.first + first):
         raise ValueError("PT_PHDR is missing, or says another place than that of the headers")
-    if PROPERTIES in one:
-        _refuse_guards(image, data, one[PROPERTIES])
+    for notes in (header for header in headers if header.kind in (NOTES, PROPERTIES)):
+        _refuse_guards(image, data, notes)
     if CLOSED in one:
         # The loader makes whole pages of a segment read-only.
         _, _, _, start, _, _, size, _ = one[CLOSED]
         segment = image.segment_at(start)
         if not segment or segment.kind != WRITTEN or up(segment.address + segment.size, image.page) < start + size:
             raise ValueError("what is closed after relocations is no part of a segment that is written")
-        image.closed.append(range(start // image.page * image.page, start + size))
+        image.shared.append(range(start // image.page * image.page, start + size))
     _read_symbols(image, data, sections, *struct.unpack_from("<H", data, 60))
     if DYNAMIC in one:
         _read_dynamic(image, one[DYNAMIC])
@@ -78,16 +78,18 @@ def read(data):
 
 
 def _refuse_guards(image, data, header):
-    """Linux reads this note in the file, and glibc in memory, where it may be one of several."""
-    note, place = image.content(header.address, header.in_memory), 16
-    is_only_one = note[:place] == struct.pack("<III4s", 4, len(note) - place, 5, b"GNU")
-    if note != data[header.offset :][: header.in_file] or not is_only_one:
-        raise ValueError("a note of properties that is another one in memory than in the file, or is not the only one")
-    while place < len(note):
-        kind, size = struct.unpack_from("<II", note, place)
-        if kind == GUARDS[image.machine] and note[place + 8]:
+    """Linux reads a note of properties in the file, and glibc each one in memory, even beyond the end of all notes. A
+    property is its kind, its size, and here bits."""
+    notes, place = image.content(header.address, header.in_memory), 0
+    if notes != data[header.offset :][: header.in_file]:
+        raise ValueError("notes that are others in memory than in the file")
+    while place + 12 < len(notes):
+        [name, size, kind], start = struct.unpack_from("<III", notes, place), header.address + place + 16
+        is_of_properties = (name, kind, image.content(start - 4, 4)) == (4, 5, b"GNU\0")
+        properties = image.content(start, size) if is_of_properties else b""
+        place += up(up(12 + name, 8) + size, 8)
+        if any(rest[4:5] != b"\0" for rest in properties.split(struct.pack("<I", GUARDS[image.machine]))[1:]):
             raise ValueError("calls need marks, or returns are compared with calls (BTI, IBT, SHSTK, GCS)")
-        place += 8 + up(size, 8)
 
 
 def _read_dynamic(image, header):
@@ -108,8 +110,7 @@ def _read_dynamic(image, header):
     # glibc makes the addresses in it absolute.
     if kinds != FIXED:
         image.change(header.address, len(content))
-    for name in image.names:
-        _read_exported(image, dynamic, name)
+    _read_exported(image, dynamic)
 
 
 def _read_relocations(image, dynamic):
@@ -144,42 +145,44 @@ def _read_relocations(image, dynamic):
         place += 8 * count
 
 
-def _read_exported(image, dynamic, name):
-    """Adds a function as the loader finds it, by each table of hashes. Any symbol of this name on the
-    loader's way has to be this function."""
-    def is_named(symbol):
-        [start] = image.numbers("<I", dynamic[SYMBOLS] + 24 * symbol)
-        return image.name_of(dynamic[STRINGS] + start) == name
-
-    symbols = [[*filter(is_named, walk(image, dynamic[tag], name.encode()))]
-               for tag, walk in ((HASH, _by_hash), (GNU_HASH, _by_gnu_hash)) if tag in dynamic]
-    if not any(symbols):
-        return
-    if len(symbols[0]) != 1 or symbols[0] != symbols[-1]:
-        raise ValueError(f"the loader does not find {name} in each of its tables, or finds another symbol, too")
-    [symbol] = symbols[0]
-    _, info, other, index, place, _ = image.numbers("<IBBHQQ", dynamic[SYMBOLS] + 24 * symbol)
-    is_plain = VERSIONS not in dynamic or image.numbers("<H", dynamic[VERSIONS] + 2 * symbol) == (1,)
-    if info != GLOBAL_FUNCTION or other not in (0, 3) or not 0 < index < RESERVED or not is_plain:
-        raise ValueError(f"{name} is no plain function for the loader: another kind, no section, or a version "
-                         "(by a version script or --default-symver)")
-    image.add_exported(name, place)
+def _read_exported(image, dynamic):
+    """Adds functions as the loader finds them, by each table of hashes. Any symbol of such a name on the loader's way
+    has to be this function. What has another name may be what others write."""
+    numbers_of = lambda form, symbol, offset: image.numbers(form, dynamic[SYMBOLS] + 24 * symbol + offset)
+    name_of = lambda symbol: image.name_of(dynamic[STRINGS] + numbers_of("<I", symbol, 0)[0])
+    tables = [(walk, dynamic[tag]) for tag, walk in ((HASH, _by_hash), (GNU_HASH, _by_gnu_hash)) if tag in dynamic]
+    for place, size in (numbers_of("<QQ", symbol, 8) for walk, table in tables for symbol in walk(image, table, b"")):
+        image.shared.append(range(place, place + max(size, 1)))
+    for name in image.names:
+        symbols = [[symbol for symbol in walk(image, table, name.encode()) if name_of(symbol) == name]
+                   for walk, table in tables]
+        if not any(symbols):
+            continue
+        if len(symbols[0]) != 1 or symbols[0] != symbols[-1]:
+            raise ValueError(f"the loader does not find {name} in each of its tables, or finds another symbol, too")
+        info, other, index, place = numbers_of("<BBHQ", symbols[0][0], 4)
+        is_plain = VERSIONS not in dynamic or image.numbers("<H", dynamic[VERSIONS] + 2 * symbols[0][0]) == (1,)
+        if info != GLOBAL_FUNCTION or other not in (0, 3) or not 0 < index < RESERVED or not is_plain:
+            raise ValueError(f"{name} is no plain function for the loader: another kind, no section, or a version "
+                             "(by a version script or --default-symver)")
+        image.add_exported(name, place)
 
 
 def _by_hash(image, table, name):
     """The symbols that the loader compares with a name, by DT_HASH."""
-    number, seen = 0, {0}
+    number = 0
     for byte in name:
         number = number * 16 + byte
         number = (number ^ number >> 24 & 0xF0) & 0xFFFFFFF
     buckets, _ = image.numbers("<II", table)
-    [symbol] = image.numbers("<I", table + 8 + 4 * (number % buckets))
-    while symbol not in seen:
-        yield symbol
-        seen.add(symbol)
-        [symbol] = image.numbers("<I", table + 8 + 4 * (buckets + symbol))
-    if symbol:
-        raise ValueError("a table of names that has no end")
+    for bucket in [number % buckets] if name else range(buckets):
+        [symbol], seen = image.numbers("<I", table + 8 + 4 * bucket), {0}
+        while symbol not in seen:
+            yield symbol
+            seen.add(symbol)
+            [symbol] = image.numbers("<I", table + 8 + 4 * (buckets + symbol))
+        if symbol:
+            raise ValueError("a table of names that has no end")
 
 
 def _by_gnu_hash(image, table, name):
@@ -189,16 +192,17 @@ def _by_gnu_hash(image, table, name):
         number = (number * 33 + byte) & 0xFFFFFFFF
     buckets, first, words, shift = image.numbers("<IIII", table)
     starts = table + 16 + 8 * words
-    [symbol] = image.numbers("<I", starts + 4 * (number % buckets))
-    if words & words - 1 or shift > 31 or symbol and symbol < first:
-        raise ValueError("a table of names that begins before itself, or has no known form")
     [bits] = image.numbers("<Q", table + 16 + 8 * (number // 64 & words - 1))
-    is_last = not (symbol and bits >> number % 64 & bits >> (number >> shift) % 64 & 1)
-    while not is_last:
-        [entry] = image.numbers("<I", starts + 4 * (buckets + symbol - first))
-        if (entry ^ number) >> 1 == 0:
-            yield symbol
-        is_last, symbol = entry & 1, symbol + 1
+    is_there = bits >> number % 64 & bits >> (number >> shift) % 64 & 1 or not name
+    for bucket in [number % buckets] if name else range(buckets):
+        [symbol] = image.numbers("<I", starts + 4 * bucket)
+        if words & words - 1 or shift > 31 or symbol and symbol < first:
+            raise ValueError("a table of names that begins before itself, or has no known form")
+        while symbol and is_there:
+            [entry] = image.numbers("<I", starts + 4 * (buckets + symbol - first))
+            if (entry ^ number) >> 1 == 0 or not name:
+                yield symbol
+            symbol = 0 if entry & 1 else symbol + 1
 
 
 def _read_symbols(image, data, start, count):

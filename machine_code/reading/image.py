@@ -42,8 +42,8 @@ class Image:
         # The places of functions of the library, and of what is named after one; all places with a name; and the
         # functions of the header that the loader finds.
         self.symbols, self.starts, self.exported = {}, set(), set()
-        # The places that the loader writes; and what it makes read-only afterwards.
-        self.changed, self.closed = set(), []
+        # The places that the loader writes; and what it makes read-only afterwards, or lets others find by a name.
+        self.changed, self.shared = set(), []
 
     def add_segment(self, data, address, size, offset, in_file, kind):
         if up(self.first + self.size, self.page) > address:
@@ -68,9 +68,9 @@ class Image:
         """What a loader may be asked for: the functions of the header, and what is proved in this file by its name."""
         return sorted(HEADER | self.symbols.keys())
 
-    def add_exported(self, name, place):
+    def add_exported(self, name, place, is_plain=True):
         """The loader finds a name."""
-        self.add_symbol(name, place)
+        self.add_symbol(name, place, is_plain)
         self.exported |= {name} & HEADER
 
     def change(self, place, size, kinds=(WRITTEN,)):
@@ -114,7 +114,7 @@ class Image:
         """Whether a byte may change, and is 0 at the start."""
         segment = self.segment_at(address)
         return bool(segment and segment.kind == WRITTEN and not any(self.bytes_at(address, 1, (WRITTEN,)))
-                    and address not in self.changed and not any(address in part for part in self.closed))
+                    and address not in self.changed and not any(address in part for part in self.shared))
 
     def code_at(self, address):
         """The place, and the code from there on, if it is code."""

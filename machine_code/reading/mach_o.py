@@ -28,12 +28,12 @@ BINDS = [NOTHING, NOTHING, NUMBER, NOTHING, NAME, NOTHING, NUMBER, PLACE, MOVE, 
          (0, lambda low: (1, 0, 8 * low)), TIMES]
 # Chains: no first link in a page, and the forms of links that have the distance to the next one at the same bits.
 NO_LINK, LINKS = 0xFFFF, (2, 6)
-DEBUG, TYPE, IN_SECTION, RESOLVED = 0xE0, 0xE, 0xE, 0x100  # of symbols
+DEBUG, TYPE, IN_SECTION, EXPORTED, RESOLVED = 0xE0, 0xE, 0xE, 1, 0x100  # of symbols
 # Kinds of sections: variables of threads, which dyld writes, and others that are harmless: up to GB_ZEROFILL,
-# 16BYTE_LITERALS, DTRACE_DOF, and from THREAD_LOCAL_REGULAR to INIT_FUNC_OFFSETS. In one it finds what replaces others.
-# To some, dyld or the runtime of Objective-C writes by their names.
-VARIABLES, HARMLESS_SECTIONS, REPLACING = 0x13, {*range(13), 14, 15, *range(0x11, 0x17)}, b"__interpose"
-WRITTEN_BY_NAME = b"__dyld", b"__objc_"
+# 16BYTE_LITERALS, DTRACE_DOF, and from THREAD_LOCAL_REGULAR to INIT_FUNC_OFFSETS. Some have names by which dyld, or the
+# runtime of a language, writes to them and where they say, or replaces functions.
+VARIABLES, HARMLESS_SECTIONS = 0x13, {*range(13), 14, 15, *range(0x11, 0x17)}
+REFUSED_NAMES = b"__interpose", b"__dyld", b"__program_vars", b"__objc_", b"__swift"
 
 
 def read(data):
@@ -66,9 +66,8 @@ def read(data):
         if not kind & DEBUG and kind & TYPE:
             name = data[strings + name : data.index(b"\0", strings + name)].decode()
             image.add_symbol(name.removeprefix("_"), place, kind & TYPE == IN_SECTION and not flags & RESOLVED)
-    tree = table(*commands.get(TRIE, info[8:]))
-    for name in image.names if tree else ():
-        _read_exported(image, tree, name)
+            image.shared += [range(place, place + 8)] if kind & EXPORTED else []
+    _read_exported(image, table(*commands.get(TRIE, info[8:])) or bytes(2))
     return image
 
 
@@ -85,9 +84,9 @@ def _add_segment(image, data, command):
     if kind:
         image.add_segment(data, address, in_memory, offset, in_file, kind)
     for section in range(command + 72, command + 72 + 80 * count, 80):
-        if data[section + 64] not in HARMLESS_SECTIONS or data.startswith(REPLACING, section):
-            raise ValueError("a section of a kind that is not known here, or with functions that replace others")
-        if data[section + 64] == VARIABLES or data.startswith(WRITTEN_BY_NAME, section):
+        if data[section + 64] not in HARMLESS_SECTIONS or data.startswith(REFUSED_NAMES, section):
+            raise ValueError("a section of a kind that is not known here, or by which others are written or replaced")
+        if data[section + 64] == VARIABLES:
             image.change(*struct.unpack_from("<QQ", data, section + 32), FIXED_UP)
     return address
 
@@ -141,24 +140,23 @@ def _read_chains(image, table):
                 place += distance
 
 
-def _read_exported(image, tree, name):
-    """Adds a function as the loader finds it, which takes the first branch of each node that fits."""
-    place, rest = 0, b"_" + name.encode()
-    while True:
-        size, place = _number(tree, place)
-        if size and not rest:
-            flags, place = _number(tree, place)
-            if flags:
-                raise ValueError(f"{name} is no plain function for the loader")
-            return image.add_exported(name, image.first + _number(tree, place)[0])
-        place, node = place + size + 1, None
+def _read_exported(image, tree):
+    """Adds functions as the loader finds them, by a tree in which no two branches of a node fit a name."""
+    wanted, nodes, seen = {b"_" + name.encode(): name for name in image.names}, [(0, b"")], {0}
+    for first, name in nodes:
+        size, place = _number(tree, first)
+        if size:
+            flags, start = _number(tree, place)
+            start = image.first + _number(tree, start)[0]
+            image.shared.append(range(start, start + 8))
+            if name in wanted:
+                image.add_exported(wanted[name], start, not flags)
+        place, letters = place + size + 1, {0}
         for _ in range(tree[place - 1]):
             end = tree.index(b"\0", place)
-            target, after = _number(tree, end + 1)
-            if node is None and rest.startswith(tree[place:end]):
-                node, rest = target, rest[end - place :]
-            place = after
-        # The first node is none that a branch leads to.
-        if not node:
-            return None
-        place = node
+            node, after = _number(tree, end + 1)
+            if node in seen or tree[place] in letters:
+                raise ValueError("a tree of names in which two branches fit, or lead to a node")
+            nodes.append((node, name + tree[place:end]))
+            seen.add(node)
+            letters, place = letters | {tree[place]}, after

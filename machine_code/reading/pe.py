@@ -8,10 +8,10 @@ from reading.image import AARCH64, CODE, CONSTANTS, WRITTEN, X86_64, Image, up
 
 PAGE, IN_FILE = 1 << 12, 512
 FORMS = {0x8664: (X86_64, PAGE), 0xAA64: (AARCH64, PAGE)}  # by a processor
-# Tables for the loader by their numbers: those that are read, and those that are harmless: RESOURCE, EXCEPTION,
-# CERTIFICATE, DEBUG. With others, such as a configuration, the loader writes elsewhere, too.
-EXPORTS, IMPORTS, RELOCATIONS, THREADS, ADDRESSES = READ = 0, 1, 5, 9, 12
-TABLES, HARMLESS = 16, (2, 3, 4, 6)
+# Tables for the loader by their numbers: those that are read, and harmless ones: RESOURCE, EXCEPTION, CERTIFICATE; and
+# entries of DEBUG: CODEVIEW, VC_FEATURE, POGO, ILTCG, REPRO. With others, the loader writes elsewhere, or does more.
+EXPORTS, IMPORTS, RELOCATIONS, DEBUG, THREADS, ADDRESSES = READ = 0, 1, 5, 6, 9, 12
+TABLES, HARMLESS, HARMLESS_ENTRIES = 16, (2, 3, 4), {2, 12, 13, 14, 16}
 # What a section is, by its flags without those that mean nothing here: what it has, and how it was aligned. In others
 # nothing is known.
 KINDS = {0x60000000: CODE, 0x40000000: CONSTANTS, 0xC0000000: WRITTEN, 0xC0000080: WRITTEN}
@@ -56,6 +56,10 @@ def read(data):
     _read_imports(image, tables[IMPORTS][0])
     if tables[ADDRESSES][0]:
         image.change(*tables[ADDRESSES], ALL)
+    debug, size = tables[DEBUG]
+    kinds = {image.numbers("<I", entry + 12, ALL)[0] for entry in range(debug, debug + size, 28)}
+    if not kinds <= HARMLESS_ENTRIES or data.startswith(b"Wine ", 64):
+        raise ValueError("calls may be compared with returns (CET), or Wine may load another file by this name")
     _read_symbols(image, data, symbols, symbols_count, [section[2] for section in sections])
     _read_exports(image, *tables[EXPORTS])
     return image
@@ -113,9 +117,7 @@ def _read_exports(image, address, size):
         if name in wanted:
             # One in the table itself is the name of a function of another file.
             [place] = image.numbers("<I", places + 4 * number)
-            if number >= limit or address <= place < address + size:
-                raise ValueError(f"{name} is no plain function for the loader")
-            image.add_exported(name, place)
+            image.add_exported(name, place, number < limit and not address <= place < address + size)
 
 
 def _read_symbols(image, data, start, count, sections):

@@ -7,7 +7,7 @@ import unittest
 from execution import proofs
 from reading import elf, library
 from solver.questions import Refused
-from tests.library import AARCH64, Elf, add_tests, needs_aarch64, put, shared
+from tests.library import AARCH64, Elf, add_tests, put, shared
 
 
 def said(data, symbol):
@@ -122,9 +122,10 @@ VERSION, CHECK, FILL = "const_hex_version", "const_hex_kernel_check", "const_hex
 CLOSED, KNOWN, PLACES = "is no part of a segment", "twice or not known here", "another kind, or has two places"
 START, TWO, SAID = "start of the first segment", "another size, or in two segments", "PT_PHDR is missing, or"
 OTHERS, PARTS, CONSTANT = "other flags than its segment", "a table of relocations without", "what must not be written"
-NOTE, NOWHERE, NO_FORM, FIND = "a note of properties", "is written, or nowhere", "no known form", "does not find"
+NOTE, NOWHERE, NO_FORM, FIND = "notes that are others", "is written, or nowhere", "no known form", "does not find"
 OBJECT, TABLES, OWN, NOTHING = "no library and no program", "in each of its tables", "its own table", "where nothing is"
-PAGE, RELRO, EARLIER, STACK = 1 << 12, 0x6474E552, lambda old: old - PAGE, lambda file: file.header(0x6474E551)[0]
+PAGE, RELRO, PROPERTIES, EARLIER = 1 << 12, 0x6474E552, 0x6474E553, lambda old: old - PAGE
+NOTES, STACK, MARKS = lambda file: file.header(4)[0], lambda file: file.header(0x6474E551)[0], "calls need marks"
 # What is forged in the bytes of a right library, how, of which function, and what the tool says.
 CHANGED = [
     ("nothing", lambda file: None, "const_hex_decode", "accepted"),
@@ -137,6 +138,7 @@ CHANGED = [
     ("a segment larger than in memory", segment(5, in_memory=1), "", "larger in the file"),
     ("a segment with random bytes", put("<I", STACK, 0x65A3DBE6), "", "a header of the kind 0x65a3dbe6"),
     ("a second table for the loader", put("<I", STACK, 2), "", "a header of the kind 0x2, twice"),
+    ("other notes in the file", segment(4, 4, in_file=0), "", NOTE),
     ("headers that are not in memory", segment(4, in_file=64), "", START),
     ("headers in memory from elsewhere in the file", first_from_elsewhere, "", START),
     ("headers of another size", put("<H", 54, 64), "", TWO),
@@ -220,8 +222,9 @@ CHANGED_MORE = [
      WRITTEN),
     ("what is bound later is written over names", "later", tag(10, 0x6FFFFEF7, -8), "", CONSTANT),
     ("what is bound later is written over the table", "later", tag(3, lambda file: file.header(2)[4]), "", OWN),
-    ("other properties in the file", "marks", segment(4, 0x6474E553, in_file=0), "", NOTE),
-    ("two notes of properties", "marks", put("<I", lambda file: file.header(0x6474E553)[3] + 4, 0), "", NOTE),
+    ("marks that are only in a note", "marks", put("<I", lambda file: file.header(PROPERTIES)[0], 0), "", MARKS),
+    ("marks beyond the end of notes", "marks", lambda file: (
+        put("<I", NOTES, 0)(file), segment(4, PROPERTIES, in_file=13, in_memory=13)(file)), "", MARKS),
     ("packed relocations", "packed", lambda file: None, CHECK, "accepted"),
     ("a packed relocation of the choice", "packed", packed(0, 1, 1), CHECK, WRITTEN),
     ("a packed bit for the choice", "packed", packed(-8, 3, 1), CHECK, WRITTEN),
@@ -230,7 +233,7 @@ CHANGED_MORE = [
 C, DISPATCH, FALSE = "functions_x86_64", "dispatch", "mov $1, %eax; ret"
 SCRIPT, OTHER = "-Wl,--version-script=/dev/stdin", ".globl other; .type other, @function; other: ret"
 HIDDEN, WRONG = "hidden SYMBOL(const_hex_check_nonnull)", "is left out|must|head of a loop|a register|an address"
-END = f"\tend SYMBOL({VERSION})"
+END, OF_OTHERS = f"\tend SYMBOL({VERSION})", ".globl optind; .set optind, choice; .type optind"
 # What is linked, and of which function: options, lines of files that have another text, more of a source, and a script.
 LINKED = [
     ("a function that others may replace", "const_hex_check", [],
@@ -247,6 +250,10 @@ LINKED = [
      [(DISPATCH, "variable choice", ".section .data.choice, \"aw\"; choice: .byte 2")], "", "", WRITTEN),
     ("a choice in the loader's table", CHECK, ["-Wl,-z,norelro"],
      [(DISPATCH, "variable choice", ".hidden _DYNAMIC; .set choice, _DYNAMIC + 7")], "", "", WRITTEN),
+    ("a choice that is a variable of others", CHECK, [],
+     [(DISPATCH, "variable choice", f"variable choice; {OF_OTHERS}, %object; .size optind, 4")], "", "", WRITTEN),
+    ("a choice that is a place of others", CHECK, ["-Wl,--hash-style=sysv"],
+     [(DISPATCH, "variable choice", f"variable choice; {OF_OTHERS}, %notype")], "", "", WRITTEN),
     ("a version of another function", "", [SCRIPT], [],
      f".globl other; .symver other, {VERSION}@V1; .type other, @function; other: {FALSE}",
      "V1 {}; V2 { const_hex_*; };", "or a version"),
@@ -257,11 +264,12 @@ LINKED = [
     ("two files that it needs", VERSION, ["-Wl,--no-as-needed", "-lc", "-lm"], [], "", "", "accepted"),
     ("functions of another file", "", ["-Wl,-F,other.so"], [], "", "", KNOWN),
     ("no names", "", ["-Wl,-s"], [], "", "", "it is stripped"),
-    ("calls that need marks", "", ["-Wl,-z,ibt"], [], "", "", "calls need marks"),
-    ("returns that are compared with calls", "", ["-Wl,-z,shstk"], [], "", "", "calls need marks"),
+    ("calls that need marks", "", ["-Wl,-z,ibt"], [], "", "", MARKS),
+    ("returns that are compared with calls", "", ["-Wl,-z,shstk"], [], "", "", MARKS),
 ]
 # On AArch64, where a system may have pages of 64 KB.
 OF_AARCH64 = [
+    ("calls that need marks", "marks_in_aarch64", lambda file: None, "", MARKS),
     ("code that is not aligned", "in_aarch64", value(2, VERSION), VERSION, ENDS),
     ("a relative relocation", "in_aarch64", relocation(1027, "more", 1), "", "accepted"),
     ("a relocation that counts as relative", "in_aarch64", relocation(0, "more", 1), "", "fewer than 1 relative"),
@@ -271,16 +279,13 @@ OF_AARCH64 = [
 
 class TestElf(unittest.TestCase):
     def refuse(self, build, change, symbol, wanted):
-        file = Elf(BUILDS.get(build) or shared(more=DATA, compiler=AARCH64))
+        options = ["-Wl,-z,force-bti"] if build == "marks_in_aarch64" else []
+        file = Elf(BUILDS.get(build) or shared(*options, more=DATA, compiler=AARCH64))
         change(file)
         self.assertRegex(said(bytes(file), symbol), wanted)
 
     def refuse_linked(self, symbol, options, changes, more, script, wanted):
         self.assertRegex(said(shared(*options, changes=changes, more=more, script=script), symbol), wanted)
-
-    @needs_aarch64
-    def test_calls_that_need_marks_aarch64(self):
-        self.assertRegex(said(shared("-Wl,-z,force-bti", compiler=AARCH64), ""), "calls need marks")
 
 
 add_tests(TestElf, TestElf.refuse, [*((what, "plain", *row) for what, *row in CHANGED), *CHANGED_MORE, *OF_AARCH64])

@@ -9,14 +9,14 @@ import subprocess
 import tempfile
 import unittest
 
-from reading import image, library
+from reading import image, library, mach_o
 from tests.library import ASM, MODULE, RUST, File, add_tests, assembled_module, needs_module, put
 
 MINGW, LLD = "x86_64-w64-mingw32-gcc", next(map(str, pathlib.Path("/usr/lib").glob("llvm-*/bin/ld64.lld")), "ld64.lld")
 NAMES = sorted(image.HEADER)
 FILL, CONSTANT_OF_FILL = "const_hex_1_0_0_fill_v2", "const_hex_1_0_0_constant_4_v2"
 NO_CONSTANT, NO_CODE, NO_CHOICE = "no constant", "no code", "no byte that is kept"
-NOWHERE, NO_FORM, PLAIN = "is written, or nowhere", "no library and no program", "is no plain function"
+NOWHERE, NO_FORM, BRANCHES = "is written, or nowhere", "no library and no program", "in which two branches fit"
 OTHER_KIND, MUST_NOT = "is a symbol of another kind, or has two places", "what must not be written"
 
 
@@ -162,13 +162,18 @@ PES = [
     ("a number for threads in a file that is not moved", lambda file: NOT_RELOCATED(file) or NOT_MOVED(file), "accepted"),
     ("a number for threads where an import says in a file that is not moved",
      lambda file: imported(THREADS)(file) or NOT_RELOCATED(file) or NOT_MOVED(file), "twice"),
+    *((f"a table for debuggers with an entry of the kind {kind}", lambda file, kind=kind: (
+        put("<II", file.table(6), 4096, 28)(file), put("<I", file.numbers("<I", file.section(".text") + 20)[0] + 12,
+                                                       kind)(file)), wanted)
+      for kind, wanted in ((20, "compared with returns"), (2, "accepted"))),
+    ("a file for which Wine may load another one", put("<16s", 64, b"Wine builtin DLL"), "Wine may load another"),
     ("no imports", put("<II", lambda file: file.table(1), 0, 0), "accepted"),
     ("imports over zeros", imported(CONSTANT_OF_FILL, zeros=16), NO_CONSTANT),
     ("imports without names", imported(CONSTANT_OF_FILL, names=0), NO_CONSTANT),
     ("imports in two sections", lambda file: (section(".xdata", 8, lambda old: 4096)(file),
                                               put("<I", content(1, 16), place_of(file, ".bss") - 8)(file)), MUST_NOT),
     ("addresses of imports in two sections", put("<I", lambda file: file.table(12) + 4, 8192), MUST_NOT),
-    ("functions beyond their table", put("<I", content(0, 20), 0), PLAIN),
+    ("functions beyond their table", put("<I", content(0, 20), 0), OTHER_KIND),
     ("an absolute name", put("<h", lambda file: file.symbol(FILL) + 12, -1), OTHER_KIND),
     ("a name of another kind", put("<B", lambda file: file.symbol(FILL) + 16, 104), OTHER_KIND),
     ("another form of programs", head("<2s", 0, b"NE"), NO_FORM),
@@ -178,7 +183,7 @@ PES = [
     ("a name twice", put("<I", names(), number_at(names(4))), "not sorted"),
     ("a name that is relocated", base_relocation(number_at(names()), 12), NOWHERE),
     ("a name that is missing", put("<I", content(0, 24), 9), "does not find const_hex_version"),
-    ("a function of another file", put("<I", EXPORTED, lambda file: file.numbers("<I", file.table(0))[0] + 40), PLAIN),
+    ("a function of another file", put("<I", EXPORTED, lambda file: place_of(file, ".edata") + 40), OTHER_KIND),
     ("another function by a name", put("<I", EXPORTED, 4096), OTHER_KIND),
 ]
 
@@ -222,7 +227,7 @@ def linked_for_macos(processor):
     files = {"x86_64": ("dispatch", "functions_x86_64", "kernel_x86_64_v2", "kernel_x86_64_v3"),
              "arm64": ("dispatch", "functions_aarch64", "kernel_aarch64")}[processor]
     with tempfile.TemporaryDirectory() as folder:
-        more = ".data\n.quad _const_hex_decode\n.zerofill __DATA, __bss, _more, 64, 3\n"
+        more = ".globl _shown\n.data\n_shown: .quad _const_hex_decode\n.zerofill __DATA, __bss, _more, 64, 3\n"
         pathlib.Path(folder, "more.s").write_text(more)
         for source in [*(ASM / f"{name}.S" for name in files), "more.s"]:
             subprocess.run(["clang", f"--target={processor}-apple-macos11", "-c", source], check=True, cwd=folder)
@@ -266,36 +271,19 @@ def chain(place, form=6, flag=0, again=0):
     return changed
 
 
-def tree(change):
-    """The tree of names has one branch for each, as an edge and what stands in its node, of which some are changed."""
-
-    def changed(file):
-        # dyld takes the first edge that fits, so a name stands before its beginning.
-        edges = [(name, bytes([4, 0, place & 127 | 128, place >> 7 & 127 | 128, place >> 14]))
-                 for name, place in ((f"_{name}", file.value(f"_{name}")) for name in reversed(NAMES))]
-        change(edges)
-        content, nodes = bytes([0, len(edges)]), sum(len(name) + 3 for name, _ in edges) + 2
-        for name, node in edges:
-            content += name.encode() + (bytes([0, nodes & 127 | 128, nodes >> 7]) if node else b"\0\x80\0")
-            nodes += len(node) + bool(node)
-        content += b"".join(node + b"\0" for _, node in edges if node)
-        file.put("<II", file.commands(0x80000022)[0] + 40, *file.append(content))
-
-    return changed
+def edge(name, more=0):
+    """Where the tree of names has the last letters of one, and then where its node begins."""
+    return lambda file: file.index(name.encode() + b"\0", TREE(file)) + more
 
 
-def first_node(change):
-    """Another node at the end of the first branch."""
-    return tree(lambda edges: edges.__setitem__(0, (edges[0][0], change(*(node for _, node in edges[:2])))))
-
-
-def to_nothing(node):
-    """The first branch that fits has none of the rest, which another one has."""
-    return tree(lambda edges: edges.append(("ersion", edges[0][1])) or edges.insert(0, ("_const_hex_v", node)))
+def node(name, more=0):
+    """Where the tree has what a name stands for: how long that is, flags, and a place."""
+    return lambda file: TREE(file) + mach_o._number(file, edge(name, len(name) + 1)(file))[0] + more
 
 
 VERSION, TABLES, NOT_FOUND = "_const_hex_version", "neither INFO, nor", "does not find const_hex_version"
-REPLACE, PAGES, FUNCTION_STARTS = "that replace others", "no whole pages", lambda file: file.commands(0x26)[0]
+REPLACE, PAGES, FUNCTION_STARTS = "written or replaced", "no whole pages", lambda file: file.commands(0x26)[0]
+TREE = lambda file: file.numbers("<I", file.commands(0x80000022)[0] + 40)[0]
 # For x86-64, if nothing else is said.
 MACH_OS = [
     ("nothing", lambda file: None, "accepted"),
@@ -309,8 +297,8 @@ MACH_OS = [
     ("tables for dyld that are written", lambda file: file.append(bytes(-len(file) % 4096)) and segment(
         "__LINKEDIT", 56, "<II", 3, 3)(file), NOWHERE),
     ("functions that replace others", segment("__DATA", 136, "<B", 13), REPLACE),
-    ("a name of those that replace others", segment("__DATA", 72, "<16s", b"__interpose"), REPLACE),
-    ("a choice where dyld writes", segment("__DATA", 152, "<16s", b"__dyld"), NO_CHOICE),
+    *((f"a section by the name {name}", segment("__DATA", 72, "<16s", name.encode()), REPLACE)
+      for name in ("__interpose", "__dyld", "__program_vars", "__objc_classlist", "__swift5_types")),
     ("a choice in a variable of threads", segment("__DATA", 216, "<B", 0x13), NO_CHOICE),
     ("code that can be written", segment("__TEXT", 56, "<II", 7, 7), "a segment that is 7"),
     ("code that is encrypted", segment("__TEXT", 68, "<I", 8), "a segment that is 5, 8"),
@@ -338,19 +326,22 @@ MACH_OS = [
     ("a link that is written before", chain("choice", again=16), NOWHERE),
     ("a page without a chain", chain("choice", flag=0xFFFF), "accepted"),
     ("many chains in a page", chain("choice", flag=0x8000), "of a form that is not known"),
-    ("a tree of names", tree(lambda edges: None), "accepted"),
-    ("a branch to nothing", to_nothing(b"\0"), NOT_FOUND),
-    ("a branch to the first node", to_nothing(b""), NOT_FOUND),
-    ("a branch without a function", first_node(lambda node, other: b"\0"), NOT_FOUND),
-    ("a branch that is missing", tree(lambda edges: edges.pop(0)), NOT_FOUND),
-    ("a function of another library", first_node(lambda node, other: node[:1] + b"\x08" + node[2:]), PLAIN),
-    ("another function in the tree", first_node(lambda node, other: other), OTHER_KIND),
+    ("a branch to the first node", put("<B", edge("version", 8), 0), BRANCHES),
+    ("two branches that fit", put("<B", edge("version"), ord("e")), BRANCHES),
+    ("a branch that fits all", put("<B", edge("version"), 0), BRANCHES),
+    ("a branch without a function", put("<B", node("version"), 0), NOT_FOUND),
+    ("a branch that is missing", put("<B", edge("version"), ord("x")), NOT_FOUND),
+    ("a function of another library", put("<B", node("version", 1), 8), OTHER_KIND),
+    ("another function in the tree", put("<B", node("version", 2), 128), OTHER_KIND),
+    ("a choice in the tree", put("<B", node("shown", 2), lambda file: file.value("choice") & 127 | 128), NO_CHOICE),
+    ("a choice that others see", put("<B", lambda file: file.symbol("choice") + 4, 15), NO_CHOICE),
     ("a name for a debugger", symbol("<B", 4, 0x24), "accepted"),
     ("a name from elsewhere", symbol("<B", 4, 1), "accepted"),
     ("a name that is picked", symbol("<H", 6, 0x100), OTHER_KIND),
     ("an absolute name", symbol("<B", 4, 3), OTHER_KIND),
     ("another function by a name", symbol("<Q", 8, lambda file: file.value("_const_hex_check")), OTHER_KIND),
 ]
+MEMORY = '(export "memory" (memory 0))'
 # What a module has beside the package's functions.
 MODULES = [
     ("a function that is exported", '(export "const_hex_version" (func 1))', "the export 'const_hex_version'"),
@@ -363,7 +354,8 @@ MODULES = [
     ("another function by a name", ('"const_hex_decoder_finish" (func 8)', '"const_hex_decoder_finisi" (func 8)'),
      "the export 'const_hex_decoder_finis"),
     ("an import", ("(module\n", '(module (import "js" "table" (table 1 funcref))\n'), "not known here: (import"),
-    ("no memory", ('(export "memory" (memory 0))', ""), "the export 'memory'"),
+    ("a function by the name of the memory", (MEMORY, '(export "memory" (func 9))'), "not known here: (export"),
+    ("no memory", (MEMORY, ""), "the export 'memory'"),
     ("a memory that grows", ("(memory (;0;) 1 1)", "(memory (;0;) 1 2)"), "not known here: (memory"),
 ]
 
