@@ -1,4 +1,4 @@
-"""Runs the tests of the tool, or, from the folder `solver`, those of proofs: `python3 machine_code/tests [NAME..]`, where
+"""Runs the tests of the tool, or, from the folder `solver`, of proofs: `python3 machine_code/tests [NAME..]`, where
 a name is a part of a test's."""
 
 import pathlib

@@ -159,7 +159,7 @@ PES = [
     ("a number for threads at an unknown place", base_relocation(THREADS, 4), "twice"),
     ("a number for threads where an import says", imported(THREADS), "twice"),
     ("a number for threads that is not relocated", NOT_RELOCATED, "that is not relocated"),
-    ("a number for threads in a file that is not moved", lambda file: NOT_RELOCATED(file) or NOT_MOVED(file), "accepted"),
+    ("a number for threads in a file that stays", lambda file: NOT_RELOCATED(file) or NOT_MOVED(file), "accepted"),
     ("a number for threads where an import says in a file that is not moved",
      lambda file: imported(THREADS)(file) or NOT_RELOCATED(file) or NOT_MOVED(file), "twice"),
     *((f"a table for debuggers with an entry of the kind {kind}", lambda file, kind=kind: (
