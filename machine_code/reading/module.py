@@ -66,7 +66,7 @@ def _add(module, part):
     elif fields := re.search(r"^\(global .*\((i\d\d)\.const (-?\d+)\)\)$", part):
         module.mutable |= {len(module.globals)} if "(mut " in part else set()
         module.globals.append(int(fields[2]) % (1 << 8 * SIZES[fields[1]]))
-    elif fields := re.fullmatch(r'\(export "(const_hex_\w+)" \(func (\d+)\)\)', part):
+    elif fields := re.fullmatch(r'\(export "(?!memory"|__)(\w+)" \(func (\d+)\)\)', part):
         module.symbols[fields[1]] = module.functions[int(fields[2])].address
         module.exported.add(fields[1])
     elif fields := re.fullmatch(r'\(export "(__\w+)" \(global (\d+)\)\)', part):
