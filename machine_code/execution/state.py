@@ -150,7 +150,7 @@ class State:
         return [fact for condition in self.contract.valid(self) for fact in facts_of(condition)]
 
     def either(self, condition, one, other, is_asked=False):
-        """The first of two terms where a condition holds, else the second: just that one, if it is known which."""
+        """The first of two terms where a condition holds, else the second; that one alone, if it is asked and known."""
         if is_asked or is_public(condition):
             for term, way in (one, condition), (other, z3.Not(condition)):
                 if self.holds(way):
