@@ -1,17 +1,21 @@
-//! The kernel that the functions for C call.
+//! The kernel of the functions for C and of the Rust crate in `rust/`, which take the machine code of
+//! these functions.
 //!
-//! `c/asm/freeze` leaves the code of its functions out of what it writes for C. There they are those of
-//! `const_hex_rust`, among which `c/asm/dispatch.S` chooses on x86-64.
+//! `c/asm/freeze` writes what `rt` makes of `fill`, `check` and `read`, for AArch64 of `interleaved_fill`,
+//! `check` and `interleaved_read`. They require that the lengths fit, which
+//! their callers make sure of, and which registers hold their arguments is left to the compiler:
+//! `machine_code` proves their code with the arguments where `rust/src/kernel/machine_code.rs` passes them.
 
 ghost use Rattle.std.specs.Prelude.{◌≡◌, ◌*◌, ◌↔◌, IsTrue, false, length};
 ghost use Rattle.const_hex.specs.Texts.{hex_text, AllDigits, Spells, Partial};
 
 use const_hex::{FixedKernel, Kernel};
+use const_hex_arch::Interleaved;
 
-/// Its `fill`, `check` and `decode_checked` are each one call of a function below.
-pub(crate) struct Called;
+/// The kernel whose `fill`, `check` and `decode_checked` are each one call of a function below.
+pub(crate) struct Linked;
 
-impl Kernel for Called {
+impl Kernel for Linked {
     ghost USE_CHECK_FN = { false };
 
     const USE_CHECK_FN: bool = false;
@@ -67,4 +71,37 @@ fn read(text: &[u8], bytes: &mut [u8]) -> bool
     ensures refused { result ≡ false → Partial bytes.old text.now bytes.new }
 {
     FixedKernel::decode_all(text, bytes)
+}
+
+/// As `fill`, for AArch64.
+#[inline(never)]
+fn interleaved_fill(bytes: &[u8], upper: bool, text: &mut [u8])
+    requires { length text.old ≡ 2 * length bytes.now }
+    ensures { text.new ≡ hex_text upper bytes.now }
+{
+    Interleaved::fill(bytes, upper, text);
+}
+
+/// As `read`, for AArch64.
+#[inline(never)]
+fn interleaved_read(text: &[u8], bytes: &mut [u8]) -> bool
+    requires { length text.now ≡ 2 * length bytes.old }
+    ensures spells { IsTrue result → Spells text.now bytes.new }
+    ensures refused { result ≡ false → Partial bytes.old text.now bytes.new }
+{
+    Interleaved::decode_all(text, bytes)
+}
+
+/// Writes the text of the bytes and decodes it again, if the lengths fit, and returns whether they do. No header has it:
+/// `rt` compiles `interleaved_fill` and `interleaved_read` only because an exported function calls them.
+#[unsafe(no_mangle)]
+pub extern "C" fn const_hex_interleaved(bytes: &mut [u8], upper: bool, text: &mut [u8]) -> bool
+    ensures fits { IsTrue result → length text.old ≡ 2 * length bytes.old }
+    ensures text { IsTrue result → text.new ≡ hex_text upper bytes.old }
+{
+    if text.len() % 2 != 0 || bytes.len() != text.len() / 2 {
+        return false;
+    }
+    interleaved_fill(bytes, upper, text);
+    interleaved_read(text, bytes)
 }

@@ -28,7 +28,7 @@ mod message;
 pub use crate::error::HexError;
 use crate::error::{INVALID_LENGTH, NO_MEMORY, ODD_LENGTH};
 use crate::flags::{are_flags, clear, end_text, has_prefix, is_upper, length_of, size_beside};
-use crate::kernel::Called;
+use crate::kernel::Linked;
 use crate::message::{LONGEST, write_ended};
 use const_hex::{Decoder, Kernel};
 
@@ -73,7 +73,7 @@ pub extern "C" fn const_hex_encode(bytes: &[u8], text: &mut [u8], flags: u32) ->
     match length_of(flags, bytes.len()) {
         Some(length) if end_text(text, length, flags) => {
             let (prefix, upper) = (has_prefix(flags), is_upper(flags));
-            const_hex::fill_text::<Called>(bytes, prefix, upper, &mut text[..length]);
+            const_hex::fill_text::<Linked>(bytes, prefix, upper, &mut text[..length]);
             true
         }
         _ => {
@@ -117,7 +117,7 @@ pub extern "C" fn const_hex_decode_nonnull(
         → StandsFor error.new (λ e. LeavesOutput text.now bytes.old bytes.new e) }
     ensures none { result ≡ false → written.new ≡ 0 }
 {
-    match const_hex::decode_to_front_with::<Called>(text, bytes) {
+    match const_hex::decode_to_front_with::<Linked>(text, bytes) {
         Ok(count) => {
             *written = count;
             true
@@ -152,7 +152,7 @@ pub extern "C" fn const_hex_decode_exact_nonnull(
     ensures after_error { result ≡ false
         → StandsFor error.new (λ e. LeavesOutput text.now bytes.old bytes.new e) }
 {
-    match const_hex::decode_to_slice_with::<Called>(text, bytes) {
+    match const_hex::decode_to_slice_with::<Linked>(text, bytes) {
         Ok(()) => true,
         Err(reason) => {
             *error = HexError::from(reason);
@@ -215,7 +215,7 @@ pub extern "C" fn const_hex_decoder_update_nonnull(
         × (decoder.new ≡ decoder.old) × (bytes.new ≡ bytes.old)) }
     ensures none { result ≡ false → written.new ≡ 0 }
 {
-    match decoder.decode_with::<Called>(text, bytes) {
+    match decoder.decode_with::<Linked>(text, bytes) {
         Ok(more) => {
             *written = more;
             true
@@ -271,7 +271,7 @@ pub extern "C" fn const_hex_check_nonnull(text: &[u8], error: &mut HexError) -> 
     ensures kept { IsTrue result → error.new ≡ error.old }
     ensures err { result ≡ false → StandsFor error.new (λ e. Reads text.now (Err e)) }
 {
-    match const_hex::check_with::<Called>(text) {
+    match const_hex::check_with::<Linked>(text) {
         Ok(()) => true,
         Err(reason) => {
             *error = HexError::from(reason);
@@ -290,7 +290,7 @@ pub extern "C" fn const_hex_check_nonnull(text: &[u8], error: &mut HexError) -> 
 pub extern "C" fn const_hex_check_raw(text: &[u8]) -> bool
     ensures { IsTrue result ↔ AllDigits text.now }
 {
-    Called::check(text)
+    Linked::check(text)
 }
 
 /// Writes the message of an error and a NUL, and returns the number of bytes before the NUL. The rest of
