@@ -3,7 +3,7 @@
 ghost use Rattle.std.specs.Prelude.{false};
 
 use crate::arch::Kernel;
-use crate::tables::{NIL, digits_at, pair_at, value_at};
+use crate::tables::{NIL, digits_at, value_at};
 
 /// A kernel that works byte by byte, with tables in memory.
 ///
@@ -12,10 +12,23 @@ use crate::tables::{NIL, digits_at, pair_at, value_at};
 /// assert!(rt; !Plain::decode_checked(b"6bzz", &mut bytes));
 /// assert_eq!(rt; bytes, [0x6b, 0]);
 /// ```
-#[derive(Drop)]
-pub struct Plain;
+pub type Plain = ByteByByte<true>;
 
-impl Kernel for Plain {
+/// As [`Plain`], but it encodes digit by digit, so it needs no table of pairs: less data, and more
+/// instructions.
+///
+/// ```rust
+/// let mut text = [0; 4];
+/// Compact::fill(b"ki", false, &mut text);
+/// assert_eq!(rt; text, *b"6b69");
+/// ```
+pub type Compact = ByteByByte<false>;
+
+/// [`Plain`], or without `PAIRS` [`Compact`].
+#[derive(Drop)]
+pub struct ByteByByte<const PAIRS: bool>;
+
+impl<const PAIRS: bool> Kernel for ByteByByte<PAIRS> {
     ghost USE_CHECK_FN = { false };
 
     const USE_CHECK_FN: bool = false;
@@ -27,7 +40,7 @@ impl Kernel for Plain {
     #[inline(always)]
     fn fill(input: &[u8], upper: bool, output: &mut [u8]) {
         for i in 0..input.len() {
-            output[2 * i..2 * i + 2].copy_from_slice(&pair_at(upper, input[i]));
+            output[2 * i..2 * i + 2].copy_from_slice(&digits_at::<PAIRS>(upper, input[i]));
         }
     }
 
@@ -63,48 +76,5 @@ impl Kernel for Plain {
         for i in 0..output.len() {
             output[i] = value_at(input[2 * i]) * 16 + value_at(input[2 * i + 1]);
         }
-    }
-}
-
-/// As [`Plain`], but it encodes digit by digit, so it needs no table of pairs: less data, and more
-/// instructions.
-///
-/// ```rust
-/// let mut text = [0; 4];
-/// Compact::fill(b"ki", false, &mut text);
-/// assert_eq!(rt; text, *b"6b69");
-/// ```
-#[derive(Drop)]
-pub struct Compact;
-
-impl Kernel for Compact {
-    ghost USE_CHECK_FN = { false };
-
-    const USE_CHECK_FN: bool = false;
-
-    ghost PIECE = { 1 };
-
-    const PIECE: usize = 1;
-
-    #[inline(always)]
-    fn fill(input: &[u8], upper: bool, output: &mut [u8]) {
-        for i in 0..input.len() {
-            output[2 * i..2 * i + 2].copy_from_slice(&digits_at(upper, input[i]));
-        }
-    }
-
-    #[inline(always)]
-    fn check(input: &[u8]) -> bool {
-        Plain::check(input)
-    }
-
-    #[inline(always)]
-    fn decode_checked(input: &[u8], output: &mut [u8]) -> bool {
-        Plain::decode_checked(input, output)
-    }
-
-    #[inline(always)]
-    fn decode_unchecked(input: &[u8], output: &mut [u8]) {
-        Plain::decode_unchecked(input, output);
     }
 }

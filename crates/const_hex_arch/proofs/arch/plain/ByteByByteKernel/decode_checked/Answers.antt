@@ -5,18 +5,19 @@ use Rattle.std.proofs.lemmas.Nat.{le_or_l, le_or_r}
 use Rattle.const_hex_arch.proofs.lemmas.Digits.{digit_small, two_digits}
 use Rattle.const_hex_arch.proofs.lemmas.LeftOutputs.{refused_joint}
 use Rattle.const_hex_arch.proofs.lemmas.MorePairs.{pair_more}
-use Rattle.const_hex_arch.proofs.arch.plain.PlainKernel.decode_checked.Goals as goal
-use Rattle.const_hex_arch.proofs.arch.plain.PlainKernel.decode_checked.Goals.{Else-high-low-ge128}
+use Rattle.const_hex_arch.proofs.arch.plain.ByteByByteKernel.decode_checked.Goals as goal
+use Rattle.const_hex_arch.proofs.arch.plain.ByteByByteKernel.decode_checked.Goals.{Else-high-low-ge128}
+use Rattle.const_hex_arch.proofs.arch.plain.ByteByByteKernel.decode_checked.Given.{Over}
 
 pub returns-then-high-low-ge128-clause-refused : goal.returns-then-high-low-ge128-clause-refused
-returns-then-high-low-ge128-clause-refused c = λ _.
+returns-then-high-low-ge128-clause-refused g c = λ _.
     let whole = take_all c.saturating_mul.result c.args.input.now (omega arith) in
     refused_joint c.args.output.now c.args.input.now c.loop-i.output c.loop-i.i _ _ c.loop-i.invariant.front
     c.loop-i.invariant.rest (omega arith) (omega arith) (rw whole at c.value_at-high.ensures)
     (rw whole at c.value_at-low.ensures) (omega (arith, c.if-high-low-ge128.true))
 
-small : (c : Else-high-low-ge128) → (c.value_at-high.result < 16) × (c.value_at-low.result < 16)
-small c =
+small : (g : Over) → (c : Else-high-low-ge128 g) → (c.value_at-high.result < 16) × (c.value_at-low.result < 16)
+small g c =
     let whole = take_all c.saturating_mul.result c.args.input.now (omega arith) in
     let first = get_or c.args.input.now (2 * c.loop-i.i) 0 in
     let second = get_or c.args.input.now (2 * c.loop-i.i + 1) 0 in
@@ -26,13 +27,13 @@ small c =
     (digit_small first _ high digits.0, digit_small second _ low digits.1)
 
 pub overflow_mul-output : goal.overflow_mul-output
-overflow_mul-output c = omega (arith, (small c).0)
+overflow_mul-output g c = omega (arith, (small g c).0)
 
 pub overflow_add-output : goal.overflow_add-output
-overflow_add-output c = omega (arith, small c)
+overflow_add-output g c = omega (arith, small g c)
 
 pub loop-i-preserved : goal.loop-i-preserved
-loop-i-preserved c =
+loop-i-preserved g c =
     let i = c.loop-i.i in
     let whole = take_all c.saturating_mul.result c.args.input.now (omega arith) in
     let high = le_or_l c.value_at-high.result c.value_at-low.result in

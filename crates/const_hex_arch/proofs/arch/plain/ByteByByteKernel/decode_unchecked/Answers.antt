@@ -1,10 +1,10 @@
 use Rattle.std.proofs.Common.{◌*◌, ◌+◌, sym, ◌∙◌, arith}
 use Rattle.const_hex_arch.proofs.lemmas.DigitTexts.{digit_values}
 use Rattle.const_hex_arch.proofs.lemmas.MorePairs.{pair_more}
-use Rattle.const_hex_arch.proofs.arch.plain.PlainKernel.decode_unchecked.Goals as goal
+use Rattle.const_hex_arch.proofs.arch.plain.ByteByByteKernel.decode_unchecked.Goals as goal
 
 pub loop-i-preserved : goal.loop-i-preserved
-loop-i-preserved c =
+loop-i-preserved g c =
     let i = c.loop-i.i in
     let u = c.args.input.now in
     let high = c.value_at.ensures in

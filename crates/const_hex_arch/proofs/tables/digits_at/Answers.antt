@@ -2,7 +2,7 @@ use Rattle.std.proofs.Common.{◌≡◌, ℕ, ◌+◌, ◌*◌, ◌/◌, ◌%◌
 use Rattle.const_hex_arch.specs.Texts.{hex_digit}
 use Rattle.const_hex_arch.specs.declared.tables.TheConstants.{PAIRS_LOWER, PAIRS_UPPER}
 use Rattle.const_hex_arch.proofs.lemmas.Tables.{same_below}
-use Rattle.const_hex_arch.proofs.tables.pair_at.Goals as goal
+use Rattle.const_hex_arch.proofs.tables.digits_at.Goals as goal
 
 lower_high : (b : ℕ) → b < 256 → get_or PAIRS_LOWER.now (2 * b) 0 ≡ hex_digit false (b / 16)
 lower_high = same_below (λ b. get_or PAIRS_LOWER.now (2 * b) 0) (λ b. hex_digit false (b / 16)) 256 tt
@@ -17,7 +17,7 @@ upper_low : (b : ℕ) → b < 256 → get_or PAIRS_UPPER.now (2 * b + 1) 0 ≡ h
 upper_low = same_below (λ b. get_or PAIRS_UPPER.now (2 * b + 1) 0) (λ b. hex_digit true (b % 16)) 256 tt
 
 pub returns-then-upper : goal.returns-then-upper
-returns-then-upper c = grind (arith, upper_high, upper_low)
+returns-then-upper g c = grind (arith, upper_high, upper_low)
 
 pub returns-else-upper : goal.returns-else-upper
-returns-else-upper c = grind (arith, lower_high, lower_low)
+returns-else-upper g c = grind (arith, lower_high, lower_low)

@@ -1,6 +1,6 @@
 use Rattle.std.proofs.Common.{take}
 use Rattle.const_hex_arch.specs.Texts.{AllDigits}
-use Rattle.const_hex_arch.proofs.arch.plain.PlainKernel.check.Given as goal
+use Rattle.const_hex_arch.proofs.arch.plain.ByteByByteKernel.check.Given as goal
 
 abbrev pub invariant-loop-b : goal.invariant-loop-b
-invariant-loop-b l = AllDigits (take l.b-index l.input)
+invariant-loop-b g l = AllDigits (take l.b-index l.input)

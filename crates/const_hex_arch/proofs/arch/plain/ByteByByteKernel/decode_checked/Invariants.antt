@@ -1,9 +1,9 @@
 use Rattle.std.proofs.Common.{◌≡◌, ◌*◌, take, drop}
 use Rattle.const_hex_arch.specs.Texts.{Spells}
-use Rattle.const_hex_arch.proofs.arch.plain.PlainKernel.decode_checked.Given as goal
+use Rattle.const_hex_arch.proofs.arch.plain.ByteByByteKernel.decode_checked.Given as goal
 
 abbrev pub invariant-loop-i : goal.invariant-loop-i
-invariant-loop-i l = record {
+invariant-loop-i g l = record {
   front : Spells (take (2 * l.i) l.input) (take l.i l.output);
   rest : drop l.i l.output ≡ drop l.i l.initial.output;
 }

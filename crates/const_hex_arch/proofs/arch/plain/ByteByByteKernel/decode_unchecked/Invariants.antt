@@ -1,0 +1,6 @@
+use Rattle.std.proofs.Common.{◌*◌, take}
+use Rattle.const_hex_arch.specs.Texts.{Spells}
+use Rattle.const_hex_arch.proofs.arch.plain.ByteByByteKernel.decode_unchecked.Given as goal
+
+abbrev pub invariant-loop-i : goal.invariant-loop-i
+invariant-loop-i g l = Spells (take (2 * l.i) l.input) (take l.i l.output)

@@ -1,5 +1,0 @@
-use Rattle.const_hex_arch.proofs.lemmas.Ends.{IsFilled}
-use Rattle.const_hex_arch.proofs.arch.plain.CompactKernel.fill.Given as goal
-
-abbrev pub invariant-loop-i : goal.invariant-loop-i
-invariant-loop-i l = IsFilled l.upper l.input l.output l.i
