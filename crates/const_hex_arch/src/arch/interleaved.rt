@@ -1,6 +1,6 @@
 //! The kernel for AArch64, whose vector instructions interleave the lanes of two vectors, and take them apart.
 
-ghost use Rattle.std.specs.Prelude.{◌≡◌, ◌↔◌, [], ◌∷◌, ◌++◌, length, map, IsTrue, false};
+ghost use Rattle.std.specs.Prelude.{◌≡◌, ◌↔◌, [], ◌∷◌, ◌*◌, ◌<◌, ◌++◌, length, map, IsTrue, false};
 ghost use Rattle.std.specs.List.{AllZip, concat};
 ghost use Rattle.const_hex_arch.specs.Texts.{hex_text};
 ghost use Rattle.const_hex_arch.specs.Lanes.{AllNibbles, AllUnmarked, byte_pairs, IsLimitOf};
@@ -8,7 +8,7 @@ ghost use Rattle.const_hex_arch.specs.Lanes.{AllNibbles, AllUnmarked, byte_pairs
 use crate::arch::lanes::LaneOps;
 use crate::arch::lanes16::{self, Lanes16};
 use crate::arch::lanes32::Lanes32;
-use crate::arch::{Kernel, loops};
+use crate::arch::{Kernel, loops, small_input, steps};
 use std::simd::prelude::*;
 
 /// As [`Lanes32`], for a processor that interleaves the lanes of two vectors by one instruction. It decodes
@@ -31,9 +31,23 @@ impl Kernel for Interleaved {
 
     const PIECE: usize = 64;
 
+    // LLVM for AArch64 takes three instructions more to select the digits of a case than to load those of one that
+    // is known.
     #[inline(always)]
     fn fill(input: &[u8], upper: bool, output: &mut [u8]) {
-        loops::fill_in_steps::<32, Interleaved, Interleaved>(input, upper, output);
+        if input.len() == 1 {
+            if upper {
+                small_input::fill::<Interleaved>(input, true, output);
+            } else {
+                small_input::fill::<Interleaved>(input, false, output);
+            }
+        } else if input.len() >= 64 {
+            loops::fill_in_steps::<32, Interleaved, Interleaved>(input, upper, output);
+        } else if upper {
+            fill_short::<true>(input, output);
+        } else {
+            fill_short::<false>(input, output);
+        }
     }
 
     #[inline]
@@ -49,6 +63,22 @@ impl Kernel for Interleaved {
     #[inline(always)]
     fn decode_unchecked(input: &[u8], output: &mut [u8]) {
         Lanes32::decode_unchecked(input, output);
+    }
+}
+
+/// As `fill`, for less than two steps. It asks for 16 bytes first, and then for a step.
+#[inline(always)]
+fn fill_short<const UPPER: bool>(input: &[u8], output: &mut [u8])
+    requires size { length output.old ≡ 2 * length input.now }
+    requires short { length input.now < 64 }
+    ensures { output.new ≡ hex_text UPPER input.now }
+{
+    if input.len() == 16 {
+        steps::fill_step::<16, Interleaved>(input, UPPER, UPPER, output);
+    } else if input.len() >= 32 {
+        small_input::fill_overlapping::<32, Interleaved>(input, UPPER, output);
+    } else {
+        loops::fill_in_steps::<32, Interleaved, Interleaved>(input, UPPER, output);
     }
 }
 
