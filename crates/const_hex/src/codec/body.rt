@@ -74,7 +74,8 @@ pub(crate) fn find_invalid_character(text: &[u8]) -> FromHexError
 #[cold]
 #[inline(never)]
 fn locate_invalid(text: &[u8]) -> usize
-    ensures { (AllDigits (body_of text.now) → ⊥) → NamesFirstBad text.now (slice_index text.now result) result }
+    ensures bad { (AllDigits (body_of text.now) → ⊥) → NamesFirstBad text.now (slice_index text.now result) result }
+    ensures all { AllDigits (body_of text.now) → result ≡ length text.now }
 {
     if let [first, ..] = text {
         if value_at(*first) == NIL {

@@ -84,7 +84,7 @@ fn fill_short<const UPPER: bool>(input: &[u8], output: &mut [u8])
 
 impl LaneOps<16> for Interleaved {
     #[inline(always)]
-    fn write_digits(v: u8x16, upper: bool, _row_copy: bool, output: &mut [u8])
+    fn write_digits(v: u8x16, upper: bool, _second_row: bool, output: &mut [u8])
         requires { length output.old ≡ 32 }
         ensures { output.new ≡ hex_text upper v }
     {
@@ -103,7 +103,7 @@ impl LaneOps<16> for Interleaved {
     }
 
     #[inline(always)]
-    fn merge(first: u8x16, second: u8x16, _row_copy: bool) -> u8x16
+    fn merge(first: u8x16, second: u8x16, _second_row: bool) -> u8x16
         ensures { AllNibbles (first ++ second) → result ≡ byte_pairs (first ++ second) }
     {
         let (high, low) = first.deinterleave(second);
@@ -124,13 +124,13 @@ impl LaneOps<16> for Interleaved {
 
 impl LaneOps<32> for Interleaved {
     #[inline(always)]
-    fn write_digits(v: u8x32, upper: bool, row_copy: bool, output: &mut [u8])
+    fn write_digits(v: u8x32, upper: bool, second_row: bool, output: &mut [u8])
         requires { length output.old ≡ 64 }
         ensures { output.new ≡ hex_text upper v }
     {
         let (front, back) = output.split_at_mut(32);
-        <Interleaved as LaneOps<16>>::write_digits(v.extract::<0, 16>(), upper, row_copy, front);
-        <Interleaved as LaneOps<16>>::write_digits(v.extract::<16, 16>(), upper, row_copy, back);
+        <Interleaved as LaneOps<16>>::write_digits(v.extract::<0, 16>(), upper, second_row, front);
+        <Interleaved as LaneOps<16>>::write_digits(v.extract::<16, 16>(), upper, second_row, back);
     }
 
     #[inline(always)]
@@ -141,7 +141,7 @@ impl LaneOps<32> for Interleaved {
     }
 
     #[inline(always)]
-    fn merge(first: u8x32, second: u8x32, _row_copy: bool) -> u8x32
+    fn merge(first: u8x32, second: u8x32, _second_row: bool) -> u8x32
         ensures { AllNibbles (first ++ second) → result ≡ byte_pairs (first ++ second) }
     {
         let (high, low) = first.deinterleave(second);

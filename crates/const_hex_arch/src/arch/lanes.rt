@@ -10,11 +10,11 @@ ghost use Rattle.const_hex_arch.specs.Lanes.{AllNibbles, AllUnmarked, byte_pairs
 use std::simd::prelude::*;
 
 /// The operations that depend on the number of lanes `N`. Everything else in a kernel is written once,
-/// over this trait. The argument `row_copy` never changes a result: it selects one of two equal rows, as
+/// over this trait. The argument `second_row` never changes a result: it selects one of two equal rows, as
 /// [`lanes16::factors_row`](super::lanes16::factors_row) explains.
 pub(crate) trait LaneOps<const N: usize> {
     /// Fills the output with two digits for each lane, in order.
-    fn write_digits(v: Simd<u8, N>, upper: bool, row_copy: bool, output: &mut [u8])
+    fn write_digits(v: Simd<u8, N>, upper: bool, second_row: bool, output: &mut [u8])
         requires { length output.old ≡ 2 * N }
         ensures { output.new ≡ hex_text upper v.entry };
 
@@ -23,7 +23,7 @@ pub(crate) trait LaneOps<const N: usize> {
         ensures { AllZip IsLimitOf v.entry result };
 
     /// One byte for each two values, the higher half first.
-    fn merge(first: Simd<u8, N>, second: Simd<u8, N>, row_copy: bool) -> Simd<u8, N>
+    fn merge(first: Simd<u8, N>, second: Simd<u8, N>, second_row: bool) -> Simd<u8, N>
         ensures { AllNibbles (first.entry ++ second.entry)
             → result ≡ byte_pairs (first.entry ++ second.entry) };
 
@@ -112,11 +112,11 @@ pub(crate) fn joint_marks<const N: usize, V: LaneOps<N>>(
 pub(crate) fn decode<const N: usize, V: LaneOps<N>>(
     first: Simd<u8, N>,
     second: Simd<u8, N>,
-    row_copy: bool,
+    second_row: bool,
 ) -> Simd<u8, N>
     ensures { AllDigits (first.entry ++ second.entry) → Spells (first.entry ++ second.entry) result }
 {
-    V::merge(values::<N, V>(first), values::<N, V>(second), row_copy)
+    V::merge(values::<N, V>(first), values::<N, V>(second), second_row)
 }
 
 /// As [`decode`], by [`unhex`], for lanes that were tested before.
@@ -125,9 +125,9 @@ pub(crate) fn decode<const N: usize, V: LaneOps<N>>(
 pub(crate) fn decode_digits<const N: usize, V: LaneOps<N>>(
     first: Simd<u8, N>,
     second: Simd<u8, N>,
-    row_copy: bool,
+    second_row: bool,
 ) -> Simd<u8, N>
     ensures { AllDigits (first.entry ++ second.entry) → Spells (first.entry ++ second.entry) result }
 {
-    V::merge(unhex(first), unhex(second), row_copy)
+    V::merge(unhex(first), unhex(second), second_row)
 }

@@ -143,13 +143,13 @@ impl Kernel for Lanes32 {
 
 impl LaneOps<32> for Lanes32 {
     #[inline(always)]
-    fn write_digits(v: u8x32, upper: bool, row_copy: bool, output: &mut [u8])
+    fn write_digits(v: u8x32, upper: bool, second_row: bool, output: &mut [u8])
         requires { length output.old ≡ 64 }
         ensures { output.new ≡ hex_text upper v }
     {
         let (front, back) = output.split_at_mut(32);
-        Lanes16::write_digits(v.extract::<0, 16>(), upper, row_copy, front);
-        Lanes16::write_digits(v.extract::<16, 16>(), upper, row_copy, back);
+        Lanes16::write_digits(v.extract::<0, 16>(), upper, second_row, front);
+        Lanes16::write_digits(v.extract::<16, 16>(), upper, second_row, back);
     }
 
     // In halves of 16 lanes, for which the mask costs nothing. With AVX2 the compiler makes one shuffle
@@ -164,10 +164,10 @@ impl LaneOps<32> for Lanes32 {
     }
 
     #[inline(always)]
-    fn merge(first: u8x32, second: u8x32, row_copy: bool) -> u8x32
+    fn merge(first: u8x32, second: u8x32, second_row: bool) -> u8x32
         ensures { AllNibbles (first ++ second) → result ≡ byte_pairs (first ++ second) }
     {
-        pack(join(first, second), row_copy)
+        pack(join(first, second), second_row)
     }
 
     // In lanes of 64 bits: for AArch64, LLVM joins those of 8 bits by five instructions more.
@@ -216,11 +216,11 @@ fn join(first: u8x32, second: u8x32) -> u8x64
 // by 4097 = 0x1001, its upper byte is 16 * high + low: 0x040B becomes 0xB40B. The shift leaves
 // 0xB4.
 #[inline(always)]
-fn pack(nibbles: u8x64, row_copy: bool) -> u8x32
+fn pack(nibbles: u8x64, second_row: bool) -> u8x32
     ensures { AllNibbles nibbles → result ≡ byte_pairs nibbles }
 {
     let pairs = u16x32::from_le_bytes(nibbles);
-    let half = lanes16::in_both_halves(lanes16::factors_row(row_copy));
+    let half = lanes16::in_both_halves(lanes16::factors_row(second_row));
     let factors = u16x32::from_le_bytes(join(half, half));
     ((pairs * factors) >> u16x32::splat(8)).cast()
 }

@@ -11,4 +11,4 @@ byte_is c = elim c.if-index-text.branch [
 
 pub returns : goal.returns
 returns c =
-    rw (c.invalid_character.ensures, byte_is c) (c.requires.even, c.locate_invalid-index.ensures c.requires.bad)
+    rw (c.invalid_character.ensures, byte_is c) (c.requires.even, c.locate_invalid-index.ensures.bad c.requires.bad)

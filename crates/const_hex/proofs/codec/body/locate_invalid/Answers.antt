@@ -1,4 +1,4 @@
-use Rattle.std.proofs.Common.{◌≡◌, ◌∙◌, ◌≤◌, ◌-◌, ◌+◌, ◌==◌, ◌&&◌, ◌||◌, ℕ, List, [], ◌∷◌, Bool, true, false, length, get_or, refl, sym, arith}
+use Rattle.std.proofs.Common.{◌≡◌, ◌∙◌, ◌≤◌, ◌-◌, ◌+◌, ℕ, List, length, get_or, refl, sym, arith}
 use Rattle.std.proofs.lemmas.Bool.Decides.{nat_tests}
 use Rattle.std.proofs.lemmas.List.Elements.{All-nil}
 use Rattle.const_hex_arch.specs.Texts.{FirstBad, IsDigit, value_or_nil, hex_value}
@@ -21,14 +21,14 @@ first t long e = record {
 in_text : (t : List ℕ) (i : ℕ) → get_or t (i + (length t - length (body_of t))) 0 ≡ get_or (body_of t) i 0
 in_text t i = grind (arith, nat_tests)
 
-pub returns-then-value_at : goal.returns-then-value_at
-returns-then-value_at c = λ _.
+pub returns-then-value_at-clause-bad : goal.returns-then-value_at-clause-bad
+returns-then-value_at-clause-bad c = λ _.
     let t = c.args.text.now in
     let nil = sym c.value_at.ensures ∙ c.if-value_at.true in
     rw (no_prefix t nil) (0, first t c.in-len1-up.len_at_least nil, refl, omega arith)
 
-pub returns : goal.returns
-returns c = λ bad.
+pub returns-clause-bad : goal.returns-clause-bad
+returns-clause-bad c = λ bad.
     let found = c.find_first_bad-index in
     let body = c.strip_prefix-body.ensures.body in
     rw (← body) (found.result.1, found.ensures.bad (rw body bad), rw (← body) at (in_text c.args.text.now found.result.1), refl)
