@@ -274,86 +274,33 @@
 /* const_hex_c::kernel::interleaved_fill */
 	hidden const_hex_1_0_0_fill
 	function const_hex_1_0_0_fill
-	cmp x1, #0xf
-	b.hi 2f
 	cmp x1, #0x1
-	b.ne 3f
-	movi v0.16b, #0xf
-	ldr b1, [x0]
-	cmp w2, #0x0
-	mov w8, #0x10
-	adrp_label x9, const_hex_1_0_0_constant_2
-	add_label x9, x9, const_hex_1_0_0_constant_2
-	csel x8, x8, xzr, ne
-	ldr q2, [x9, x8]
-	and v0.16b, v1.16b, v0.16b
-	ushr v1.16b, v1.16b, #4
-	tbl v0.16b, {v2.16b}, v0.16b
+	b.ne 2f
+	movi v1.16b, #0xf
+	ldr b2, [x0]
+	ushr v0.16b, v2.16b, #4
+	and v1.16b, v2.16b, v1.16b
+	cbz w2, 5f
+	adrp_label x8, const_hex_1_0_0_constant_2
+	ldr_label q2, x8, const_hex_1_0_0_constant_2
 	tbl v1.16b, {v2.16b}, v1.16b
-	stur b0, [x3, #1]
-	str b1, [x3]
+	tbl v0.16b, {v2.16b}, v0.16b
+	stur b1, [x3, #1]
+	str b0, [x3]
 	ret
 2:
 	cmp x1, #0x40
-	b.cs 4f
-	movi v0.16b, #0xf
-	cmp x1, #0x1f
-	b.hi 7f
-	ldr q2, [x0]
+	b.cc 6f
 	cmp w2, #0x0
 	mov w8, #0x10
-	csel x8, x8, xzr, ne
-	adrp_label x9, const_hex_1_0_0_constant_2
-	add_label x9, x9, const_hex_1_0_0_constant_2
-	ushr v3.16b, v2.16b, #4
-	ldr q1, [x9, x8]
-	and v2.16b, v2.16b, v0.16b
-	subs x8, x1, #0x10
-	tbl v3.16b, {v1.16b}, v3.16b
-	tbl v4.16b, {v1.16b}, v2.16b
-	st2 {v3.16b, v4.16b}, [x3]
-	b.eq 12f
-	ldr q2, [x0, x8]
-	add x8, x3, x8, lsl #1
-	ushr v3.16b, v2.16b, #4
-	and v0.16b, v2.16b, v0.16b
-	tbl v2.16b, {v1.16b}, v3.16b
-	tbl v3.16b, {v1.16b}, v0.16b
-	b 9f
-3:
-	cmp x1, #0x8
-	b.cc 13f
-	add x8, x0, x1
-	ldr d0, [x0]
-	movi v1.16b, #0xf
-	sub x8, x8, #0x8
-	cmp w2, #0x0
-	adrp_label x9, const_hex_1_0_0_constant_2
-	add_label x9, x9, const_hex_1_0_0_constant_2
-	ld1 {v0.d}[1], [x8]
-	mov w8, #0x10
-	csel x8, x8, xzr, ne
-	ldr q3, [x9, x8]
-	lsl x8, x1, #1
-	ushr v2.16b, v0.16b, #4
-	and v0.16b, v0.16b, v1.16b
-	tbl v1.16b, {v3.16b}, v2.16b
-	tbl v2.16b, {v3.16b}, v0.16b
-	zip2 v0.16b, v1.16b, v2.16b
-	st2 {v1.8b, v2.8b}, [x3], x8
-	stur q0, [x3, #-16]
-	ret
-4:
-	cmp w2, #0x0
-	mov w8, #0x10
-	adrp_label x9, const_hex_1_0_0_constant_2
-	add_label x9, x9, const_hex_1_0_0_constant_2
+	adrp_label x9, const_hex_1_0_0_constant_3
+	add_label x9, x9, const_hex_1_0_0_constant_3
 	csel x8, x8, xzr, ne
 	mov x10, x1
 	ldr q0, [x9, x8]
-	mov x9, x0
 	mov x8, x3
-5:
+	mov x9, x0
+3:
 	movi v1.16b, #0xf
 	ldp q2, q4, [x9]
 	mov x11, x8
@@ -384,10 +331,10 @@
 	add x11, x8, #0x60
 	add x8, x8, #0x80
 	st2 {v2.16b, v3.16b}, [x11]
-	b.hi 5b
-	cbz x10, 12f
+	b.hi 3b
+	cbz x10, 20f
 	cmp x10, #0x21
-	b.cc 6f
+	b.cc 4f
 	ldp q2, q4, [x9]
 	movi v1.16b, #0xf
 	ushr v3.16b, v2.16b, #4
@@ -400,7 +347,7 @@
 	tbl v3.16b, {v0.16b}, v1.16b
 	st2 {v5.16b, v6.16b}, [x8], #32
 	st2 {v2.16b, v3.16b}, [x8]
-6:
+4:
 	sub x8, x1, #0x20
 	movi v1.16b, #0xf
 	add x9, x0, x8
@@ -414,20 +361,55 @@
 	ushr v2.16b, v4.16b, #4
 	tbl v2.16b, {v0.16b}, v2.16b
 	tbl v3.16b, {v0.16b}, v1.16b
-	b 8f
+	st2 {v5.16b, v6.16b}, [x8], #32
+	st2 {v2.16b, v3.16b}, [x8]
+	ret
+5:
+	adrp_label x8, const_hex_1_0_0_constant_4
+	ldr_label q2, x8, const_hex_1_0_0_constant_4
+	tbl v1.16b, {v2.16b}, v1.16b
+	tbl v0.16b, {v2.16b}, v0.16b
+	stur b1, [x3, #1]
+	str b0, [x3]
+	ret
+6:
+	subs x8, x1, #0x10
+	cbz w2, 7f
+	b.ne 8f
+	ldr q1, [x0]
+	adrp_label x8, const_hex_1_0_0_constant_2
+	movi v0.16b, #0xf
+	ldr_label q3, x8, const_hex_1_0_0_constant_2
+	b 19f
 7:
-	ldp q2, q4, [x0]
-	cmp w2, #0x0
-	mov w8, #0x10
-	adrp_label x9, const_hex_1_0_0_constant_2
-	add_label x9, x9, const_hex_1_0_0_constant_2
-	csel x8, x8, xzr, ne
+	b.ne 9f
+	ldr q1, [x0]
+	adrp_label x8, const_hex_1_0_0_constant_4
+	movi v0.16b, #0xf
+	ldr_label q3, x8, const_hex_1_0_0_constant_4
+	b 19f
+8:
+	cmp x1, #0x20
+	b.cc 13f
+	ldr q2, [x0]
+	movi v0.16b, #0xf
+	adrp_label x8, const_hex_1_0_0_constant_2
+	ldr_label q1, x8, const_hex_1_0_0_constant_2
+	b 12f
+9:
+	cmp x1, #0x20
+	b.cc 14f
+	ldr q2, [x0]
+	adrp_label x8, const_hex_1_0_0_constant_4
+	movi v0.16b, #0xf
+	ldr_label q1, x8, const_hex_1_0_0_constant_4
+12:
 	ushr v3.16b, v2.16b, #4
-	ldr q1, [x9, x8]
 	and v2.16b, v2.16b, v0.16b
+	ldr q4, [x0, #16]
+	tbl v5.16b, {v1.16b}, v3.16b
 	mov x9, x3
 	subs x8, x1, #0x20
-	tbl v5.16b, {v1.16b}, v3.16b
 	ushr v3.16b, v4.16b, #4
 	tbl v6.16b, {v1.16b}, v2.16b
 	and v2.16b, v4.16b, v0.16b
@@ -435,7 +417,7 @@
 	tbl v4.16b, {v1.16b}, v2.16b
 	st2 {v5.16b, v6.16b}, [x9], #32
 	st2 {v3.16b, v4.16b}, [x9]
-	b.eq 12f
+	b.eq 20f
 	add x9, x0, x8
 	add x8, x3, x8, lsl #1
 	ldp q2, q4, [x9]
@@ -447,49 +429,125 @@
 	tbl v6.16b, {v1.16b}, v2.16b
 	tbl v2.16b, {v1.16b}, v3.16b
 	tbl v3.16b, {v1.16b}, v0.16b
-8:
 	st2 {v5.16b, v6.16b}, [x8], #32
-9:
 	st2 {v2.16b, v3.16b}, [x8]
-12:
 	ret
 13:
+	cmp x1, #0xf
+	b.hi 16f
+	cmp x1, #0x8
+	b.cc 21f
+	add x8, x0, x1
+	ldr d0, [x0]
+	movi v1.16b, #0xf
+	sub x8, x8, #0x8
+	ld1 {v0.d}[1], [x8]
+	adrp_label x8, const_hex_1_0_0_constant_2
+	ldr_label q3, x8, const_hex_1_0_0_constant_2
+	b 15f
+14:
+	cmp x1, #0xf
+	b.hi 17f
+	cmp x1, #0x8
+	b.cc 22f
+	add x8, x0, x1
+	ldr d0, [x0]
+	movi v1.16b, #0xf
+	sub x8, x8, #0x8
+	ld1 {v0.d}[1], [x8]
+	adrp_label x8, const_hex_1_0_0_constant_4
+	ldr_label q3, x8, const_hex_1_0_0_constant_4
+15:
+	ushr v2.16b, v0.16b, #4
+	and v0.16b, v0.16b, v1.16b
+	tbl v1.16b, {v3.16b}, v2.16b
+	lsl x8, x1, #1
+	tbl v2.16b, {v3.16b}, v0.16b
+	zip2 v0.16b, v1.16b, v2.16b
+	st2 {v1.8b, v2.8b}, [x3], x8
+	stur q0, [x3, #-16]
+	ret
+16:
+	ldr q1, [x0]
+	adrp_label x9, const_hex_1_0_0_constant_2
+	movi v0.16b, #0xf
+	ldr_label q3, x9, const_hex_1_0_0_constant_2
+	b 18f
+17:
+	ldr q1, [x0]
+	movi v0.16b, #0xf
+	adrp_label x9, const_hex_1_0_0_constant_4
+	ldr_label q3, x9, const_hex_1_0_0_constant_4
+18:
+	ushr v2.16b, v1.16b, #4
+	and v1.16b, v1.16b, v0.16b
+	tbl v4.16b, {v3.16b}, v2.16b
+	lsl x9, x8, #1
+	tbl v5.16b, {v3.16b}, v1.16b
+	st2 {v4.16b, v5.16b}, [x3], x9
+	ldr q1, [x0, x8]
+19:
+	ushr v2.16b, v1.16b, #4
+	and v0.16b, v1.16b, v0.16b
+	tbl v1.16b, {v3.16b}, v2.16b
+	tbl v2.16b, {v3.16b}, v0.16b
+	st2 {v1.16b, v2.16b}, [x3]
+20:
+	ret
+21:
 	cmp x1, #0x4
-	b.cc 14f
+	b.cc 24f
 	add x8, x0, x1
 	ldr s0, [x0]
 	movi v1.16b, #0xf
 	sub x8, x8, #0x4
-	cmp w2, #0x0
-	adrp_label x9, const_hex_1_0_0_constant_2
-	add_label x9, x9, const_hex_1_0_0_constant_2
 	ld1 {v0.s}[1], [x8]
-	mov w8, #0x10
-	csel x8, x8, xzr, ne
+	adrp_label x8, const_hex_1_0_0_constant_2
 	ushr v2.16b, v0.16b, #4
 	and v0.16b, v0.16b, v1.16b
-	ldr q1, [x9, x8]
-	add x8, x3, x1, lsl #1
+	ldr_label q1, x8, const_hex_1_0_0_constant_2
+	b 23f
+22:
+	cmp x1, #0x4
+	b.cc 25f
+	add x8, x0, x1
+	ldr s0, [x0]
+	movi v1.16b, #0xf
+	sub x8, x8, #0x4
+	ld1 {v0.s}[1], [x8]
+	adrp_label x8, const_hex_1_0_0_constant_4
+	ushr v2.16b, v0.16b, #4
+	and v0.16b, v0.16b, v1.16b
+	ldr_label q1, x8, const_hex_1_0_0_constant_4
+23:
 	tbl v2.16b, {v1.16b}, v2.16b
 	tbl v0.16b, {v1.16b}, v0.16b
+	add x8, x3, x1, lsl #1
 	zip1 v0.16b, v2.16b, v0.16b
 	ext v1.16b, v0.16b, v0.16b, #8
 	str d0, [x3]
 	stur d1, [x8, #-8]
 	ret
-14:
-	cbz x1, 12b
+24:
+	cbz x1, 20b
 	add x8, x0, x1
 	ldr h0, [x0]
 	movi v1.16b, #0xf
 	sub x8, x8, #0x2
-	cmp w2, #0x0
-	adrp_label x9, const_hex_1_0_0_constant_2
-	add_label x9, x9, const_hex_1_0_0_constant_2
 	ld1 {v0.h}[1], [x8]
-	mov w8, #0x10
-	csel x8, x8, xzr, ne
-	ldr q3, [x9, x8]
+	adrp_label x8, const_hex_1_0_0_constant_2
+	ldr_label q3, x8, const_hex_1_0_0_constant_2
+	b 26f
+25:
+	cbz x1, 20b
+	add x8, x0, x1
+	ldr h0, [x0]
+	movi v1.16b, #0xf
+	sub x8, x8, #0x2
+	ld1 {v0.h}[1], [x8]
+	adrp_label x8, const_hex_1_0_0_constant_4
+	ldr_label q3, x8, const_hex_1_0_0_constant_4
+26:
 	ushr v2.16b, v0.16b, #4
 	and v0.16b, v0.16b, v1.16b
 	tbl v1.16b, {v3.16b}, v2.16b
@@ -891,6 +949,12 @@
 	constant const_hex_1_0_0_constant_1, 4
 	.byte 0x01, 0x0a, 0x0b, 0x0c, 0x0d, 0x0e, 0x0f, 0x08, 0x09, 0x0a, 0x00, 0x00, 0x00, 0x00, 0x00, 0x00
 
-	constant const_hex_1_0_0_constant_2, 0
+	constant const_hex_1_0_0_constant_2, 4
+	.byte 0x30, 0x31, 0x32, 0x33, 0x34, 0x35, 0x36, 0x37, 0x38, 0x39, 0x41, 0x42, 0x43, 0x44, 0x45, 0x46
+
+	constant const_hex_1_0_0_constant_3, 0
 	.byte 0x30, 0x31, 0x32, 0x33, 0x34, 0x35, 0x36, 0x37, 0x38, 0x39, 0x61, 0x62, 0x63, 0x64, 0x65, 0x66
 	.byte 0x30, 0x31, 0x32, 0x33, 0x34, 0x35, 0x36, 0x37, 0x38, 0x39, 0x41, 0x42, 0x43, 0x44, 0x45, 0x46
+
+	constant const_hex_1_0_0_constant_4, 4
+	.byte 0x30, 0x31, 0x32, 0x33, 0x34, 0x35, 0x36, 0x37, 0x38, 0x39, 0x61, 0x62, 0x63, 0x64, 0x65, 0x66

@@ -54,15 +54,15 @@ pub use self::formatting::text::*;
 //    1  and the crate's decoder is cloned
 //    1  and writes a text to memory that is not cleared
 //    2  before it reads a part, or ends
-//   48  deleted: attribute
-//  228  deleted: contract
-//  182  deleted: ghost item
+//   47  deleted: attribute
+//  227  deleted: contract
+//  180  deleted: ghost item
 //    4  deleted: model
 //    2  each value may be dropped
 //    6  kernels that no target uses are left out, and callers that nothing exports
 //   15  the allocator is a value
 //    1  the kernel is chosen for the processor
-//   16  what a constant calls is constant
+//   15  what a constant calls is constant
 //    2  what allocates is there with the feature alloc
 //    2  what hexfilter uses of const_hex is a module of std_shim
 //    7  what is for C calls the kernel for the processor

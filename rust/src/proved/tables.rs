@@ -84,19 +84,15 @@ pub const fn value_at(b: u8) -> u8 {
     HEX_DECODE_LUT[b as usize]
 }
 
-/// Both digits of a byte, by one look-up.
+/// Both digits of a byte: with `PAIRS` by one look-up in a table of pairs, and else by two in a table of digits.
 #[inline]
-pub(crate) const fn pair_at(upper: bool, b: u8) -> [u8; 2] {
+pub(crate) fn digits_at<const PAIRS: bool>(upper: bool, b: u8) -> [u8; 2] {
     let at = 2 * b as usize;
-    if upper {
+    if !PAIRS {
+        [digit_at(upper, b / 16), digit_at(upper, b % 16)]
+    } else if upper {
         [PAIRS_UPPER[at], PAIRS_UPPER[at + 1]]
     } else {
         [PAIRS_LOWER[at], PAIRS_LOWER[at + 1]]
     }
-}
-
-/// Both digits of a byte, by two look-ups in a small table.
-#[inline]
-pub(crate) fn digits_at(upper: bool, b: u8) -> [u8; 2] {
-    [digit_at(upper, b / 16), digit_at(upper, b % 16)]
 }

@@ -7,17 +7,17 @@ use crate::std_shim::prelude::*;
 use crate::std_shim::simd::prelude::*;
 
 /// The operations that depend on the number of lanes `N`. Everything else in a kernel is written once,
-/// over this trait. The argument `row_copy` never changes a result: it selects one of two equal rows, as
+/// over this trait. The argument `second_row` never changes a result: it selects one of two equal rows, as
 /// [`lanes16::factors_row`](super::lanes16::factors_row) explains.
 pub(crate) trait LaneOps<const N: usize> {
     /// Fills the output with two digits for each lane, in order.
-    fn write_digits(v: Simd<u8, N>, upper: bool, row_copy: bool, output: &mut [u8]);
+    fn write_digits(v: Simd<u8, N>, upper: bool, second_row: bool, output: &mut [u8]);
 
     /// The limit of each lane. If the lane is a digit, its value is at most the limit.
     fn look_up_limits(v: Simd<u8, N>) -> Simd<u8, N>;
 
     /// One byte for each two values, the higher half first.
-    fn merge(first: Simd<u8, N>, second: Simd<u8, N>, row_copy: bool) -> Simd<u8, N>;
+    fn merge(first: Simd<u8, N>, second: Simd<u8, N>, second_row: bool) -> Simd<u8, N>;
 
     /// Whether every mark has the bits 7, 6, 4 and 3 clear.
     fn are_unmarked(marks: Simd<u8, N>) -> bool;
@@ -82,9 +82,9 @@ pub(crate) fn joint_marks<const N: usize, V: LaneOps<N>>(
 pub(crate) fn decode<const N: usize, V: LaneOps<N>>(
     first: Simd<u8, N>,
     second: Simd<u8, N>,
-    row_copy: bool,
+    second_row: bool,
 ) -> Simd<u8, N> {
-    V::merge(values::<N, V>(first), values::<N, V>(second), row_copy)
+    V::merge(values::<N, V>(first), values::<N, V>(second), second_row)
 }
 
 /// As [`decode`], by [`unhex`], for lanes that were tested before.
@@ -92,7 +92,7 @@ pub(crate) fn decode<const N: usize, V: LaneOps<N>>(
 pub(crate) fn decode_digits<const N: usize, V: LaneOps<N>>(
     first: Simd<u8, N>,
     second: Simd<u8, N>,
-    row_copy: bool,
+    second_row: bool,
 ) -> Simd<u8, N> {
-    V::merge(unhex(first), unhex(second), row_copy)
+    V::merge(unhex(first), unhex(second), second_row)
 }

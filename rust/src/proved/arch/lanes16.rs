@@ -40,16 +40,16 @@ pub(crate) fn digits_row(upper: bool) -> [u8; 16] {
 }
 
 /// The factors, from the first row of them or the second. Both are equal, so no result depends on
-/// `row_copy`. The comment at [`FACTORS`] says why there are two.
+/// `second_row`. The comment at [`FACTORS`] says why there are two.
 #[inline(always)]
-pub(crate) fn factors_row(row_copy: bool) -> [u8; 16] {
-    FACTORS[usize::from(row_copy)]
+pub(crate) fn factors_row(second_row: bool) -> [u8; 16] {
+    FACTORS[usize::from(second_row)]
 }
 
 /// The row of factors for a loop over so many bytes. Any bit that is known only at run time would do.
 // Bit 4 is the offset of the second row.
 #[inline(always)]
-pub(crate) fn row_copy_for(length: usize) -> bool {
+pub(crate) fn second_row_for(length: usize) -> bool {
     length / 16 % 2 == 1
 }
 
@@ -132,8 +132,8 @@ impl Kernel for Lanes16 {
 
 impl LaneOps<16> for Lanes16 {
     #[inline(always)]
-    fn write_digits(v: u8x16, upper: bool, row_copy: bool, output: &mut [u8]) {
-        encode_lanes(v, upper, row_copy).copy_to_slice(output);
+    fn write_digits(v: u8x16, upper: bool, second_row: bool, output: &mut [u8]) {
+        encode_lanes(v, upper, second_row).copy_to_slice(output);
     }
 
     // Constant time: this is a shuffle within a register, so no byte selects a memory address.
@@ -146,8 +146,8 @@ impl LaneOps<16> for Lanes16 {
     }
 
     #[inline(always)]
-    fn merge(first: u8x16, second: u8x16, row_copy: bool) -> u8x16 {
-        pack(join(first, second), row_copy)
+    fn merge(first: u8x16, second: u8x16, second_row: bool) -> u8x16 {
+        pack(join(first, second), second_row)
     }
 
     // In lanes of 64 bits: for AArch64, LLVM joins those of 8 bits by five instructions more.
@@ -165,8 +165,8 @@ pub(crate) fn in_two(v: u8x32) -> [u8x16; 2] {
 
 /// Two digits for each lane, in order.
 #[inline(always)]
-pub(crate) fn encode_lanes(v: u8x16, upper: bool, row_copy: bool) -> u8x32 {
-    let halves = split_lanes(v, factors_row(row_copy));
+pub(crate) fn encode_lanes(v: u8x16, upper: bool, second_row: bool) -> u8x32 {
+    let halves = split_lanes(v, factors_row(second_row));
     in_both_halves(digits_row(upper)).swizzle_dyn_within::<16>(halves)
 }
 
@@ -207,8 +207,8 @@ pub(crate) fn join(first: u8x16, second: u8x16) -> u8x32 {
 // by 4097 = 0x1001, its upper byte is 16 * high + low: 0x040B becomes 0xB40B. The shift leaves
 // 0xB4.
 #[inline(always)]
-fn pack(nibbles: u8x32, row_copy: bool) -> u8x16 {
+fn pack(nibbles: u8x32, second_row: bool) -> u8x16 {
     let pairs = u16x16::from_le_bytes(nibbles);
-    let factors = u16x16::from_le_bytes(in_both_halves(factors_row(row_copy)));
+    let factors = u16x16::from_le_bytes(in_both_halves(factors_row(second_row)));
     ((pairs * factors) >> u16x16::splat(8)).cast()
 }

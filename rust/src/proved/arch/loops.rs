@@ -32,12 +32,12 @@ pub(crate) fn fill_in_steps<const N: usize, V: LaneOps<N>, S: LaneOps<16>>(
         }
         return;
     }
-    let row_copy = lanes16::row_copy_for(input.len());
+    let second_row = lanes16::second_row_for(input.len());
     let mut at = 0;
     while input.len() - at >= 2 * N {
         let end = at + 2 * N;
         let text = &mut output[2 * at..2 * end];
-        steps::fill_two_steps::<N, V>(&input[at..end], upper, row_copy, text);
+        steps::fill_two_steps::<N, V>(&input[at..end], upper, second_row, text);
         at = end;
     }
     if at == input.len() {
@@ -46,10 +46,10 @@ pub(crate) fn fill_in_steps<const N: usize, V: LaneOps<N>, S: LaneOps<16>>(
     if input.len() - at > N {
         let end = at + N;
         let text = &mut output[2 * at..2 * end];
-        steps::fill_step::<N, V>(&input[at..end], upper, row_copy, text);
+        steps::fill_step::<N, V>(&input[at..end], upper, second_row, text);
     }
     let start = input.len() - N;
-    steps::fill_step::<N, V>(&input[start..], upper, row_copy, &mut output[2 * start..]);
+    steps::fill_step::<N, V>(&input[start..], upper, second_row, &mut output[2 * start..]);
 }
 
 /// Whether every byte is a digit. The input has at least one step. While more than four steps are
@@ -103,10 +103,10 @@ pub(crate) fn decode_in_steps<const N: usize, const PAIRS: bool, V: LaneOps<N>, 
     let mut at = 0;
     while output.len() - at >= 2 * N {
         let end = at + 2 * N;
-        let row_copy = lanes16::row_copy_for(output.len());
+        let second_row = lanes16::second_row_for(output.len());
         if !steps::decode_two_steps::<N, V>(
             &input[2 * at..2 * end],
-            row_copy,
+            second_row,
             &mut output[at..end],
         ) {
             if !PAIRS {
@@ -152,8 +152,8 @@ pub(crate) fn decode_digits_in_steps<const N: usize, V: LaneOps<N>, S: LaneOps<1
     let mut at = 0;
     while output.len() - at >= N {
         let end = at + N;
-        let row_copy = lanes16::row_copy_for(output.len());
-        steps::decode_digits_step::<N, V>(&input[2 * at..2 * end], row_copy, &mut output[at..end]);
+        let second_row = lanes16::second_row_for(output.len());
+        steps::decode_digits_step::<N, V>(&input[2 * at..2 * end], second_row, &mut output[at..end]);
         at = end;
     }
     if output.len() - at >= 16 {

@@ -3,12 +3,19 @@
 
 use crate::std_shim::prelude::*;
 use crate::proved::arch::Kernel;
-use crate::proved::tables::{NIL, digits_at, pair_at, value_at};
+use crate::proved::tables::{NIL, digits_at, value_at};
 
 /// A kernel that works byte by byte, with tables in memory.
-pub struct Plain;
+pub type Plain = ByteByByte<true>;
 
-impl Kernel for Plain {
+/// As [`Plain`], but it encodes digit by digit, so it needs no table of pairs: less data, and more
+/// instructions.
+pub type Compact = ByteByByte<false>;
+
+/// [`Plain`], or without `PAIRS` [`Compact`].
+pub struct ByteByByte<const PAIRS: bool>;
+
+impl<const PAIRS: bool> Kernel for ByteByByte<PAIRS> {
     const USE_CHECK_FN: bool = false;
 
     const PIECE: usize = 1;
@@ -16,7 +23,7 @@ impl Kernel for Plain {
     #[inline(always)]
     fn fill(input: &[u8], upper: bool, output: &mut [u8]) {
         for i in 0..input.len() {
-            output[2 * i..2 * i + 2].copy_from_slice(&pair_at(upper, input[i]));
+            output[2 * i..2 * i + 2].copy_from_slice(&digits_at::<PAIRS>(upper, input[i]));
         }
     }
 
@@ -51,37 +58,5 @@ impl Kernel for Plain {
         for i in 0..output.len() {
             output[i] = value_at(input[2 * i]) * 16 + value_at(input[2 * i + 1]);
         }
-    }
-}
-
-/// As [`Plain`], but it encodes digit by digit, so it needs no table of pairs: less data, and more
-/// instructions.
-pub struct Compact;
-
-impl Kernel for Compact {
-    const USE_CHECK_FN: bool = false;
-
-    const PIECE: usize = 1;
-
-    #[inline(always)]
-    fn fill(input: &[u8], upper: bool, output: &mut [u8]) {
-        for i in 0..input.len() {
-            output[2 * i..2 * i + 2].copy_from_slice(&digits_at(upper, input[i]));
-        }
-    }
-
-    #[inline(always)]
-    fn check(input: &[u8]) -> bool {
-        Plain::check(input)
-    }
-
-    #[inline(always)]
-    fn decode_checked(input: &[u8], output: &mut [u8]) -> bool {
-        Plain::decode_checked(input, output)
-    }
-
-    #[inline(always)]
-    fn decode_unchecked(input: &[u8], output: &mut [u8]) {
-        Plain::decode_unchecked(input, output);
     }
 }

@@ -12,10 +12,10 @@ use crate::std_shim::simd::prelude::*;
 pub(crate) fn fill_step<const N: usize, V: LaneOps<N>>(
     bytes: &[u8],
     upper: bool,
-    row_copy: bool,
+    second_row: bool,
     output: &mut [u8],
 ) {
-    V::write_digits(Simd::from_slice(bytes), upper, row_copy, output);
+    V::write_digits(Simd::from_slice(bytes), upper, second_row, output);
 }
 
 /// As `fill_step`, for the bytes of two steps.
@@ -23,13 +23,13 @@ pub(crate) fn fill_step<const N: usize, V: LaneOps<N>>(
 pub(crate) fn fill_two_steps<const N: usize, V: LaneOps<N>>(
     bytes: &[u8],
     upper: bool,
-    row_copy: bool,
+    second_row: bool,
     output: &mut [u8],
 ) {
     let (first, second) = bytes.split_at(N);
     let (front, back) = output.split_at_mut(2 * N);
-    fill_step::<N, V>(first, upper, row_copy, front);
-    fill_step::<N, V>(second, upper, row_copy, back);
+    fill_step::<N, V>(first, upper, second_row, front);
+    fill_step::<N, V>(second, upper, second_row, back);
 }
 
 /// Packs the first `H` bytes and the last `H` bytes into an array of `N` bytes, and puts `fill`
@@ -81,12 +81,12 @@ fn marks_of_two_steps<const N: usize, V: LaneOps<N>>(text: &[u8]) -> Simd<u8, N>
 #[inline(always)]
 pub(crate) fn decode_step<const N: usize, V: LaneOps<N>>(
     text: &[u8],
-    row_copy: bool,
+    second_row: bool,
     output: &mut [u8],
 ) -> bool {
     let are_digits = check_two_steps::<N, V>(text);
     if are_digits {
-        decode_vector::<N, V>(text, row_copy).copy_to_slice(output);
+        decode_vector::<N, V>(text, second_row).copy_to_slice(output);
     }
     are_digits
 }
@@ -95,14 +95,14 @@ pub(crate) fn decode_step<const N: usize, V: LaneOps<N>>(
 #[inline(always)]
 pub(crate) fn decode_two_steps<const N: usize, V: LaneOps<N>>(
     text: &[u8],
-    row_copy: bool,
+    second_row: bool,
     output: &mut [u8],
 ) -> bool {
     let are_digits = check_four_steps::<N, V>(text);
     if are_digits {
         let (text, next) = text.split_at(2 * N);
-        let first = decode_vector::<N, V>(text, row_copy);
-        let second = decode_vector::<N, V>(next, row_copy);
+        let first = decode_vector::<N, V>(text, second_row);
+        let second = decode_vector::<N, V>(next, second_row);
         let (front, back) = output.split_at_mut(N);
         first.copy_to_slice(front);
         second.copy_to_slice(back);
@@ -113,11 +113,11 @@ pub(crate) fn decode_two_steps<const N: usize, V: LaneOps<N>>(
 /// Decodes the digits of a step.
 // The test has already computed these values for the marks. The compiler merges both computations.
 #[inline(always)]
-fn decode_vector<const N: usize, V: LaneOps<N>>(text: &[u8], row_copy: bool) -> Simd<u8, N> {
+fn decode_vector<const N: usize, V: LaneOps<N>>(text: &[u8], second_row: bool) -> Simd<u8, N> {
     lanes::decode::<N, V>(
         Simd::from_slice(text),
         Simd::from_slice(&text[N..]),
-        row_copy,
+        second_row,
     )
 }
 
@@ -125,11 +125,11 @@ fn decode_vector<const N: usize, V: LaneOps<N>>(text: &[u8], row_copy: bool) -> 
 #[inline(always)]
 pub(crate) fn decode_digits_step<const N: usize, V: LaneOps<N>>(
     text: &[u8],
-    row_copy: bool,
+    second_row: bool,
     output: &mut [u8],
 ) {
     let first = Simd::from_slice(text);
-    lanes::decode_digits::<N, V>(first, Simd::from_slice(&text[N..]), row_copy).copy_to_slice(
+    lanes::decode_digits::<N, V>(first, Simd::from_slice(&text[N..]), second_row).copy_to_slice(
         output,
     );
 }
