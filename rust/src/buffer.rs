@@ -1,7 +1,7 @@
 //! A text in an array.
 
 use crate::proved::codec::encoders::encode_full_to_slice;
-use crate::proved::tables::pair_at;
+use crate::proved::tables::digits_at;
 #[cfg(feature = "alloc")]
 use alloc::{string::String, vec::Vec};
 use core::{fmt, mem::transmute, str};
@@ -68,7 +68,7 @@ impl<const N: usize, const PREFIX: bool> Buffer<N, PREFIX> {
         let mut buffer = Self::new();
         let mut index = 0;
         while index < N {
-            buffer.digits[index] = pair_at(upper, array[index]);
+            buffer.digits[index] = digits_at::<true>(upper, array[index]);
             index += 1;
         }
         buffer

@@ -1,7 +1,7 @@
 //! Traits of types that are read from hexadecimal text, or written as it.
 
 use crate::kernel::Space;
-use crate::proved::{tables::pair_at, FixedKernel, Kernel};
+use crate::proved::{tables::digits_at, FixedKernel, Kernel};
 use crate::FromHexError;
 #[cfg(all(feature = "alloc", target_has_atomic = "ptr"))]
 use alloc::sync::Arc;
@@ -182,7 +182,7 @@ to_hex! {
 #[inline]
 fn digits<const UPPER: bool, T: FromIterator<char>>(bytes: &[u8]) -> T {
     match bytes {
-        [byte] => pair_at(UPPER, *byte).iter().map(character).collect(),
+        [byte] => digits_at::<true>(UPPER, *byte).iter().map(character).collect(),
         _ if bytes.len() <= PART => {
             let mut space = Space::<{ 2 * PART }>::new();
             space.text(bytes, false, UPPER).iter().map(character).collect()

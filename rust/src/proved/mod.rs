@@ -62,7 +62,7 @@ pub use self::formatting::text::*;
 //    6  kernels that no target uses are left out, and callers that nothing exports
 //   15  the allocator is a value
 //    1  the kernel is chosen for the processor
-//   15  what a constant calls is constant
+//   16  what a constant calls is constant
 //    2  what allocates is there with the feature alloc
 //    2  what hexfilter uses of const_hex is a module of std_shim
 //    7  what is for C calls the kernel for the processor

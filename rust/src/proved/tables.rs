@@ -86,7 +86,7 @@ pub const fn value_at(b: u8) -> u8 {
 
 /// Both digits of a byte: with `PAIRS` by one look-up in a table of pairs, and else by two in a table of digits.
 #[inline]
-pub(crate) fn digits_at<const PAIRS: bool>(upper: bool, b: u8) -> [u8; 2] {
+pub(crate) const fn digits_at<const PAIRS: bool>(upper: bool, b: u8) -> [u8; 2] {
     let at = 2 * b as usize;
     if !PAIRS {
         [digit_at(upper, b / 16), digit_at(upper, b % 16)]
