@@ -1,6 +1,5 @@
 -- Lemmas for the laws of types that are read from text.
-use Rattle.std.specs.Prelude.{◌≡◌, ℕ, suc, ◌*◌, ◌%◌, ◌<◌, ◌≢◌, Bool, List, [], ◌∷◌, length, map, ℤ, Result, Ok, Err, refl}
-use Rattle.std.proofs.Common.{inl, inr, sym, ◌∙◌, arith}
+use Rattle.std.proofs.Common.{inl, inr, sym, ◌∙◌, arith, ◌≡◌, ℕ, suc, ◌*◌, ◌%◌, ◌<◌, ◌≢◌, Bool, List, [], ◌∷◌, length, map, ℤ, Result, Ok, Err, refl}
 use Rattle.std.proofs.lemmas.Bool.{cases_eq}
 use Rattle.std.proofs.lemmas.Bool.Decides.{nat_tests}
 use Rattle.const_hex_arch.proofs.lemmas.FirstInvalid.{Spells-some, digits_or_bad}

@@ -1,9 +1,8 @@
 //! A sink over any writer of std: a file, a socket, a vector of bytes.
 
-ghost use Rattle.std.specs.Prelude.{◌≡◌, ◌≢◌, true, false, not, is_ok, None, IsOk, Err, OnOk, OnErr, IfErr, MatchOption};
+ghost use Rattle.std.specs.Prelude.{◌≡◌, ◌≢◌, true, false, not, is_ok, None, IsOk, Err, OnOk, OnErr, IfErr, MatchOption, option_copied};
 ghost use Rattle.std.specs.Io.KnownBytes.{Appends};
 ghost use Rattle.std.specs.IoError.{error_kind};
-ghost use Rattle.std.specs.Option.{option_copied};
 ghost use Rattle.const_hex_arch.specs.Texts.{full_text};
 ghost use Rattle.const_hex.specs.Writers.{WriteStep, WritesBeginning, sink_writer, writer_name, first_error, has_failed};
 

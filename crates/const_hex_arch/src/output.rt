@@ -1,7 +1,6 @@
 //! Outputs, to which text is written.
 
-ghost use Rattle.std.specs.Prelude.{◌≡◌, ℕ, ◌<◌, List, [], ◌∷◌, length, Option};
-ghost use Rattle.std.specs.Str.{IsAscii};
+ghost use Rattle.std.specs.Prelude.{◌≡◌, ℕ, ◌<◌, List, [], ◌∷◌, length, Option, IsAscii};
 ghost use Rattle.const_hex_arch.specs.Outputs.{HasSpace, less_space};
 
 pub mod buffered;

@@ -1,7 +1,6 @@
 -- Texts that are passed to a formatter in pieces.
-use Rattle.std.proofs.Common.{◌≡◌, ℕ, Bool, false, List, [], ◌∷◌, refl, subst, ◌∙◌}
+use Rattle.std.proofs.Common.{◌≡◌, ℕ, Bool, false, List, [], ◌∷◌, refl, subst, ◌∙◌, Result}
 use Rattle.std.specs.List.{concat}
-use Rattle.std.specs.Prelude.{Result}
 use Rattle.std.specs.Fmt.{WritesOnOk, WritesStyledOnOk, formatter_spec, spec_alternate}
 use Rattle.std.specs.declared.fmt.Error.{Error}
 use Rattle.std.specs.declared.fmt.Formatter.{Formatter}

@@ -1,8 +1,7 @@
 -- Each text has exactly one result when it is read.
-use Rattle.std.proofs.Common.{◌≡◌, ℕ, ◌*◌, List, length, Result, Ok, Err, refl, ap, ◌∙◌, arith, eqb-true, eq-eqb}
+use Rattle.std.proofs.Common.{◌≡◌, ℕ, ◌*◌, List, length, Result, Ok, Err, refl, ap, ◌∙◌, arith, eqb-true, eq-eqb, IsOk, IsTrue, ◌↔◌}
 use Rattle.std.proofs.lemmas.Bool.{and_parts, and_from}
 use Rattle.std.proofs.lemmas.List.Sums.{AllPass-from_list_all, list_all-from_AllPass}
-use Rattle.std.specs.Prelude.{IsOk, IsTrue, ◌↔◌}
 use Rattle.const_hex_arch.specs.Texts.{Spells, AllDigits, FirstBad}
 use Rattle.const_hex_arch.proofs.lemmas.FirstInvalid.{Spells-some, FirstBad-same, digits_no_bad}
 use Rattle.const_hex_arch.proofs.lemmas.Spelling.{Spells-same, Spells-digits}

@@ -1,6 +1,5 @@
 -- Text that was written is read again.
-use Rattle.std.proofs.Common.{◌≡◌, ℕ, ◌*◌, Bool, true, false, List, [], ◌∷◌, length, Result, Ok, Err, refl, arith}
-use Rattle.std.specs.Prelude.{IfOk, IfErr, ◌≢◌, ◌↔◌}
+use Rattle.std.proofs.Common.{◌≡◌, ℕ, ◌*◌, Bool, true, false, List, [], ◌∷◌, length, Result, Ok, Err, refl, arith, IfOk, IfErr, ◌≢◌, ◌↔◌}
 use Rattle.std.proofs.lemmas.Bool.Decides.{nat_tests}
 use Rattle.const_hex_arch.specs.Texts.{hex_text, full_text}
 use Rattle.const_hex_arch.proofs.lemmas.Texts.{Spells-hex_text, length-hex_text, length-full_text}

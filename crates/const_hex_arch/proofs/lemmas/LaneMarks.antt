@@ -1,10 +1,9 @@
 -- Digits in a vector: their values and the test of each lane by one look-up, and the test of all lanes. The numbers
 -- are those of lanes16.rt and lanes.rt, which docs/DESIGN.md explains under "Checking and decoding one vector": adding
 -- 208 subtracts `0`, 143 (0x8F) is the part of a byte that looks up its limit, and 216 (0xD8) are the bits of a mark.
-use Rattle.std.proofs.Common.{◌≡◌, ℕ, zero, suc, ◌+◌, ◌-◌, ◌*◌, ◌/◌, ◌%◌, ◌<◌, ◌≤◌, ◌↔◌, Bool, true, eqb, cond, ltb, ltb→lt, ◌||◌, T, List, [], ◌∷◌, ◌++◌, length, replicate, get_or, bit_and, bit_or, refl, subst, arith, w8, Fits, IsTrue, Some}
+use Rattle.std.proofs.Common.{◌≡◌, ℕ, zero, suc, ◌+◌, ◌-◌, ◌*◌, ◌/◌, ◌%◌, ◌<◌, ◌≤◌, ◌↔◌, Bool, true, eqb, cond, ltb, ltb→lt, ◌||◌, T, List, [], ◌∷◌, ◌++◌, length, replicate, get_or, bit_and, bit_or, refl, subst, arith, w8, Fits, IsTrue, Some, is_some}
 use Rattle.std.specs.List.{AllZip}
 use Rattle.std.specs.Int.{bit_at}
-use Rattle.std.specs.Option.{is_some}
 use Rattle.std.proofs.lemmas.Bool.{agree_below, agree_below_at}
 use Rattle.std.proofs.lemmas.Bool.Decides.{nat_tests}
 use Rattle.std.proofs.lemmas.List.Elements.{All-nil, All-head, All-tail, All-cons}

@@ -1,6 +1,5 @@
 -- Texts that are worked through in steps, and the remainder by another call.
-use Rattle.std.proofs.Common.{◌≡◌, ℕ, ◌+◌, ◌-◌, ◌*◌, ◌<◌, ◌≤◌, ◌↔◌, List, [], ◌∷◌, ◌++◌, length, take, drop, slice_index, slice_index_or, refl, ap, ◌∙◌, arith, take-add, take-append-drop, drop-drop, length-take, length-append, Option}
-use Rattle.std.specs.Str.{IsAscii}
+use Rattle.std.proofs.Common.{◌≡◌, ℕ, ◌+◌, ◌-◌, ◌*◌, ◌<◌, ◌≤◌, ◌↔◌, List, [], ◌∷◌, ◌++◌, length, take, drop, slice_index, slice_index_or, refl, ap, ◌∙◌, arith, take-add, take-append-drop, drop-drop, length-take, length-append, Option, IsAscii}
 use Rattle.std.proofs.lemmas.Grind.{common_steps}
 use Rattle.std.proofs.lemmas.List.{append-nil, take_at, drop_at, take_rest}
 use Rattle.std.proofs.lemmas.List.Elements.{All-take, All-drop}

@@ -1,8 +1,7 @@
 //! An output that gathers small pieces into large ones.
 
-ghost use Rattle.std.specs.Prelude.{◌≡◌, ℕ, ◌+◌, ◌<◌, ◌≤◌, List, [], ◌++◌, length, take};
+ghost use Rattle.std.specs.Prelude.{◌≡◌, ℕ, ◌+◌, ◌<◌, ◌≤◌, List, [], ◌++◌, length, take, IsAscii};
 ghost use Rattle.std.specs.List.{FoldsTo};
-ghost use Rattle.std.specs.Str.{IsAscii};
 ghost use Rattle.const_hex_arch.specs.Outputs.{HasSpace, less_space, Gathers, piece_of};
 
 use crate::output::Output;

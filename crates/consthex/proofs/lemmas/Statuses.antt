@@ -1,6 +1,5 @@
 -- What an exit status says of an error.
-use Rattle.std.proofs.Common.{◌≡◌, ◌≢◌, ℕ, List, Result, Ok, Err, OnErr, arith}
-use Rattle.std.specs.Prelude.{Option}
+use Rattle.std.proofs.Common.{◌≡◌, ◌≢◌, ℕ, List, Result, Ok, Err, OnErr, arith, Option}
 use Rattle.std.specs.Io.KnownBytes.{Keeps}
 use Rattle.const_hex.specs.declared.error.FromHexError.{FromHexError}
 use Rattle.const_hex.specs.Writers.{WritesBeginning}

@@ -1,5 +1,4 @@
-use Rattle.std.proofs.Common.{◌≡◌, ◌↔◌, ◌/◌, ◌<◌, [], ℕ, List, Result, Ok, Err, length, refl, arith}
-use Rattle.std.specs.Prelude.{IfOk}
+use Rattle.std.proofs.Common.{◌≡◌, ◌↔◌, ◌/◌, ◌<◌, [], ℕ, List, Result, Ok, Err, length, refl, arith, IfOk}
 use Rattle.const_hex.specs.Decoding.{ReadsOn}
 use Rattle.const_hex.specs.Results.{body_of}
 use Rattle.const_hex.specs.Texts.{AllDigits}

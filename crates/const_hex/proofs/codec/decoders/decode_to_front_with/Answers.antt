@@ -1,6 +1,5 @@
-use Rattle.std.proofs.Common.{◌≡◌, ◌/◌, length, drop, arith}
+use Rattle.std.proofs.Common.{◌≡◌, ◌/◌, length, drop, arith, take_at, drop_at}
 use Rattle.std.proofs.lemmas.Grind.{common_steps}
-use Rattle.std.proofs.lemmas.List.{take_at, drop_at}
 use Rattle.const_hex.proofs.codec.decoders.decode_to_front_with.Goals as goal
 
 pub returns : goal.returns

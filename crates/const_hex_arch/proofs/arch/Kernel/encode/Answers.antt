@@ -1,7 +1,5 @@
-use Rattle.std.proofs.Common.{◌≡◌, ℕ, Bool, List, [], ◌∷◌, ◌++◌, length, take, drop, sym, ap, ◌∙◌, refl, arith}
-use Rattle.std.specs.Str.{IsAscii}
+use Rattle.std.proofs.Common.{◌≡◌, ℕ, Bool, List, [], ◌∷◌, ◌++◌, length, take, drop, sym, ap, ◌∙◌, refl, arith, IsAscii, Option}
 use Rattle.std.proofs.lemmas.List.{nil_from_length}
-use Rattle.std.specs.Prelude.{Option}
 use Rattle.const_hex_arch.specs.Outputs.{less_space, piece_size}
 use Rattle.const_hex_arch.specs.Texts.{hex_text}
 use Rattle.const_hex_arch.proofs.lemmas.Runs.{HasSpace-fewer, no_pieces}

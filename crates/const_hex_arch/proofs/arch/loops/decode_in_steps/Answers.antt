@@ -1,10 +1,8 @@
-use Rattle.std.proofs.Common.{◌≡◌, ◌+◌, ◌-◌, ◌*◌, ◌≤◌, length, refl, arith, ◌∙◌, sym}
-use Rattle.std.proofs.lemmas.List.{take_all}
+use Rattle.std.proofs.Common.{◌≡◌, ◌+◌, ◌-◌, ◌*◌, ◌≤◌, length, refl, arith, ◌∙◌, sym, take_all}
 use borrow.Rule.Slice.PartMut.{put_mid}
 use Rattle.const_hex_arch.proofs.lemmas.LeftOutputs.{none_decoded}
 use Rattle.const_hex_arch.proofs.lemmas.Standard.{false_is_true}
 use Rattle.const_hex_arch.proofs.lemmas.Steps.{IsDecoded, decoded_step, decoded_less, kept_step, refused_step, spells_rest, refused_rest}
-use Rattle.const_hex_arch.proofs.arch.loops.decode_in_steps.Given.{Over}
 use Rattle.const_hex_arch.proofs.arch.loops.decode_in_steps.Goals as goal
 use Rattle.const_hex_arch.proofs.arch.loops.decode_in_steps.Goals.{Joined-output-at-ge16, else-loop-output-test, then-loop-output-test+then-not-decode_two_steps+else-not-this-2, then-output-at-ge16+else-not-decode_step-2, else-output-at-ge16}
 
@@ -40,7 +38,7 @@ returns-then-not-decode_step-2-clause-refused g c = λ _.
     refused_step _ _ _ _ c.loop-output-2.invariant c.requires (is.unchanged refl) (λ d. false_is_true (is.digits.1 d))
 
 -- before the remainder
-decoded : (g : Over) (c : Joined-output-at-ge16 g) → (length c.if-output-at-ge16.output ≤ c.if-output-at-ge16.at + 16)
+decoded : (g : _) (c : Joined-output-at-ge16 g) → (length c.if-output-at-ge16.output ≤ c.if-output-at-ge16.at + 16)
     × IsDecoded c.args.input.now c.args.output.now c.if-output-at-ge16.output c.if-output-at-ge16.at
 decoded g c =
     let sizes = g.met.V.LaneOps.sizes in

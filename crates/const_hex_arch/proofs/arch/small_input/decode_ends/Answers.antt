@@ -1,5 +1,4 @@
-use Rattle.std.proofs.Common.{◌≡◌, ℕ, ◌*◌, ◌-◌, List, length, take, drop, rules, arith}
-use Rattle.std.proofs.lemmas.List.{take_all, take-take}
+use Rattle.std.proofs.Common.{◌≡◌, ℕ, ◌*◌, ◌-◌, List, length, take, drop, rules, arith, take_all, take-take}
 use Rattle.const_hex_arch.proofs.lemmas.Ends.{digits_ends, spells_ends}
 use Rattle.const_hex_arch.proofs.lemmas.Standard.{through}
 use Rattle.const_hex_arch.proofs.arch.small_input.decode_ends.Goals as goal

@@ -1,5 +1,4 @@
-use Rattle.std.proofs.Common.{◌≡◌, ◌-◌, take, drop, arith}
-use Rattle.std.proofs.lemmas.List.{take-take}
+use Rattle.std.proofs.Common.{◌≡◌, ◌-◌, take, drop, arith, take-take}
 use Rattle.const_hex_arch.proofs.lemmas.Ends.{ends_text}
 use Rattle.const_hex_arch.proofs.arch.small_input.fill_ends.Goals as goal
 

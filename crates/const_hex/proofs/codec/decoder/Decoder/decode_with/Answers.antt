@@ -1,5 +1,4 @@
-use Rattle.std.proofs.Common.{arith, refl, sym, length, ◌≡◌, ◌∙◌, take, drop, rules}
-use Rattle.std.proofs.lemmas.List.{length-take-le, take_at, drop_at}
+use Rattle.std.proofs.Common.{arith, refl, sym, length, ◌≡◌, ◌∙◌, take, drop, rules, length-take-le, take_at, drop_at}
 use Rattle.const_hex.specs.Decoding.{listed}
 use Rattle.const_hex_arch.proofs.lemmas.DigitTexts.{digits_append}
 use Rattle.const_hex_arch.proofs.lemmas.FirstInvalid.{digits_no_bad}

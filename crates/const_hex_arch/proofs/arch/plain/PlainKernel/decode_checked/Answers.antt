@@ -1,6 +1,5 @@
-use Rattle.std.proofs.Common.{◌*◌, ◌+◌, ◌<◌, get_or, arith}
+use Rattle.std.proofs.Common.{◌*◌, ◌+◌, ◌<◌, get_or, arith, take_all}
 use Rattle.std.proofs.lemmas.Grind.{common_steps}
-use Rattle.std.proofs.lemmas.List.{take_all}
 use Rattle.std.proofs.lemmas.Nat.{le_or_l, le_or_r}
 use Rattle.const_hex_arch.proofs.lemmas.Digits.{digit_small, two_digits}
 use Rattle.const_hex_arch.proofs.lemmas.LeftOutputs.{refused_joint}
