@@ -1,8 +1,7 @@
 //! The text of bytes, written to a sink in large pieces.
 
 ghost use Rattle.std.specs.Prelude.{◌≡◌, ◌≤◌, false, is_ok, length};
-ghost use Rattle.const_hex_arch.specs.Texts.{full_text, text_length};
-ghost use Rattle.const_hex_arch.specs.Sinks.{StreamsWhole, hex_bytes};
+ghost use Rattle.const_hex_arch.specs.{full_text, text_length, StreamsWhole, hex_bytes};
 
 use crate::arch::{FixedKernel, Kernel};
 use crate::output::buffered::BufferedOutput;

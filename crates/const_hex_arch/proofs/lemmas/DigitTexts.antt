@@ -2,7 +2,7 @@
 use Rattle.std.proofs.Common.{ℕ, ◌+◌, ◌<◌, ◌≢◌, ◌↔◌, List, ◌++◌, length, take, drop, get_or, refl, arith, take-append-drop, take_at, drop_at}
 use Rattle.std.proofs.lemmas.Bool.Decides.{nat_tests}
 use Rattle.std.proofs.lemmas.List.Elements.{All-append, All-take, All-drop, All-get_or, All-more}
-use Rattle.const_hex_arch.specs.Texts.{hex_value, value_or_nil, IsDigit, AllDigits}
+use Rattle.const_hex_arch.specs.{hex_value, value_or_nil, IsDigit, AllDigits}
 use Rattle.const_hex_arch.proofs.lemmas.Digits.{IsDigit-from_value, value_found}
 
 pub digits_append : (xs ys : List ℕ) → AllDigits (xs ++ ys) ↔ (AllDigits xs × AllDigits ys)

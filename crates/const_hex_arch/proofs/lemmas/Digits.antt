@@ -3,7 +3,7 @@ use Rattle.std.proofs.Common.{◌≡◌, ℕ, ◌<◌, ◌≢◌, get_or, bit_or
 use Rattle.std.proofs.lemmas.Bool.Decides.{nat_tests}
 use Rattle.std.proofs.lemmas.Nat.{le_or_l, le_or_r}
 use Rattle.const_hex_arch.specs.declared.tables.TheConstants.{HEX_DECODE_LUT}
-use Rattle.const_hex_arch.specs.Texts.{hex_value, value_or_nil, IsDigit}
+use Rattle.const_hex_arch.specs.{hex_value, value_or_nil, IsDigit}
 use Rattle.const_hex_arch.proofs.lemmas.Tables.{same_below}
 
 -- a byte that has a value is a digit

@@ -7,7 +7,7 @@ use Rattle.std.proofs.lemmas.Simd.{length-put_chunk, take_more_put_chunk}
 use lib.Lanes.{put_chunk}
 use borrow.Rule.Slice.PartMut.{put_mid}
 use Rattle.std.proofs.lemmas.Slice.{take-put_mid}
-use Rattle.const_hex_arch.specs.Texts.{IsDigit, hex_digit, hex_text, AllDigits, Spells}
+use Rattle.const_hex_arch.specs.{IsDigit, hex_digit, hex_text, AllDigits, Spells}
 use Rattle.const_hex_arch.proofs.lemmas.DigitTexts.{digits_append, digits_parts}
 use Rattle.const_hex_arch.proofs.lemmas.Spelling.{Spells-append, Spells-parts}
 use Rattle.const_hex_arch.proofs.lemmas.Steps.{digits_last}

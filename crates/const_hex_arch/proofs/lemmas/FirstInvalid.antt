@@ -2,7 +2,7 @@
 use Rattle.std.proofs.Common.{◌≡◌, ℕ, zero, suc, ◌+◌, ◌%◌, ◌<◌, ◌≤◌, List, [], ◌∷◌, length, take, drop, slice_index, ◌⊎◌, inl, inr, refl, arith, take-add, length-take, get_or-take, get_or-drop, is_some}
 use Rattle.std.proofs.lemmas.Grind.{common_steps}
 use Rattle.std.proofs.lemmas.List.Elements.{All-nil, All-cons, All-head, All-tail, All-get_or}
-use Rattle.const_hex_arch.specs.Texts.{hex_value, IsDigit, Spells, AllDigits, FirstBad}
+use Rattle.const_hex_arch.specs.{hex_value, IsDigit, Spells, AllDigits, FirstBad}
 use Rattle.const_hex_arch.proofs.lemmas.DigitTexts.{digits_append}
 use Rattle.std.proofs.lemmas.Bool.{cases_Bool}
 use Rattle.const_hex_arch.proofs.lemmas.Digits.{digit_found, no_value}

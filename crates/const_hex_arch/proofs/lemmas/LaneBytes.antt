@@ -4,8 +4,7 @@ use Rattle.std.specs.List.{AllZip}
 use Rattle.std.proofs.lemmas.Grind.{common_steps}
 use Rattle.std.proofs.lemmas.List.{map-append}
 use lib.Lanes.{number_l, digits_l}
-use Rattle.const_hex_arch.specs.Texts.{hex_value, AllDigits, Spells}
-use Rattle.const_hex_arch.specs.Lanes.{AllNibbles, byte_pairs, as_value, IsValueOf}
+use Rattle.const_hex_arch.specs.{hex_value, AllDigits, Spells, AllNibbles, byte_pairs, as_value, IsValueOf}
 use Rattle.const_hex_arch.proofs.lemmas.Tables.{every_pair}
 use Rattle.const_hex_arch.proofs.lemmas.LaneValues.{values_of_digits, small_values}
 use Rattle.const_hex_arch.proofs.lemmas.DigitTexts.{digits_append}

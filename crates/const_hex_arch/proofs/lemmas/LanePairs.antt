@@ -4,8 +4,7 @@ use Rattle.std.specs.List.{range_with_len}
 use Rattle.std.proofs.lemmas.List.{length-map}
 use Rattle.std.proofs.lemmas.Simd.{SwzOk, SwzOk-from_below, swz_l}
 use lib.Lanes.{zip2, Each1, pick_l}
-use Rattle.const_hex_arch.specs.Texts.{hex_digit, hex_text}
-use Rattle.const_hex_arch.specs.Lanes.{halves_of, AllNibbles, byte_pairs}
+use Rattle.const_hex_arch.specs.{hex_digit, hex_text, halves_of, AllNibbles, byte_pairs}
 use Rattle.const_hex_arch.proofs.lemmas.Tables.{every_below, every_pair}
 use Rattle.const_hex_arch.proofs.lemmas.LaneText.{is_table, looked_up, digits_of_halves}
 

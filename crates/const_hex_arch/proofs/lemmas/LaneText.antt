@@ -4,8 +4,7 @@ use Rattle.std.specs.List.{range_with_len, concat}
 use Rattle.std.proofs.lemmas.List.{append-nil, ext_get_or, get_or-map, length-map}
 use Rattle.std.proofs.lemmas.Simd.{Each1-get_or, SwzOk, SwzOk-from_below, swz_l, length-swz_l, get_or-swz_l_below}
 use lib.Lanes.{zip2, Each1, pick_l, number_l, digits_l}
-use Rattle.const_hex_arch.specs.Texts.{hex_digit, hex_text}
-use Rattle.const_hex_arch.specs.Lanes.{halves_of}
+use Rattle.const_hex_arch.specs.{hex_digit, hex_text, halves_of}
 use Rattle.const_hex_arch.proofs.lemmas.Tables.{holds_below, every_below, every_pair}
 use Rattle.const_hex_arch.proofs.lemmas.Texts.{hex_text-append}
 use Rattle.const_hex_arch.proofs.lemmas.LaneLookups.{halves}

@@ -4,8 +4,7 @@ use Rattle.std.specs.List.{AllZip}
 use Rattle.std.proofs.lemmas.Bool.Decides.{nat_tests}
 use Rattle.std.proofs.lemmas.List.Elements.{All-head, All-tail}
 use lib.Lanes.{zip2, sel_l, top, Each1}
-use Rattle.const_hex_arch.specs.Texts.{hex_value, IsDigit, AllDigits}
-use Rattle.const_hex_arch.specs.Lanes.{AllNibbles, as_value, IsValueOf}
+use Rattle.const_hex_arch.specs.{hex_value, IsDigit, AllDigits, AllNibbles, as_value, IsValueOf}
 use Rattle.const_hex_arch.proofs.lemmas.Tables.{every_below}
 use Rattle.const_hex_arch.proofs.lemmas.Standard.{false_is_true}
 

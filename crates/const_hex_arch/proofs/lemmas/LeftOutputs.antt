@@ -2,7 +2,7 @@
 use Rattle.std.proofs.Common.{◌≡◌, ℕ, ◌+◌, ◌*◌, ◌<◌, ◌≤◌, List, length, take, drop, get_or, bit_or, refl, sym, ◌∙◌, arith, take-add, drop-drop, length-take}
 use Rattle.std.proofs.lemmas.Nat.{or_lt}
 use Rattle.std.proofs.lemmas.List.Elements.{All-get_or}
-use Rattle.const_hex_arch.specs.Texts.{hex_value, value_or_nil, IsDigit, Spells, AllDigits, Partial}
+use Rattle.const_hex_arch.specs.{hex_value, value_or_nil, IsDigit, Spells, AllDigits, Partial}
 use Rattle.const_hex_arch.proofs.lemmas.Digits.{digit_small}
 use Rattle.const_hex_arch.proofs.lemmas.DigitTexts.{digits_parts}
 use Rattle.const_hex_arch.proofs.lemmas.FirstInvalid.{FirstBad-after, first_bad}

@@ -2,7 +2,7 @@
 use Rattle.std.proofs.Common.{◌≡◌, ℕ, ◌+◌, ◌*◌, ◌<◌, ◌≢◌, List, [], ◌∷◌, ◌++◌, length, take, get_or, set, arith}
 use Rattle.std.proofs.lemmas.Grind.{common_steps}
 use Rattle.std.proofs.lemmas.List.{take_more, append_assoc}
-use Rattle.const_hex_arch.specs.Texts.{hex_value, value_or_nil, Spells}
+use Rattle.const_hex_arch.specs.{hex_value, value_or_nil, Spells}
 use Rattle.const_hex_arch.proofs.lemmas.Digits.{value_found}
 use Rattle.const_hex_arch.proofs.lemmas.Spelling.{IsPair-of, Spells-append}
 

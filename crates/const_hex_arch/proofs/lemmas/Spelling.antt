@@ -1,7 +1,7 @@
 -- What texts decode to.
 use Rattle.std.proofs.Common.{◌≡◌, ℕ, zero, suc, ◌+◌, ◌*◌, ◌<◌, List, [], ◌∷◌, ◌++◌, length, take, drop, slice_index, Some, refl, arith}
 use Rattle.std.proofs.lemmas.List.Elements.{All-nil, All-cons}
-use Rattle.const_hex_arch.specs.Texts.{hex_value, IsDigit, IsPair, Spells, AllDigits}
+use Rattle.const_hex_arch.specs.{hex_value, IsDigit, IsPair, Spells, AllDigits}
 use Rattle.const_hex_arch.proofs.lemmas.Digits.{IsDigit-from_value, hex_value-small}
 
 -- two digits that make a byte

@@ -5,8 +5,7 @@ use Rattle.std.proofs.lemmas.List.{append-nil, take_at, drop_at, take_rest}
 use Rattle.std.proofs.lemmas.List.Elements.{All-take, All-drop}
 use Rattle.std.proofs.lemmas.Slice.{take-put_mid, drop-put_mid}
 use borrow.Rule.Slice.PartMut.{put_mid}
-use Rattle.const_hex_arch.specs.Texts.{IsDigit, AllDigits, Spells, Partial}
-use Rattle.const_hex_arch.specs.Outputs.{HasSpace, less_space, WritesPieces}
+use Rattle.const_hex_arch.specs.{IsDigit, AllDigits, Spells, Partial, HasSpace, less_space, WritesPieces}
 use Rattle.const_hex_arch.proofs.lemmas.Runs.{HasSpace-less, one_piece}
 use Rattle.const_hex_arch.proofs.lemmas.DigitTexts.{digits_append, digits_parts}
 use Rattle.const_hex_arch.proofs.lemmas.LeftOutputs.{none_decoded, Partial-after}

@@ -5,8 +5,7 @@ use Rattle.std.proofs.lemmas.Bool.{cases_Bool}
 use Rattle.std.proofs.lemmas.List.{append-nil, append_assoc, take_all, take-append-le}
 use Rattle.std.proofs.lemmas.List.Elements.{All-nil, All-cons, All-head, All-tail, All-append, All-take, All-weaker}
 use Rattle.std.proofs.lemmas.List.Folds.{concat-append}
-use Rattle.const_hex_arch.specs.Outputs.{Writes, IsKernelPiece, Gathers, piece_of, FlushesPending}
-use Rattle.const_hex_arch.specs.Sinks.{SinkStep, output_sink, sink_name, reported_after, IsCallPiece, IsLargePiece, Cut, Offers, Streams, StreamsWhole}
+use Rattle.const_hex_arch.specs.{Writes, IsKernelPiece, Gathers, piece_of, FlushesPending, SinkStep, output_sink, sink_name, reported_after, IsCallPiece, IsLargePiece, Cut, Offers, Streams, StreamsWhole}
 use Rattle.const_hex_arch.specs.declared.sink.output.SinkOutput.{SinkOutput}
 use Rattle.const_hex_arch.proofs.lemmas.Runs.{run_append, concat-piece_of}
 

@@ -5,7 +5,7 @@ use Rattle.std.proofs.lemmas.Grind.{common_steps}
 use Rattle.std.proofs.lemmas.Str.{IsUtf8-from_ascii}
 use Rattle.std.proofs.lemmas.Str.Ascii.{IsAscii-nil, IsAscii-cons}
 use Rattle.const_hex_arch.proofs.lemmas.Spelling.{IsPair-of}
-use Rattle.const_hex_arch.specs.Texts.{hex_value, hex_digit, hex_text, prefix_of, full_text, text_length, Spells}
+use Rattle.const_hex_arch.specs.{hex_value, hex_digit, hex_text, prefix_of, full_text, text_length, Spells}
 
 pub hex_text-nil : (up : Bool) → hex_text up [] ≡ []
 unfolding hex_text

@@ -4,8 +4,7 @@
 
 ghost use Rattle.std.specs.Prelude.{◌≡◌, ◌*◌, ◌++◌, ◌≤◌, ◌↔◌, [], ◌∷◌, length, map, IsTrue};
 ghost use Rattle.std.specs.List.{AllZip, concat};
-ghost use Rattle.const_hex_arch.specs.Texts.{hex_value, hex_text, AllDigits, Spells};
-ghost use Rattle.const_hex_arch.specs.Lanes.{AllNibbles, AllUnmarked, byte_pairs, as_value, IsValueOf, IsPartOf, IsLimitOf};
+ghost use Rattle.const_hex_arch.specs.{hex_value, hex_text, AllDigits, Spells, AllNibbles, AllUnmarked, byte_pairs, as_value, IsValueOf, IsPartOf, IsLimitOf};
 
 use std::simd::prelude::*;
 

@@ -3,8 +3,7 @@
 //! `V` has the `N` lanes of a step.
 
 ghost use Rattle.std.specs.Prelude.{◌≡◌, ◌-◌, ◌*◌, ◌≤◌, ◌++◌, ◌↔◌, IsTrue, false, length, take, drop};
-ghost use Rattle.const_hex_arch.specs.Texts.{IsDigit, hex_text, AllDigits, Spells};
-ghost use Rattle.const_hex_arch.specs.Lanes.{AllUnmarked};
+ghost use Rattle.const_hex_arch.specs.{IsDigit, hex_text, AllDigits, Spells, AllUnmarked};
 
 use crate::arch::lanes::{self, LaneOps};
 use std::simd::prelude::*;

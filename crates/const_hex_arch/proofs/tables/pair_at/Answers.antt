@@ -1,5 +1,5 @@
 use Rattle.std.proofs.Common.{◌≡◌, ℕ, ◌+◌, ◌*◌, ◌/◌, ◌%◌, ◌<◌, true, false, get_or, arith}
-use Rattle.const_hex_arch.specs.Texts.{hex_digit}
+use Rattle.const_hex_arch.specs.{hex_digit}
 use Rattle.const_hex_arch.specs.declared.tables.TheConstants.{PAIRS_LOWER, PAIRS_UPPER}
 use Rattle.const_hex_arch.proofs.lemmas.Tables.{same_below}
 use Rattle.const_hex_arch.proofs.tables.pair_at.Goals as goal

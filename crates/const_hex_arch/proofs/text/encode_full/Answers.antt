@@ -1,5 +1,5 @@
 use Rattle.std.proofs.Common.{◌*◌, length}
-use Rattle.const_hex_arch.specs.Texts.{prefix_of}
+use Rattle.const_hex_arch.specs.{prefix_of}
 use Rattle.const_hex_arch.proofs.lemmas.Runs.{Writes-append, Writes_space, kernel_pieces}
 use Rattle.const_hex_arch.proofs.lemmas.Texts.{length-full_text}
 use Rattle.const_hex_arch.proofs.text.encode_full.Goals as goal

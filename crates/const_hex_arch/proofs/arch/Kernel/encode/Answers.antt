@@ -1,7 +1,6 @@
 use Rattle.std.proofs.Common.{◌≡◌, ℕ, Bool, List, [], ◌∷◌, ◌++◌, length, take, drop, sym, ap, ◌∙◌, refl, arith, IsAscii, Option}
 use Rattle.std.proofs.lemmas.List.{nil_from_length}
-use Rattle.const_hex_arch.specs.Outputs.{less_space, piece_size}
-use Rattle.const_hex_arch.specs.Texts.{hex_text}
+use Rattle.const_hex_arch.specs.{less_space, piece_size, hex_text}
 use Rattle.const_hex_arch.proofs.lemmas.Runs.{HasSpace-fewer, no_pieces}
 use Rattle.const_hex_arch.proofs.lemmas.Steps.{IsWritten, part_ascii, piece_written, two_bytes, parts}
 use Rattle.const_hex_arch.proofs.lemmas.Texts.{IsAscii-hex_text, hex_text-append, hex_text-nil, length-hex_text}

@@ -1,5 +1,5 @@
 use Rattle.std.proofs.Common.{sym, ap, ◌∙◌}
-use Rattle.const_hex_arch.specs.Texts.{hex_text}
+use Rattle.const_hex_arch.specs.{hex_text}
 use Rattle.const_hex_arch.proofs.lemmas.Steps.{parts}
 use Rattle.const_hex_arch.proofs.lemmas.Texts.{hex_text-append}
 use Rattle.const_hex_arch.proofs.arch.steps.fill_two_steps.Goals as goal
