@@ -1,9 +1,7 @@
 //! Owned text and owned bytes, over zeros that are filled.
 
 ghost use Rattle.std.specs.Prelude.{◌≡◌, ◌≢◌, ◌↔◌, true, false, length, IfOk, IfErr, string_bytes, Ok, Err};
-ghost use Rattle.const_hex_arch.specs.Texts.{full_text};
-ghost use Rattle.const_hex.specs.Results.{Decodes, Encodes, IsOdd, Reads};
-ghost use Rattle.const_hex.specs.declared.error.FromHexError.TheVariants.{OddLength, NoMemory};
+ghost use Rattle.const_hex.specs.Prelude.{full_text, Decodes, Encodes, IsOdd, Reads, OddLength, NoMemory};
 
 use crate::codec::body::{find_invalid_character, strip_even};
 use crate::error::FromHexError;

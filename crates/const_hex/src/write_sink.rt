@@ -3,8 +3,7 @@
 ghost use Rattle.std.specs.Prelude.{◌≡◌, ◌≢◌, true, false, not, is_ok, None, IsOk, Err, OnOk, OnErr, IfErr, MatchOption, option_copied};
 ghost use Rattle.std.specs.Io.KnownBytes.{Appends};
 ghost use Rattle.std.specs.IoError.{error_kind};
-ghost use Rattle.const_hex_arch.specs.Texts.{full_text};
-ghost use Rattle.const_hex.specs.Writers.{WriteStep, WritesBeginning, sink_writer, writer_name, first_error, has_failed};
+ghost use Rattle.const_hex.specs.Prelude.{full_text, WriteStep, WritesBeginning, sink_writer, writer_name, first_error, has_failed};
 
 use const_hex_arch::{BufferedHex, Sink, SinkError};
 use std::io::{self, ErrorKind, Write};

@@ -2,11 +2,7 @@
 use Rattle.std.proofs.Common.{◌≡◌, ℕ, ◌+◌, ◌-◌, ◌*◌, ◌/◌, ◌%◌, ◌≤◌, ◌≢◌, List, [], ◌∷◌, ◌++◌, length, take, drop, get_or, slice_index, None, Ok, refl, sym, ap, ◌∙◌, arith, length-append, length-drop}
 use Rattle.std.proofs.lemmas.List.{append_assoc, append-nil, get_or_append_left, get_or-append-add, length-take, take-append-le, take-append-drop, take_all, take_at, drop_all, drop_at}
 use Rattle.std.proofs.lemmas.List.Elements.{All-drop, All-take}
-use Rattle.const_hex.specs.Results.{IsOdd, Reads, body_of}
-use Rattle.const_hex.specs.Decoding.{HasRead, NamesCounted, counted, error_of, position_of, waiting_digit}
-use Rattle.const_hex.specs.TypeLaws.{body-parity}
-use Rattle.const_hex.specs.declared.codec.decoder.Decoder.{Decoder}
-use Rattle.const_hex_arch.specs.Texts.{IsDigit, AllDigits, FirstBad, Partial, Spells}
+use Rattle.const_hex.specs.Prelude.{IsOdd, Reads, body_of, HasRead, NamesCounted, counted, error_of, position_of, waiting_digit, body-parity, Decoder, IsDigit, AllDigits, FirstBad, Partial, Spells}
 use Rattle.const_hex_arch.proofs.lemmas.DigitTexts.{digits_append}
 use Rattle.const_hex_arch.proofs.lemmas.FirstInvalid.{FirstBad-after, Spells-some}
 use Rattle.const_hex_arch.proofs.lemmas.LeftOutputs.{Partial-after, none_decoded}

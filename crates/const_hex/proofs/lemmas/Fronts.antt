@@ -2,7 +2,7 @@
 use Rattle.std.proofs.Common.{◌≡◌, ◌≤◌, ◌*◌, ◌/◌, ℕ, List, ◌++◌, length, take, drop, refl, arith}
 use Rattle.std.proofs.lemmas.Grind.{common_steps}
 use Rattle.std.proofs.lemmas.List.{take-append-drop, take-append-le, drop-append-le}
-use Rattle.const_hex_arch.specs.Texts.{Partial}
+use Rattle.const_hex.specs.Prelude.{Partial}
 
 -- what `Partial` says of a front that the pairs of the text just fill, it says of the whole output
 pub partial_pairs : (old u new : List ℕ) (n : ℕ) → n ≤ length old → length u / 2 ≡ n → Partial (take n old) u new

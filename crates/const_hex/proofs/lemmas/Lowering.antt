@@ -1,11 +1,10 @@
 -- The canonical text of what a text decodes to.
 use Rattle.std.proofs.Common.{◌≡◌, ℕ, ◌+◌, ◌/◌, ◌%◌, nat_le, ◌&&◌, if◌then◌else◌, false, List, [], ◌∷◌, Some, refl, sym, ◌∙◌, arith, ◌↔◌}
 use Rattle.std.proofs.lemmas.Bool.Decides.{nat_tests}
-use Rattle.const_hex_arch.specs.Texts.{hex_value, hex_digit, hex_text, Spells}
+use Rattle.const_hex.specs.Prelude.{hex_value, hex_digit, hex_text, Spells, lowered}
 use Rattle.const_hex_arch.proofs.lemmas.Digits.{hex_value-small}
 use Rattle.const_hex_arch.proofs.lemmas.Spelling.{Spells-same, Spells-bytes}
 use Rattle.const_hex_arch.proofs.lemmas.Texts.{Spells-hex_text}
-use Rattle.const_hex.specs.Results.{lowered}
 
 -- the lower digit of a digit's value
 lowered_digit : (c v : ℕ) → hex_value c ≡ Some v

@@ -1,11 +1,8 @@
 -- Text that was written is read again.
 use Rattle.std.proofs.Common.{◌≡◌, ℕ, ◌*◌, Bool, true, false, List, [], ◌∷◌, length, Result, Ok, Err, refl, arith, IfOk, IfErr, ◌≢◌, ◌↔◌}
 use Rattle.std.proofs.lemmas.Bool.Decides.{nat_tests}
-use Rattle.const_hex_arch.specs.Texts.{hex_text, full_text}
+use Rattle.const_hex.specs.Prelude.{hex_text, full_text, body_of, lowered, Reads, ReadsSized, IsOdd, AreBytes, Decodes, DecodesToArray, FromHexError, NoMemory, OddLength}
 use Rattle.const_hex_arch.proofs.lemmas.Texts.{Spells-hex_text, length-hex_text, length-full_text}
-use Rattle.const_hex.specs.Results.{body_of, lowered, Reads, ReadsSized, IsOdd, AreBytes, Decodes, DecodesToArray}
-use Rattle.const_hex.specs.declared.error.FromHexError.{FromHexError}
-use Rattle.const_hex.specs.declared.error.FromHexError.TheVariants.{NoMemory, OddLength}
 use Rattle.const_hex.proofs.lemmas.Reading.{one_answer, one_sized_answer, sized_accepts}
 use Rattle.const_hex.proofs.lemmas.Lowering.{hex_text-lowered, Spells-agree}
 

@@ -10,8 +10,7 @@ use Rattle.std.specs.List.{concat}
 use Rattle.std.specs.IoError.{error_kind}
 use Rattle.std.specs.declared.io.Error.{Error}
 use Rattle.std.specs.declared.io.ErrorKind.TheVariants.{Interrupted}
-use Rattle.const_hex_arch.specs.Sinks.{Offers, Streams}
-use Rattle.const_hex.specs.Writers.{WriteStep, sink_writer, has_failed}
+use Rattle.const_hex.specs.Prelude.{Offers, Streams, WriteStep, sink_writer, has_failed}
 use Rattle.const_hex.specs.declared.write_sink.WriteSink.{WriteSink}
 
 -- n bytes of what follows the first `done` bytes end inside the whole

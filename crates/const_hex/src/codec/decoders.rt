@@ -1,7 +1,7 @@
 //! Decoding a whole text.
 
 ghost use Rattle.std.specs.Prelude.{◌≡◌, ◌*◌, false, length, IsTrue, Ok};
-ghost use Rattle.const_hex.specs.Results.{body_of, ReadsSized, all_digits, DecodesToSlice, DecodesToFront, DecodesToArray};
+ghost use Rattle.const_hex.specs.Prelude.{body_of, ReadsSized, all_digits, DecodesToSlice, DecodesToFront, DecodesToArray};
 
 use crate::codec::body::{are_digits, decode_body, find_invalid_character, strip_even};
 use crate::error::FromHexError;

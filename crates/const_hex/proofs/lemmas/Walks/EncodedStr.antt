@@ -23,10 +23,8 @@ use denote.Slice.{slice_ty, finally, MutSlice, ShrSlice, mut_slice_vals, mut_sli
 use denote.Text.{str-field, str-laws, str-copy}
 use Rattle.std.specs.Borrow.{Array, full_share}
 use Rattle.std.specs.Io.BufRead.{Rests}
-use Rattle.const_hex_arch.specs.Texts.{hex_text}
-use Rattle.const_hex.specs.Buffers.{EndsEncoded}
+use Rattle.const_hex.specs.Prelude.{hex_text, EndsEncoded, InvalidStringLength}
 use Rattle.const_hex.specs.contracts.error.FromHexError as refusal
-use Rattle.const_hex.specs.declared.error.FromHexError.TheVariants.{InvalidStringLength}
 use Rattle.const_hex.specs.contracts.codec.encoders.encode_to_str as e
 use Rattle.const_hex.specs.contracts.codec.encoders.encode_into as g
 use Rattle.const_hex.specs.contracts.codec.encoders.encoded_text as h

@@ -1,5 +1,5 @@
 use Rattle.std.proofs.Common.{arith, refl, sym, length, ◌≡◌, ◌∙◌, take, drop, rules, length-take-le, take_at, drop_at}
-use Rattle.const_hex.specs.Decoding.{listed}
+use Rattle.const_hex.specs.Prelude.{listed}
 use Rattle.const_hex_arch.proofs.lemmas.DigitTexts.{digits_append}
 use Rattle.const_hex_arch.proofs.lemmas.FirstInvalid.{digits_no_bad}
 use Rattle.const_hex.proofs.lemmas.Decoding.{added, bad_by_now, digits_by_now, goes_on, spelled_by_now}
