@@ -27,7 +27,7 @@ pub fn read<T: FromHex>(alloc: Global, text: &[u8]) -> Result<T, T::Error>
 
 /// Reads two texts. Each value has the bytes that its text decodes to. The values have the same bytes
 /// if and only if the texts differ only in prefix and case.
-#[tactic(auto, using(const_hex::proofs::lemmas::Lowering::read_back))]
+#[tactic(auto, using(const_hex::proofs::lemmas::RoundTrip::read_back))]
 pub fn read_both<T: FromHex + Drop>(
     alloc: Global,
     first: &[u8],

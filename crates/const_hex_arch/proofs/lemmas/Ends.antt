@@ -8,10 +8,9 @@ use lib.Lanes.{put_chunk}
 use borrow.Rule.Slice.PartMut.{put_mid}
 use Rattle.std.proofs.lemmas.Slice.{take-put_mid}
 use Rattle.const_hex_arch.specs.{IsDigit, hex_digit, hex_text, AllDigits, Spells}
-use Rattle.const_hex_arch.proofs.lemmas.DigitTexts.{digits_append, digits_parts}
-use Rattle.const_hex_arch.proofs.lemmas.Spelling.{Spells-append, Spells-parts}
+use Rattle.const_hex_arch.proofs.lemmas.Digits.{digits_append, digits_parts}
+use Rattle.const_hex_arch.proofs.lemmas.Texts.{Spells-append, Spells-parts, hex_text-nil, hex_text-one, hex_text-append, length-hex_text}
 use Rattle.const_hex_arch.proofs.lemmas.Steps.{digits_last}
-use Rattle.const_hex_arch.proofs.lemmas.Texts.{hex_text-nil, hex_text-one, hex_text-append, length-hex_text}
 
 -- the text of the first k bytes, and of the others
 hex_text-parts : (up : Bool) (k : ℕ) (bs : List ℕ) → k ≤ length bs

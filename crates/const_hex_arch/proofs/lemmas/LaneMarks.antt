@@ -13,9 +13,9 @@ use Rattle.std.proofs.lemmas.Simd.{swz_l}
 use lib.Lanes.{zip2, fold_l, Each1, number_l, digits_l}
 use mir.Val.{zeroes}
 use Rattle.const_hex_arch.specs.{hex_value, IsDigit, AllDigits, IsUnmarked, AllUnmarked, IsValueOf, IsPartOf, IsLimitOf}
-use Rattle.const_hex_arch.proofs.lemmas.Tables.{holds_below, every_below}
+use Rattle.const_hex_arch.proofs.lemmas.Standard.{holds_below, every_below}
 use Rattle.const_hex_arch.proofs.lemmas.LaneValues.{same_value, is_none, same_if_some, sub8, min_l}
-use Rattle.const_hex_arch.proofs.lemmas.DigitTexts.{digits_append}
+use Rattle.const_hex_arch.proofs.lemmas.Digits.{digits_append}
 
 -- the bits that mark a lane
 abbrev mark_bits : ℕ → ℕ

@@ -107,7 +107,7 @@ pub(crate) fn joint_marks<const N: usize, V: LaneOps<N>>(
 /// Decodes two vectors of digits to one vector of bytes. If some lane is not a digit, the result is
 /// unspecified: test the marks before you use it.
 #[inline(always)]
-#[tactic(auto, using(crate::proofs::lemmas::LaneMarks::values_of_parts, crate::proofs::lemmas::LaneBytes::merge_spells))]
+#[tactic(auto, using(crate::proofs::lemmas::LaneMarks::values_of_parts, crate::proofs::lemmas::LaneValues::merge_spells))]
 pub(crate) fn decode<const N: usize, V: LaneOps<N>>(
     first: Simd<u8, N>,
     second: Simd<u8, N>,
@@ -120,7 +120,7 @@ pub(crate) fn decode<const N: usize, V: LaneOps<N>>(
 
 /// As [`decode`], by [`unhex`], for lanes that were tested before.
 #[inline(always)]
-#[tactic(auto, using(crate::proofs::lemmas::LaneBytes::merge_spells))]
+#[tactic(auto, using(crate::proofs::lemmas::LaneValues::merge_spells))]
 pub(crate) fn decode_digits<const N: usize, V: LaneOps<N>>(
     first: Simd<u8, N>,
     second: Simd<u8, N>,

@@ -6,9 +6,8 @@ use Rattle.const_hex.proofs.lemmas.Reading.{one_answer}
 use Rattle.const_hex.proofs.lemmas.RoundTrip.{Reads-full_text}
 use Rattle.const_hex.specs.Results.{AreBytes, IsEven, Reads, body_of}
 use Rattle.const_hex.specs.Texts.{AllDigits, IsDigit, full_text, hex_text, prefix_of}
-use Rattle.const_hex_arch.proofs.lemmas.DigitTexts.{digits_append}
-use Rattle.const_hex_arch.proofs.lemmas.Spelling.{Spells-digits}
-use Rattle.const_hex_arch.proofs.lemmas.Texts.{Spells-hex_text}
+use Rattle.const_hex_arch.proofs.lemmas.Digits.{digits_append}
+use Rattle.const_hex_arch.proofs.lemmas.Texts.{Spells-digits, Spells-hex_text}
 use Rattle.hexfilter_core.specs.Dumps.{FromHexError, Groups, HasError, IgnoresLines, InvalidHexCharacter, InvalidStringLength, NoMemory, OddLength, Place, Reading, encoded, groups_from, is_whitespace, mirror, text_from, text_of}
 use Rattle.hexfilter_core.specs.Runs.{Decode, FailsWith, Makes}
 use Rattle.hexfilter_core.proofs.lemmas.Texts.{body-longer, text-append}

@@ -1,7 +1,7 @@
 use Rattle.std.proofs.Common.{refl, arith, length, ◌*◌, sym, ◌∙◌}
 use Rattle.const_hex_arch.proofs.lemmas.Standard.{false_is_true}
-use Rattle.const_hex_arch.proofs.lemmas.DigitTexts.{digits_parts}
-use Rattle.const_hex_arch.proofs.lemmas.Spelling.{Spells-digits}
+use Rattle.const_hex_arch.proofs.lemmas.Digits.{digits_parts}
+use Rattle.const_hex_arch.proofs.lemmas.Texts.{Spells-digits}
 use Rattle.const_hex.proofs.lemmas.Decoding.{last_refused, pairs_refused}
 use Rattle.const_hex.proofs.codec.decoder.decode_digits.Goals as goal
 

@@ -1,6 +1,6 @@
 use Rattle.std.proofs.Common.{◌*◌, ◌+◌, get_or, arith, rules, take_all}
 use Rattle.std.proofs.lemmas.Grind.{common_steps}
-use Rattle.const_hex_arch.proofs.lemmas.MorePairs.{pair_more}
+use Rattle.const_hex_arch.proofs.lemmas.Texts.{pair_more}
 use Rattle.const_hex.proofs.lemmas.Searching.{has_value}
 use Rattle.const_hex.proofs.lemmas.RoundTrip.{DecodesToArray-from_ReadsSized}
 use Rattle.const_hex.proofs.codec.decoders.const_decode_to_array.Goals as goal

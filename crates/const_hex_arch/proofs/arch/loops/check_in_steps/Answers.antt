@@ -1,7 +1,7 @@
 use Rattle.std.proofs.Common.{◌+◌, ◌-◌, ◌*◌, ◌≤◌, length, take, drop, refl, arith}
 use Rattle.std.proofs.lemmas.List.Elements.{All-take, All-drop}
 use Rattle.const_hex_arch.specs.{IsDigit, AllDigits}
-use Rattle.const_hex_arch.proofs.lemmas.DigitTexts.{digits_append}
+use Rattle.const_hex_arch.proofs.lemmas.Digits.{digits_append}
 use Rattle.const_hex_arch.proofs.lemmas.Standard.{through}
 use Rattle.const_hex_arch.proofs.lemmas.Steps.{digits_step, digits_last}
 use Rattle.const_hex_arch.proofs.arch.loops.check_in_steps.Goals as goal

@@ -1,6 +1,6 @@
 use Rattle.std.proofs.Common.{◌≡◌, ◌+◌, ◌-◌, ◌*◌, ◌≤◌, length, refl, arith, ◌∙◌, sym, take_all}
 use borrow.Rule.Slice.PartMut.{put_mid}
-use Rattle.const_hex_arch.proofs.lemmas.LeftOutputs.{none_decoded}
+use Rattle.const_hex_arch.proofs.lemmas.FirstInvalid.{none_decoded}
 use Rattle.const_hex_arch.proofs.lemmas.Standard.{false_is_true}
 use Rattle.const_hex_arch.proofs.lemmas.Steps.{IsDecoded, decoded_step, decoded_less, kept_step, refused_step, spells_rest, refused_rest}
 use Rattle.const_hex_arch.proofs.arch.loops.decode_in_steps.Goals as goal

@@ -1,5 +1,5 @@
 use Rattle.std.proofs.Common.{arith}
-use Rattle.const_hex_arch.proofs.lemmas.DigitTexts.{digits_more}
+use Rattle.const_hex_arch.proofs.lemmas.Digits.{digits_more}
 use Rattle.const_hex_arch.proofs.arch.plain.PlainKernel.check.Goals as goal
 
 pub loop-b-preserved : goal.loop-b-preserved

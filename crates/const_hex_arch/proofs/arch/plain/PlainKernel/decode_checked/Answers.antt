@@ -2,8 +2,8 @@ use Rattle.std.proofs.Common.{◌*◌, ◌+◌, ◌<◌, get_or, arith, take_all
 use Rattle.std.proofs.lemmas.Grind.{common_steps}
 use Rattle.std.proofs.lemmas.Nat.{le_or_l, le_or_r}
 use Rattle.const_hex_arch.proofs.lemmas.Digits.{digit_small, two_digits}
-use Rattle.const_hex_arch.proofs.lemmas.LeftOutputs.{refused_joint}
-use Rattle.const_hex_arch.proofs.lemmas.MorePairs.{pair_more}
+use Rattle.const_hex_arch.proofs.lemmas.FirstInvalid.{refused_joint}
+use Rattle.const_hex_arch.proofs.lemmas.Texts.{pair_more}
 use Rattle.const_hex_arch.proofs.arch.plain.PlainKernel.decode_checked.Goals as goal
 use Rattle.const_hex_arch.proofs.arch.plain.PlainKernel.decode_checked.Goals.{Else-high-low-ge128}
 

@@ -1,6 +1,6 @@
 use Rattle.std.proofs.Common.{◌*◌, ◌+◌, sym, ◌∙◌, arith}
-use Rattle.const_hex_arch.proofs.lemmas.DigitTexts.{digit_values}
-use Rattle.const_hex_arch.proofs.lemmas.MorePairs.{pair_more}
+use Rattle.const_hex_arch.proofs.lemmas.Digits.{digit_values}
+use Rattle.const_hex_arch.proofs.lemmas.Texts.{pair_more}
 use Rattle.const_hex_arch.proofs.arch.plain.PlainKernel.decode_unchecked.Goals as goal
 
 pub loop-i-preserved : goal.loop-i-preserved
