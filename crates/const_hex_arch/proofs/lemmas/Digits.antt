@@ -35,10 +35,7 @@ digit_small b r e digit = hex_value-small b r (digit_found b r e digit)
 -- two look-ups without a bit that only NIL has
 pub two_digits : (b c v w : ℕ) → v ≡ value_or_nil (hex_value b) → w ≡ value_or_nil (hex_value c) → bit_or v w < 128
     → IsDigit b × IsDigit c
-two_digits b c v w e f below = (
-  IsDigit-from_value b v (value_found b v e (λ n. omega (arith, n, below, le_or_l v w))),
-  IsDigit-from_value c w (value_found c w f (λ n. omega (arith, n, below, le_or_r v w))),
-)
+two_digits b c v w e f below = grind (arith, IsDigit-from_value, value_found, le_or_l, le_or_r)
 
 pub no_value : (o : Option ℕ) → IsNone o → IsSome o → ⊥
 no_value o n s = cc

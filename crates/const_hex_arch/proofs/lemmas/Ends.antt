@@ -100,14 +100,7 @@ pub filled_step : {up : Bool} {u new : List ℕ} {i end : ℕ} (r : List ℕ) (n
     → end ≤ length u → m ≡ 2 * n
     → r ≡ hex_text up (take n (drop i u)) → IsFilled up u (put_mid (2 * i) m new r) end
 filled_step {up} {u} {new} {i} {end} r n m d e h f s =
-    let long : length r ≡ m =
-    omega (arith, ap length s, length-hex_text up (take n (drop i u)), length-take n (drop i u), length-drop i u) in
-    let bytes = take-put_mid (2 * i) m new r (2 * end) (omega arith) (omega arith) in
-    let kept : length (put_mid (2 * i) m new r) ≡ length new = grind (arith, common_steps) in record {
-      within = h;
-      size = kept ∙ d.size;
-      front = rw (bytes, d.front, s, e, take-add i n u, hex_text-append);
-    }
+    grind (arith, common_steps, length-hex_text, length-take, length-drop, take-put_mid, put_mid, take-add, hex_text-append)
 
 -- the digits of one byte more
 pub filled_one : {up : Bool} {u new : List ℕ} {i end : ℕ} (r : List ℕ) (m : ℕ) → IsFilled up u new i → i < length u

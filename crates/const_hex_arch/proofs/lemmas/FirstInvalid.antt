@@ -19,10 +19,7 @@ not_before u p q h f g =
     no_value _ f.here (rw (get_or-take q u p 0 h) at (All-get_or IsDigit (take q u) p 0 len g.before))
 
 pub FirstBad-same : (u : List ℕ) (p q : ℕ) → FirstBad u p → FirstBad u q → p ≡ q
-FirstBad-same u p q f g =
-    let below = λ (h : p < q). not_before u p q h f g in
-    let above = λ (h : q < p). not_before u q p h g f in
-    omega (arith, below, above)
+FirstBad-same u p q f g = grind (arith, not_before)
 
 -- an invalid character after k digits
 pub FirstBad-after : (k : ℕ) (u : List ℕ) (p : ℕ) → AllDigits (take k u) → k ≤ length u → FirstBad (drop k u) p

@@ -172,5 +172,4 @@ unmarked_numbers a _ _ e f = absurd (omega arith)
 pub are_unmarked : (n : ℕ) (xs : List ℕ) → (length xs ≡ 8 * n) × Each1 (Fits w8) xs
     → IsTrue (eqb (fold_l bit_or 0 (digits_l 18446744073709551616 n (number_l 256 (zip2 bit_and xs (replicate (8 * n) 216))))) 0)
     ↔ AllUnmarked xs
-are_unmarked n xs f =
-    rw (← f.0) (grind (arith, nat_tests, unmarked_numbers 0 n xs f.0 f.1))
+are_unmarked n xs f = rw (← f.0) (grind (arith, nat_tests, unmarked_numbers 0 n xs f.0 f.1))

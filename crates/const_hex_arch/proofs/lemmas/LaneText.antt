@@ -35,10 +35,7 @@ masked_ok m t b n v blocks f =
 -- the halves of a vector of twice n lanes, which are picked from it and itself again
 pub halves : (n : ℕ) (v : List ℕ) → length v ≡ 2 * n
     → pick_l 0 (v ++ v) (range_with_len 0 n) ++ pick_l 0 (v ++ v) (range_with_len n n) ≡ v
-halves n v e =
-    let long = length-append v v in
-    rw (pick_l-range_with_len 0 (v ++ v) 0 n (omega arith), pick_l-range_with_len 0 (v ++ v) n n (omega arith))
-    (grind (arith, common_steps))
+halves n v e = grind (arith, common_steps, length-append, pick_l-range_with_len)
 
 -- a relation of lanes, by halves
 both_zip : (R : ℕ → ℕ → Type 0) (v w a b : List ℕ) → AllZip R v a → AllZip R w b → AllZip R (v ++ w) (a ++ b)

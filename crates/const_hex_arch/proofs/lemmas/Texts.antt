@@ -102,8 +102,7 @@ length-hex_text up (b ∷ bs) = let e = length-hex_text up bs in omega (arith, e
 
 pub length-full_text : (prefix up : Bool) (bs : List ℕ)
     → length (full_text prefix up bs) ≡ length (prefix_of prefix) + 2 * length bs
-length-full_text prefix up bs =
-    rw (length-append, length-hex_text)
+length-full_text prefix up bs = rw (length-append, length-hex_text)
 
 pub full_text_size : (prefix up : Bool) (bs : List ℕ) → length (full_text prefix up bs) ≡ text_length prefix (length bs)
 full_text_size prefix up bs = grind (arith, length-full_text)

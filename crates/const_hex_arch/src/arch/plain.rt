@@ -32,7 +32,7 @@ impl Kernel for Plain {
     }
 
     #[inline(always)]
-    #[tactic(auto, using(std::proofs::lemmas::List::take_all))]
+    #[tactic(auto, using(std::proofs::lemmas::List::take_all, crate::proofs::lemmas::Digits::digits_more))]
     fn check(input: &[u8]) -> bool {
         for b in input {
             if value_at(*b) == NIL {
@@ -59,6 +59,7 @@ impl Kernel for Plain {
     }
 
     #[inline(always)]
+    #[tactic(auto, using(crate::proofs::lemmas::Digits::digit_values, crate::proofs::lemmas::Texts::pair_more))]
     fn decode_unchecked(input: &[u8], output: &mut [u8]) {
         for i in 0..output.len() {
             output[i] = value_at(input[2 * i]) * 16 + value_at(input[2 * i + 1]);

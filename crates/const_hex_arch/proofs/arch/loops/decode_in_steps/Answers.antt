@@ -1,4 +1,4 @@
-use Rattle.std.proofs.Common.{◌≡◌, ◌+◌, ◌-◌, ◌*◌, ◌≤◌, length, refl, arith, ◌∙◌, sym, take_all}
+use Rattle.std.proofs.Common.{◌≡◌, ◌+◌, ◌-◌, ◌*◌, ◌≤◌, length, refl, arith, take_all}
 use borrow.Rule.Slice.PartMut.{put_mid}
 use Rattle.const_hex_arch.proofs.lemmas.FirstInvalid.{none_decoded}
 use Rattle.const_hex_arch.proofs.lemmas.Standard.{false_is_true}
@@ -12,15 +12,7 @@ loop-output-preserved g c =
     (c.if-not-decode_two_steps.ensures.spells refl)
 
 pub loop-output-2-init : goal.loop-output-2-init
-loop-output-2-init g c = elim c.loop-output-test.branch [
-  | else-loop-output-test w ↦ rw w.output-is c.loop-output.invariant
-  | then-loop-output-test+then-not-decode_two_steps+else-not-this-2 w ↦
-      rw (
-        w.output-is,
-        kept_step c.loop-output.output _ c.loop-output.at _
-            (w.if-not-decode_two_steps.ensures.unchanged refl),
-      ) c.loop-output.invariant
-]
+loop-output-2-init g c = grind (arith, kept_step)
 
 pub loop-output-2-preserved : goal.loop-output-2-preserved
 loop-output-2-preserved g c =
@@ -67,9 +59,7 @@ returns-then-decode_step-clause-spells g c = λ _.
     (c.if-decode_step.ensures.spells refl)
 
 pub returns-then-output-le16-clause-refused : goal.returns-then-output-le16-clause-refused
-returns-then-output-le16-clause-refused g c = λ f.
-    let is = c.decode_short.ensures in
-    rw (is.unchanged f) (none_decoded _ _ (λ d. false_is_true (sym f ∙ is.digits.1 d)))
+returns-then-output-le16-clause-refused g c = grind (arith, none_decoded, false_is_true)
 
 pub returns-then-not-this-2-clause-refused : goal.returns-then-not-this-2-clause-refused
 returns-then-not-this-2-clause-refused g c = λ _.
@@ -77,9 +67,7 @@ returns-then-not-this-2-clause-refused g c = λ _.
     refused_step _ _ _ _ c.loop-output.invariant c.requires (is.unchanged refl) (λ d. false_is_true (is.digits.1 d))
 
 pub returns-else-this-ne0-clause-refused : goal.returns-else-this-ne0-clause-refused
-returns-else-this-ne0-clause-refused g c = λ _.
-    let is = c.if-decode_small.ensures in
-    rw (is.unchanged refl) (none_decoded _ _ (λ d. false_is_true (is.digits.1 d)))
+returns-else-this-ne0-clause-refused g c = grind (arith, none_decoded, false_is_true)
 
 pub returns-else-this-ne0-2-clause-refused : goal.returns-else-this-ne0-2-clause-refused
 returns-else-this-ne0-2-clause-refused g c = λ _.

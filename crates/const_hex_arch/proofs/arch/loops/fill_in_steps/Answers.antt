@@ -7,8 +7,7 @@ pub loop-at-init : goal.loop-at-init
 loop-at-init g c = none_filled c.requires
 
 pub loop-at-preserved : goal.loop-at-preserved
-loop-at-preserved g c =
-    filled_step _ _ _ c.loop-at.invariant (omega arith) (omega arith) (omega arith) c.fill_two_steps.ensures
+loop-at-preserved g c = grind (arith, filled_step)
 
 pub returns-then-at-input : goal.returns-then-at-input
 returns-then-at-input g c = filled_whole c.loop-at.invariant (omega arith)

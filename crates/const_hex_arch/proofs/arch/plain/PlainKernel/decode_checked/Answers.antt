@@ -8,11 +8,7 @@ use Rattle.const_hex_arch.proofs.arch.plain.PlainKernel.decode_checked.Goals as 
 use Rattle.const_hex_arch.proofs.arch.plain.PlainKernel.decode_checked.Goals.{Else-high-low-ge128}
 
 pub returns-then-high-low-ge128-clause-refused : goal.returns-then-high-low-ge128-clause-refused
-returns-then-high-low-ge128-clause-refused c = λ _.
-    let whole = take_all c.saturating_mul.result c.args.input.now (omega arith) in
-    refused_joint c.args.output.now c.args.input.now c.loop-i.output c.loop-i.i _ _ c.loop-i.invariant.front
-    c.loop-i.invariant.rest (omega arith) (omega arith) (rw whole at c.value_at-high.ensures)
-    (rw whole at c.value_at-low.ensures) (omega (arith, c.if-high-low-ge128.true))
+returns-then-high-low-ge128-clause-refused c = grind (arith, take_all, refused_joint)
 
 small : (c : Else-high-low-ge128) → (c.value_at-high.result < 16) × (c.value_at-low.result < 16)
 small c =
@@ -31,15 +27,4 @@ pub overflow_add-output : goal.overflow_add-output
 overflow_add-output c = omega (arith, small c)
 
 pub loop-i-preserved : goal.loop-i-preserved
-loop-i-preserved c =
-    let i = c.loop-i.i in
-    let whole = take_all c.saturating_mul.result c.args.input.now (omega arith) in
-    let high = le_or_l c.value_at-high.result c.value_at-low.result in
-    let low = le_or_r c.value_at-high.result c.value_at-low.result in record {
-      front =
-          pair_more c.args.input.now c.loop-i.output i c.value_at-high.result c.value_at-low.result
-          c.loop-i.invariant.front (omega arith) (omega arith)
-          (rw whole at c.value_at-high.ensures) (rw whole at c.value_at-low.ensures) (λ e. omega (arith, high, e))
-          (λ e. omega (arith, low, e));
-      rest = grind (arith, common_steps);
-    }
+loop-i-preserved c = grind (arith, common_steps, take_all, le_or_l, le_or_r, pair_more)

@@ -1,4 +1,4 @@
-use Rattle.std.proofs.Common.{◌∙◌, arith}
+use Rattle.std.proofs.Common.{arith}
 use Rattle.const_hex_arch.proofs.lemmas.Ends.{none_filled, filled_one}
 use Rattle.const_hex_arch.proofs.arch.plain.PlainKernel.fill.Goals as goal
 
@@ -6,6 +6,4 @@ pub loop-i-init : goal.loop-i-init
 loop-i-init c = none_filled c.requires
 
 pub loop-i-preserved : goal.loop-i-preserved
-loop-i-preserved c =
-    let text = c.copy_from_slice.ensures.after ∙ c.pair_at.ensures in
-    filled_one _ _ c.loop-i.invariant c.loop-i-test.true (omega arith) (omega arith) text
+loop-i-preserved c = grind (arith, filled_one)
