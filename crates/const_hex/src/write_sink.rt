@@ -156,7 +156,7 @@ impl<W: Write> Sink for WriteSink<'_, W> {
 }
 
 /// Writes a piece. If a signal interrupts a write, it is made again.
-#[tactic(auto, using(crate::proofs::lemmas::WriteSinks::writes))]
+#[tactic(auto, using(std::proofs::lemmas::List::take_all, crate::proofs::lemmas::WriteSinks::writes))]
 fn write_piece<W: Write>(writer: &mut W, piece: &[u8]) -> io::Result<()>
     ensures ok { OnOk result (Appends (W.contents writer.old) (W.contents writer.new) piece.now) }
     ensures err { OnErr result

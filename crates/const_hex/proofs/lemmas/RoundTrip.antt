@@ -46,8 +46,7 @@ body-full_text false up (b ∷ bs) = grind (arith, nat_tests)
 -- what was written is read as its bytes
 pub Reads-full_text : (t : List ℕ) (prefix up : Bool) (bs : List ℕ) → AreBytes bs → t ≡ full_text prefix up bs
     → Reads t (Ok bs)
-Reads-full_text t prefix up bs h e =
-    rw e (grind (arith, length-full_text), rw (body-full_text prefix up bs) (Spells-hex_text up bs h))
+Reads-full_text t prefix up bs h e = grind (arith, length-full_text, body-full_text, Spells-hex_text)
 
 -- ---- what any text gives
 

@@ -223,6 +223,7 @@ impl Decoder {
 
     /// The digit that waits and the digits that follow, if this chunk follows.
     #[inline(always)]
+    #[tactic(auto, using(std::proofs::lemmas::Grind::common_steps))]
     fn next_digits<'a>(&self, chunk: &'a [u8]) -> (Option<u8>, &'a [u8])
         ensures whole { (t pairs : List ℕ) → position_of self.now ≡ counted (length t)
             → body_of t ≡ pairs ++ waiting_digit self.now → length pairs % 2 ≡ 0

@@ -13,6 +13,7 @@ use std::boxed::BoxedSlice;
 
 /// Fills the numbers with the bits of the bytes. Both slices must have the same length.
 #[inline(always)]
+#[tactic(auto, using(std::proofs::lemmas::Grind::common_steps))]
 fn fill_signed(bytes: &[u8], numbers: &mut [i8])
     requires { length numbers.old ≡ length bytes.now }
     ensures { numbers.new ≡ map signed_of bytes.now }
