@@ -109,6 +109,8 @@ pub filled_one : {up : Bool} {u new : List ℕ} {i end : ℕ} (r : List ℕ) (m 
 filled_one {up} {u} {new} {i} r m d h e f s =
     filled_step r 1 m d e (omega arith) f (s ∙ sym (hex_text-one up u i h))
 
+pub ruleset fills = (none_filled, filled_one, hex_text-nil)
+
 -- fewer bytes are written than there are
 pub filled_less : {up : Bool} {u new : List ℕ} {i : ℕ} (e : ℕ) → IsFilled up u new i → e ≤ i → IsFilled up u new e
 filled_less {up} {u} {new} {i} e d h = record {

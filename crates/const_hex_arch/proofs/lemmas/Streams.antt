@@ -240,3 +240,5 @@ pub Streams-at : {S : Type 0} (step : S → List ℕ → S → Type 0) (is_refus
     (new : S)
     → Streams step is_refused old text new → (end : S) → end ≡ new → Streams step is_refused old text end
 Streams-at step is_refused old text new h end e = rw e h
+
+pub ruleset wholes = (StreamsWhole-of, Streams-none, Streams-one)

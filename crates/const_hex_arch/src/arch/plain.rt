@@ -25,6 +25,7 @@ impl Kernel for Plain {
     const PIECE: usize = 1;
 
     #[inline(always)]
+    #[tactic(auto, using(crate::proofs::lemmas::Ends::fills))]
     fn fill(input: &[u8], upper: bool, output: &mut [u8]) {
         for i in 0..input.len() {
             output[2 * i..2 * i + 2].copy_from_slice(&pair_at(upper, input[i]));
@@ -43,6 +44,7 @@ impl Kernel for Plain {
     }
 
     #[inline(always)]
+    #[tactic(auto, using(std::proofs::lemmas::Grind::common_steps, std::proofs::lemmas::List::take_all, std::proofs::lemmas::Nat::le_or_l, std::proofs::lemmas::Nat::le_or_r, crate::proofs::lemmas::FirstInvalid::refused_joint, crate::proofs::lemmas::Texts::pair_more))]
     fn decode_checked(input: &[u8], output: &mut [u8]) -> bool {
         // By this length, which cannot overflow, LLVM needs no test of an index in Rust.
         let text = &input[..output.len().saturating_mul(2)];
@@ -88,6 +90,7 @@ impl Kernel for Compact {
     const PIECE: usize = 1;
 
     #[inline(always)]
+    #[tactic(auto, using(crate::proofs::lemmas::Ends::fills))]
     fn fill(input: &[u8], upper: bool, output: &mut [u8]) {
         for i in 0..input.len() {
             output[2 * i..2 * i + 2].copy_from_slice(&digits_at(upper, input[i]));

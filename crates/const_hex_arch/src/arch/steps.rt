@@ -26,6 +26,7 @@ pub(crate) fn fill_step<const N: usize, V: LaneOps<N>>(
 
 /// As `fill_step`, for the bytes of two steps.
 #[inline(always)]
+#[tactic(auto, using(crate::proofs::lemmas::Steps::parts, crate::proofs::lemmas::Texts::texts))]
 pub(crate) fn fill_two_steps<const N: usize, V: LaneOps<N>>(
     bytes: &[u8],
     upper: bool,

@@ -1,14 +1,7 @@
 use Rattle.std.proofs.Common.{◌*◌, ◌+◌, ◌<◌, get_or, arith, take_all}
-use Rattle.std.proofs.lemmas.Grind.{common_steps}
-use Rattle.std.proofs.lemmas.Nat.{le_or_l, le_or_r}
 use Rattle.const_hex_arch.proofs.lemmas.Digits.{digit_small, two_digits}
-use Rattle.const_hex_arch.proofs.lemmas.FirstInvalid.{refused_joint}
-use Rattle.const_hex_arch.proofs.lemmas.Texts.{pair_more}
 use Rattle.const_hex_arch.proofs.arch.plain.PlainKernel.decode_checked.Goals as goal
 use Rattle.const_hex_arch.proofs.arch.plain.PlainKernel.decode_checked.Goals.{Else-high-low-ge128}
-
-pub returns-then-high-low-ge128-clause-refused : goal.returns-then-high-low-ge128-clause-refused
-returns-then-high-low-ge128-clause-refused c = grind (arith, take_all, refused_joint)
 
 small : (c : Else-high-low-ge128) → (c.value_at-high.result < 16) × (c.value_at-low.result < 16)
 small c =
@@ -25,6 +18,3 @@ overflow_mul-output c = omega (arith, (small c).0)
 
 pub overflow_add-output : goal.overflow_add-output
 overflow_add-output c = omega (arith, small c)
-
-pub loop-i-preserved : goal.loop-i-preserved
-loop-i-preserved c = grind (arith, common_steps, take_all, le_or_l, le_or_r, pair_more)
