@@ -4,7 +4,7 @@ use Rattle.std.proofs.lemmas.Bool.Decides.{nat_tests}
 use borrow.Rule.Slice.PartMut.{put_mid}
 use Rattle.hexfilter_core.proofs.lemmas.Texts.{take_put}
 use Rattle.hexfilter_core.specs.Dumps.{Groups, PutsInto, groups_from, encoded, ended}
-use Rattle.const_hex.specs.Texts.{full_text, hex_text, prefix_of}
+use Rattle.const_hex.specs.Prelude.{full_text, hex_text, prefix_of}
 use Rattle.const_hex_arch.proofs.lemmas.Texts.{hex_text-append, hex_text-nil}
 use Rattle.hexfilter_core.specs.Stages.{Stage, HasEncoded}
 
