@@ -1,9 +1,7 @@
 //! Callers that read a text: as any type, by the law of such types alone; and into a key.
 
 ghost use Rattle.std.specs.Prelude.{◌≡◌, ◌↔◌, ◌⊎◌, ◌*◌, ℕ, false, drop, length, take, IsTrue, IfOk, IfErr, OnErr, Ok, Err};
-ghost use Rattle.const_hex.specs.Results.{IsOdd, Reads, ReadsSized, body_of, lowered};
-ghost use Rattle.const_hex.specs.Texts.{Spells};
-ghost use Rattle.const_hex.specs.Types.{IsRejected};
+ghost use Rattle.const_hex.specs.Prelude.{IsOdd, Reads, ReadsSized, body_of, lowered, Spells, IsRejected};
 ghost use Rattle.const_hex.specs.declared.error.FromHexError.TheVariants.{InvalidStringLength, OddLength};
 
 use const_hex::{
