@@ -1,7 +1,5 @@
 pub mod Characters
 pub mod Decoding
-pub mod Fronts
-pub mod Lowering
 pub mod Printing
 pub mod Reading
 pub mod RoundTrip

@@ -21,8 +21,7 @@ buffer_text b = b.text.bytes
 -- after the loan has ended, the buffer holds that text
 abbrev pub EndsHolding : (N PREFIX LEN : RattleType) → MutBor (the_row N PREFIX LEN).Denot
     → List ℕ → Fml
-EndsHolding N PREFIX LEN buffer text =
-    Rests (the_row N PREFIX LEN) buffer (λ b. buffer_text b ≡ text)
+EndsHolding N PREFIX LEN buffer text = Rests (the_row N PREFIX LEN) buffer (λ b. buffer_text b ≡ text)
 
 -- after the loan has ended, the slice holds the text of the bytes; after an error it is unchanged
 abbrev pub EndsEncoded : {A E : Type 0} → Bool → List ℕ → MutBor (List ℕ) → Result A E → Fml

@@ -48,12 +48,10 @@ NamesCounted t c index = (n : ℕ) × NamesFirstBad t c n × (index ≡ counted 
 -- the result when t was read so far, the bytes bs were written before its last chunk, and there is
 -- space for n bytes: the space is tested first, by the number of digits, and then each digit
 abbrev pub ReadsOn : List ℕ → List ℕ → ℕ → Result ℕ FromHexError → Type 0
-ReadsOn t bs n (Ok more) =
-    (more ≤ n) × (length (body_of t) / 2 ≡ length bs + more) × AllDigits (body_of t)
+ReadsOn t bs n (Ok more) = (more ≤ n) × (length (body_of t) / 2 ≡ length bs + more) × AllDigits (body_of t)
 ReadsOn t bs n (Err OddLength) = ⊥
 ReadsOn t bs n (Err InvalidStringLength) = length bs + n < length (body_of t) / 2
-ReadsOn t bs n (Err (InvalidHexCharacter c i)) =
-    (length (body_of t) / 2 ≤ length bs + n) × NamesCounted t c i
+ReadsOn t bs n (Err (InvalidHexCharacter c i)) = (length (body_of t) / 2 ≤ length bs + n) × NamesCounted t c i
 ReadsOn t bs n (Err NoMemory) = ⊥
 
 -- `Decoder::decode`: the decoder `before` reads the chunk into an output that held `old`, with this

@@ -1,6 +1,7 @@
 pub mod Buffers
 pub mod Decoding
 pub mod Messages
+pub mod Prelude
 pub mod Results
 pub mod TypeLaws
 pub mod Types

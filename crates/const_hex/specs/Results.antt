@@ -1,10 +1,9 @@
 -- What is returned for a text: its prefix, and the bytes or the error.
-use Rattle.std.specs.Prelude.{◌≡◌, ℕ, ◌+◌, ◌-◌, ◌==◌, nat_le, ◌&&◌, ◌||◌, if◌then◌else◌, List, [], ◌∷◌, length, map, slice_index, ◌*◌, ◌%◌, ◌≢◌, ◌<◌, ◌≤◌, Bool, Result, Ok, Err, ◌++◌, ◌↔◌, true, false, String, string_bytes, take, drop, IfOk, IfErr, OnOk, OnErr, IsOk, IsTrue, MatchResult}
+use Rattle.std.specs.Prelude.{◌≡◌, ℕ, ◌+◌, ◌-◌, ◌==◌, nat_le, ◌&&◌, ◌||◌, if◌then◌else◌, List, [], ◌∷◌, length, map, slice_index, ◌*◌, ◌%◌, ◌≢◌, ◌<◌, ◌≤◌, Bool, Result, Ok, Err, ◌++◌, ◌↔◌, true, false, String, string_bytes, take, drop, IfOk, IfErr, OnOk, OnErr, IsOk, IsTrue, MatchResult, is_some}
 use Rattle.const_hex_arch.specs.Texts.{FirstBad, hex_value, Spells, Partial, hex_text, full_text}
 use Rattle.const_hex.specs.declared.error.FromHexError.{FromHexError}
 use Rattle.const_hex.specs.declared.error.FromHexError.TheVariants.{OddLength, InvalidStringLength, InvalidHexCharacter, NoMemory}
 use Rattle.std.specs.List.{list_all}
-use Rattle.std.specs.Option.{is_some}
 
 -- ---- a text without its prefix
 

@@ -1,10 +1,9 @@
 -- Lemmas for the laws of types that are read from text.
-use Rattle.std.specs.Prelude.{◌≡◌, ℕ, suc, ◌*◌, ◌%◌, ◌<◌, ◌≢◌, Bool, List, [], ◌∷◌, length, map, ℤ, Result, Ok, Err, refl}
-use Rattle.std.proofs.Common.{inl, inr, sym, ◌∙◌, arith}
+use Rattle.std.proofs.Common.{inl, inr, sym, ◌∙◌, arith, ◌≡◌, ℕ, suc, ◌*◌, ◌%◌, ◌<◌, ◌≢◌, Bool, List, [], ◌∷◌, length, map, ℤ, Result, Ok, Err, refl}
 use Rattle.std.proofs.lemmas.Bool.{cases_eq}
 use Rattle.std.proofs.lemmas.Bool.Decides.{nat_tests}
 use Rattle.const_hex_arch.proofs.lemmas.FirstInvalid.{Spells-some, digits_or_bad}
-use Rattle.const_hex_arch.proofs.lemmas.Spelling.{Spells-length, Spells-bytes}
+use Rattle.const_hex_arch.proofs.lemmas.Texts.{Spells-length, Spells-bytes}
 use Rattle.const_hex.specs.Results.{body_of, Reads, ReadsSized, AreBytes, IsEven}
 use Rattle.const_hex.specs.Types.{signed_of, byte_of, is_no_memory, AnyCount, IsCount, IsRejected, IsFaithful, ReadsOwned, ReadsAs, ReadsSigned, ReadsThrough}
 use Rattle.const_hex.specs.declared.error.FromHexError.{FromHexError}

@@ -2,8 +2,7 @@
 
 ghost use Rattle.std.specs.Prelude.{◌≡◌, length, true, false, IfOk, string_bytes};
 ghost use Rattle.std.specs.Borrow.{sem};
-ghost use Rattle.const_hex_arch.specs.Texts.{full_text, text_length};
-ghost use Rattle.const_hex.specs.Buffers.{blank_text, buffer_text, EndsHolding};
+ghost use Rattle.const_hex.specs.Prelude.{full_text, text_length, blank_text, buffer_text, EndsHolding};
 
 mod ascii;
 

@@ -1,8 +1,7 @@
 //! Why a text cannot be decoded, or a text does not fit into an output.
 
 ghost use Rattle.std.specs.Prelude.{◌≡◌};
-ghost use Rattle.const_hex.specs.Messages.{message_of};
-ghost use Rattle.const_hex.specs.declared.error.FromHexError.TheVariants.{NoMemory};
+ghost use Rattle.const_hex.specs.Prelude.{message_of, NoMemory};
 
 use std::alloc::{AllocError, AllocFailed};
 use std::{error, fmt};

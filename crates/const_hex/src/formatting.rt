@@ -1,7 +1,7 @@
 //! Printing bytes as text.
 
 ghost use Rattle.std.specs.Prelude.{◌≡◌};
-ghost use Rattle.const_hex.specs.Writers.{display_bytes};
+ghost use Rattle.const_hex.specs.Prelude.{display_bytes};
 
 pub(crate) mod sink;
 pub mod text;

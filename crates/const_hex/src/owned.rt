@@ -1,9 +1,7 @@
 //! Owned text and owned bytes, over zeros that are filled.
 
 ghost use Rattle.std.specs.Prelude.{◌≡◌, ◌≢◌, ◌↔◌, true, false, length, IfOk, IfErr, string_bytes, Ok, Err};
-ghost use Rattle.const_hex_arch.specs.Texts.{full_text};
-ghost use Rattle.const_hex.specs.Results.{Decodes, Encodes, IsOdd, Reads};
-ghost use Rattle.const_hex.specs.declared.error.FromHexError.TheVariants.{OddLength, NoMemory};
+ghost use Rattle.const_hex.specs.Prelude.{full_text, Decodes, Encodes, IsOdd, Reads, OddLength, NoMemory};
 
 use crate::codec::body::{find_invalid_character, strip_even};
 use crate::error::FromHexError;
@@ -13,6 +11,7 @@ use std::alloc::{AllocError, Global};
 /// The text, with `0x` before it if `prefix` is true. Allocates once, for exactly the text; for no text,
 /// not at all.
 #[inline(always)]
+#[tactic(auto, using(std::proofs::lemmas::List::take_at, const_hex_arch::proofs::lemmas::Texts::texts))]
 pub(crate) fn encode_owned<K: Kernel>(
     alloc: Global,
     input: &[u8],
@@ -94,6 +93,7 @@ pub fn encode_upper_prefixed(alloc: Global, input: &[u8]) -> Result<String, Allo
 /// assert_eq!(rt; text.as_str(), "6B697769");
 /// ```
 #[inline]
+#[tactic(auto, using(const_hex_arch::proofs::lemmas::Texts::texts))]
 pub fn encode_with<K: Kernel, const UPPER: bool>(
     alloc: Global,
     input: &[u8],

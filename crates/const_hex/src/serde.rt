@@ -7,8 +7,7 @@ ghost use Rattle.std.specs.Prelude.{◌≡◌, true, false, IfOk};
 ghost use Rattle.serde_json.specs.Data.{string};
 ghost use Rattle.serde_json.specs.Find.{as_str};
 ghost use Rattle.serde_json.specs.View.{view};
-ghost use Rattle.const_hex_arch.specs.Texts.{full_text};
-ghost use Rattle.const_hex.specs.Types.{ReadsInside};
+ghost use Rattle.const_hex.specs.Prelude.{full_text, ReadsInside};
 
 mod error;
 mod inner;

@@ -1,11 +1,9 @@
 //! A sink over any writer of std: a file, a socket, a vector of bytes.
 
-ghost use Rattle.std.specs.Prelude.{◌≡◌, ◌≢◌, true, false, not, is_ok, None, IsOk, Err, OnOk, OnErr, IfErr, MatchOption};
+ghost use Rattle.std.specs.Prelude.{◌≡◌, ◌≢◌, true, false, not, is_ok, None, IsOk, Err, OnOk, OnErr, IfErr, MatchOption, option_copied};
 ghost use Rattle.std.specs.Io.KnownBytes.{Appends};
 ghost use Rattle.std.specs.IoError.{error_kind};
-ghost use Rattle.std.specs.Option.{option_copied};
-ghost use Rattle.const_hex_arch.specs.Texts.{full_text};
-ghost use Rattle.const_hex.specs.Writers.{WriteStep, WritesBeginning, sink_writer, writer_name, first_error, has_failed};
+ghost use Rattle.const_hex.specs.Prelude.{full_text, WriteStep, WritesBeginning, sink_writer, writer_name, first_error, has_failed};
 
 use const_hex_arch::{BufferedHex, Sink, SinkError};
 use std::io::{self, ErrorKind, Write};
@@ -158,7 +156,7 @@ impl<W: Write> Sink for WriteSink<'_, W> {
 }
 
 /// Writes a piece. If a signal interrupts a write, it is made again.
-#[tactic(auto, using(crate::proofs::lemmas::WriteSinks::writes))]
+#[tactic(auto, using(std::proofs::lemmas::List::take_all, crate::proofs::lemmas::WriteSinks::writes))]
 fn write_piece<W: Write>(writer: &mut W, piece: &[u8]) -> io::Result<()>
     ensures ok { OnOk result (Appends (W.contents writer.old) (W.contents writer.new) piece.now) }
     ensures err { OnErr result

@@ -1,8 +1,6 @@
 -- Lemmas for the laws of impls.
-use Rattle.std.specs.Prelude.{◌≡◌, ℕ, ◌+◌, if◌then◌else◌, List, [], ◌∷◌, ◌++◌, length, Option, Some}
 use Rattle.std.specs.List.{FoldsTo, concat}
-use Rattle.std.proofs.Common.{sym, ap, ◌∙◌, arith, length-append}
-use Rattle.std.proofs.lemmas.List.{append-nil}
+use Rattle.std.proofs.Common.{sym, ap, ◌∙◌, arith, length-append, ◌≡◌, ℕ, ◌+◌, if◌then◌else◌, List, [], ◌∷◌, ◌++◌, length, Option, Some, append-nil}
 use Rattle.const_hex_arch.specs.Outputs.{less_space, Gathers}
 use Rattle.const_hex_arch.specs.Sinks.{PieceState, PieceStep}
 

@@ -3,3 +3,8 @@ pub mod Laws
 pub mod Outputs
 pub mod Sinks
 pub mod Texts
+pub use Lanes.*
+pub use Laws.*
+pub use Outputs.*
+pub use Sinks.*
+unfoldable pub use Texts.*

@@ -1,8 +1,7 @@
 //! Kernels, which encode bytes as digits and decode digits to bytes.
 
 ghost use Rattle.std.specs.Prelude.{◌≡◌, Bool, ℕ, ◌*◌, ◌↔◌, IsTrue, true, false, length};
-ghost use Rattle.const_hex_arch.specs.Outputs.{HasSpace, WritesPieces, piece_size};
-ghost use Rattle.const_hex_arch.specs.Texts.{hex_text, AllDigits, Spells, Partial};
+ghost use Rattle.const_hex_arch.specs.{HasSpace, WritesPieces, piece_size, hex_text, AllDigits, Spells, Partial};
 
 pub mod check_first;
 pub mod interleaved;

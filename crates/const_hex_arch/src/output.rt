@@ -1,8 +1,7 @@
 //! Outputs, to which text is written.
 
-ghost use Rattle.std.specs.Prelude.{◌≡◌, ℕ, ◌<◌, List, [], ◌∷◌, length, Option};
-ghost use Rattle.std.specs.Str.{IsAscii};
-ghost use Rattle.const_hex_arch.specs.Outputs.{HasSpace, less_space};
+ghost use Rattle.std.specs.Prelude.{◌≡◌, ℕ, ◌<◌, List, [], ◌∷◌, length, Option, IsAscii};
+ghost use Rattle.const_hex_arch.specs.{HasSpace, less_space};
 
 pub mod buffered;
 pub mod slice;

@@ -1,7 +1,7 @@
 //! Sinks, which receive text piece by piece.
 
 ghost use Rattle.std.specs.Prelude.{◌≡◌, ℕ, Bool, false, not, List, [], ◌∷◌, is_ok, Option, Some, if◌then◌else◌, codes};
-ghost use Rattle.const_hex_arch.specs.Sinks.{reported_after};
+ghost use Rattle.const_hex_arch.specs.{reported_after};
 
 pub mod output;
 pub mod pieces;

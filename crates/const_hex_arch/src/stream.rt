@@ -1,8 +1,7 @@
 //! The text of bytes, written to a sink in large pieces.
 
 ghost use Rattle.std.specs.Prelude.{◌≡◌, ◌≤◌, false, is_ok, length};
-ghost use Rattle.const_hex_arch.specs.Texts.{full_text, text_length};
-ghost use Rattle.const_hex_arch.specs.Sinks.{StreamsWhole, hex_bytes};
+ghost use Rattle.const_hex_arch.specs.{full_text, text_length, StreamsWhole, hex_bytes};
 
 use crate::arch::{FixedKernel, Kernel};
 use crate::output::buffered::BufferedOutput;
@@ -93,6 +92,7 @@ impl<'a, const UPPER: bool, const PREFIX: bool> BufferedHex<'a, UPPER, PREFIX> {
     }
 
     /// As `write_with`, for a text of at most `N` bytes: one call, or none if the text is empty.
+    #[tactic(auto, using(std::proofs::lemmas::Grind::common_steps, std::proofs::lemmas::List::nil_from_length, crate::proofs::lemmas::Streams::wholes))]
     fn write_whole<K: Kernel, S: Sink, const N: usize>(&self, sink: &mut S) -> Result<(), SinkError>
         requires accepting { S.is_refused sink.old ≡ false }
         requires size { N ≤ 4096 }

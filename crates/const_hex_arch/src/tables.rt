@@ -1,7 +1,7 @@
 //! The digits of values, and the values of digits.
 
 ghost use Rattle.std.specs.Prelude.{◌≡◌, ◌<◌, ◌/◌, ◌%◌, [], ◌∷◌};
-ghost use Rattle.const_hex_arch.specs.Texts.{hex_digit, hex_value, value_or_nil};
+ghost use Rattle.const_hex_arch.specs.{hex_digit, hex_value, value_or_nil};
 
 /// The digit of each value, in lowercase.
 ///

@@ -1,9 +1,7 @@
 //! The whole text of bytes: its length, and how it is written.
 
-ghost use Rattle.std.specs.Prelude.{◌≡◌, length, min};
-ghost use Rattle.std.specs.Str.{IsAscii};
-ghost use Rattle.const_hex_arch.specs.Outputs.{HasSpace, Writes};
-ghost use Rattle.const_hex_arch.specs.Texts.{full_text, prefix_of, text_length};
+ghost use Rattle.std.specs.Prelude.{◌≡◌, length, min, IsAscii};
+ghost use Rattle.const_hex_arch.specs.{HasSpace, Writes, full_text, prefix_of, text_length};
 
 use crate::arch::Kernel;
 use crate::output::Output;

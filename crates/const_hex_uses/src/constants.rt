@@ -1,7 +1,7 @@
 //! Constants that the program writes as text. Verification rejects a wrong one.
 
 ghost use Rattle.std.specs.Prelude.{Ok};
-ghost use Rattle.const_hex.specs.Results.{ReadsSized};
+ghost use Rattle.const_hex.specs.Prelude.{ReadsSized};
 
 use const_hex::{bytes_of, decode_to_array};
 

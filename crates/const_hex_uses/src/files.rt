@@ -3,8 +3,7 @@
 ghost use Rattle.std.specs.Prelude.{◌≢◌, ◌∷◌, ◌++◌, [], true, false, OnOk, OnErr, IfErr};
 ghost use Rattle.std.specs.IoError.{error_kind};
 ghost use Rattle.std.specs.Io.KnownBytes.{Appends};
-ghost use Rattle.const_hex.specs.Texts.{full_text};
-ghost use Rattle.const_hex.specs.Writers.{WritesBeginning};
+ghost use Rattle.const_hex.specs.Prelude.{full_text, WritesBeginning};
 
 use const_hex::WriteSink;
 use std::io::{self, ErrorKind, Write};

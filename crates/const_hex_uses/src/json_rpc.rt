@@ -3,7 +3,7 @@
 ghost use Rattle.std.specs.Prelude.{◌≡◌, ◌↔◌, codes, string_bytes, None, Ok, Err, IfOk, IfSome, option_and_then};
 ghost use Rattle.serde_json.specs.Find.{as_str, get};
 ghost use Rattle.serde_json.specs.View.{view};
-ghost use Rattle.const_hex.specs.Results.{Reads};
+ghost use Rattle.const_hex.specs.Prelude.{Reads};
 ghost use Rattle.const_hex.specs.declared.error.FromHexError.TheVariants.{OddLength};
 ghost use Rattle.const_hex.specs.declared.serde.error.JsonError.TheVariants.{Hex, NotText};
 

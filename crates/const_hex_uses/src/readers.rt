@@ -1,9 +1,7 @@
 //! Callers that read a text: as any type, by the law of such types alone; and into a key.
 
 ghost use Rattle.std.specs.Prelude.{◌≡◌, ◌↔◌, ◌⊎◌, ◌*◌, ℕ, false, drop, length, take, IsTrue, IfOk, IfErr, OnErr, Ok, Err};
-ghost use Rattle.const_hex.specs.Results.{IsOdd, Reads, ReadsSized, body_of, lowered};
-ghost use Rattle.const_hex.specs.Texts.{Spells};
-ghost use Rattle.const_hex.specs.Types.{IsRejected};
+ghost use Rattle.const_hex.specs.Prelude.{IsOdd, Reads, ReadsSized, body_of, lowered, Spells, IsRejected};
 ghost use Rattle.const_hex.specs.declared.error.FromHexError.TheVariants.{InvalidStringLength, OddLength};
 
 use const_hex::{
@@ -27,7 +25,7 @@ pub fn read<T: FromHex>(alloc: Global, text: &[u8]) -> Result<T, T::Error>
 
 /// Reads two texts. Each value has the bytes that its text decodes to. The values have the same bytes
 /// if and only if the texts differ only in prefix and case.
-#[tactic(auto, using(const_hex::proofs::lemmas::Lowering::read_back))]
+#[tactic(auto, using(const_hex::proofs::lemmas::RoundTrip::read_back))]
 pub fn read_both<T: FromHex + Drop>(
     alloc: Global,
     first: &[u8],

@@ -2,8 +2,7 @@
 
 ghost use Rattle.std.specs.Prelude.{◌≡◌, ◌≤◌, ◌++◌, List, ℕ, Some, true, false, length, IfOk, OnOk};
 ghost use Rattle.std.specs.List.{All, concat};
-ghost use Rattle.const_hex.specs.Sinks.{Cut};
-ghost use Rattle.const_hex.specs.Texts.{full_text};
+ghost use Rattle.const_hex.specs.Prelude.{Cut, full_text};
 
 use const_hex::serde::serialize_inner;
 use const_hex::{BufferedHex, PieceSink, Sink, SinkError};

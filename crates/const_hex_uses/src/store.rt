@@ -1,7 +1,7 @@
 //! Keys of a store, which are found with or without a prefix and in either case.
 
 ghost use Rattle.std.specs.Prelude.{◌≡◌, ◌≢◌, Err, string_bytes, IfOk, IfErr};
-ghost use Rattle.const_hex.specs.Results.{Reads, body_of, lowered};
+ghost use Rattle.const_hex.specs.Prelude.{Reads, body_of, lowered};
 ghost use Rattle.const_hex.specs.declared.error.FromHexError.TheVariants.{NoMemory};
 
 use const_hex::{FromHexError, decode, encode};

@@ -1,9 +1,7 @@
 //! A text in chunks.
 
 ghost use Rattle.std.specs.Prelude.{◌≡◌, ◌≢◌, ◌/◌, ◌<◌, ◌↔◌, length, IfOk, IfErr, IfSome, Some, Err};
-ghost use Rattle.const_hex.specs.Decoding.{error_of};
-ghost use Rattle.const_hex.specs.Results.{body_of};
-ghost use Rattle.const_hex.specs.Texts.{AllDigits};
+ghost use Rattle.const_hex.specs.Prelude.{error_of, body_of, AllDigits};
 ghost use Rattle.const_hex.specs.declared.error.FromHexError.{FromHexError};
 ghost use Rattle.const_hex.specs.declared.error.FromHexError.TheVariants.{InvalidStringLength};
 

@@ -1,8 +1,7 @@
 //! Callers that write to a part of a buffer.
 
-ghost use Rattle.std.specs.Prelude.{◌≡◌, ◌≤◌, ◌*◌, ◌++◌, ◌↔◌, false, length, drop, Err, IsOk, OnErr, OnOk};
-ghost use Rattle.std.specs.Str.{IsAscii};
-ghost use Rattle.const_hex.specs.Texts.{hex_text};
+ghost use Rattle.std.specs.Prelude.{◌≡◌, ◌≤◌, ◌*◌, ◌++◌, ◌↔◌, false, length, drop, Err, IsOk, OnErr, OnOk, IsAscii};
+ghost use Rattle.const_hex.specs.Prelude.{hex_text};
 ghost use Rattle.const_hex.specs.declared.error.FromHexError.TheVariants.{InvalidStringLength};
 
 use const_hex::{FromHexError, Output, SliceOutput, encode_to_slice};

@@ -3,15 +3,11 @@ use Rattle.std.specs.Prelude.{ℕ, List, codes, ◌≡◌, ◌⊎◌, ⊤, ◌<�
 use Rattle.consthex.specs.declared.mode.Mode.{Mode}
 use Rattle.consthex.specs.declared.mode.Mode.TheVariants.{Encode, EncodeUpper, EncodePrefixed, EncodeUpperPrefixed, Decode, Check}
 use Rattle.std.specs.Io.BufRead.{strip_last}
-use Rattle.const_hex.specs.Texts.{full_text}
-use Rattle.const_hex.specs.Messages.{message_of}
-use Rattle.const_hex.specs.Results.{IsEven, Reads, Checks}
+use Rattle.const_hex.specs.Prelude.{full_text, message_of, IsEven, Reads, Checks, is_no_memory, WritesBeginning}
 use Rattle.const_hex.specs.declared.error.FromHexError.{FromHexError}
 use Rattle.consthex.specs.declared.error.RunError.{RunError}
 use Rattle.consthex.specs.declared.error.RunError.TheVariants.{Text, ReadFailed, WriteFailed, TooLong, NoMemory}
 use Rattle.std.specs.Io.KnownBytes.{Appends, Consumes, IsAtEnd, Keeps}
-use Rattle.const_hex.specs.Types.{is_no_memory}
-use Rattle.const_hex.specs.Writers.{WritesBeginning}
 
 -- ---- the word of each mode
 

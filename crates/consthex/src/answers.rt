@@ -1,8 +1,7 @@
 //! What a mode returns for given bytes.
 
 ghost use Rattle.std.specs.Prelude.{◌≡◌, ◌≢◌, ◌≤◌, ◌<◌, ◌++◌, ◌+◌, ◌↔◌, ◌⊎◌, List, ℕ, codes, length, IfOk, IfErr, Ok, Err};
-ghost use Rattle.const_hex.specs.Results.{IsOdd, Reads};
-ghost use Rattle.const_hex.specs.Texts.{full_text, text_length};
+ghost use Rattle.const_hex.specs.Prelude.{IsOdd, Reads, full_text, text_length};
 ghost use Rattle.const_hex.specs.declared.error.FromHexError.{FromHexError};
 ghost use Rattle.const_hex.specs.declared.error.FromHexError.TheVariants.{OddLength};
 ghost use Rattle.consthex.specs.Program.{Answer, TakesMemory, without_newline, newline, limit};

@@ -3,8 +3,7 @@
 ghost use Rattle.std.specs.Prelude.{◌≡◌, ◌≢◌, ◌≤◌, ◌<◌, ◌+◌, ◌⊎◌, List, ℕ, length, take, vec_len, OnOk, OnErr, IfOk, IfErr, Ok, Err};
 ghost use Rattle.std.specs.Io.KnownBytes.{Appends, Consumes, Keeps};
 ghost use Rattle.const_hex.specs.declared.error.FromHexError.{FromHexError};
-ghost use Rattle.const_hex.specs.Writers.{WritesBeginning};
-ghost use Rattle.const_hex.specs.Results.{IsOdd};
+ghost use Rattle.const_hex.specs.Prelude.{WritesBeginning, IsOdd};
 ghost use Rattle.consthex.specs.Program.{limit, without_newline, ReadsAll, Answer, Answers, TakesMemory};
 ghost use Rattle.consthex.specs.declared.mode.Mode.TheVariants.{Check, Decode};
 ghost use Rattle.const_hex.specs.declared.error.FromHexError.TheVariants.{OddLength};

@@ -1,7 +1,6 @@
 -- Values of a fixed number of bytes.
 use Rattle.std.specs.Prelude.{ℕ, List, Result}
-use Rattle.const_hex.specs.Results.{ReadsSized}
-use Rattle.const_hex.specs.Types.{ReadsAs}
+use Rattle.const_hex.specs.Prelude.{ReadsSized, ReadsAs}
 use Rattle.const_hex.specs.declared.error.FromHexError.{FromHexError}
 use Rattle.hash_hex.specs.declared.fixed.FixedBytes.{FixedBytes}
 

@@ -4,10 +4,7 @@ ghost use Rattle.std.specs.Prelude.{◌≡◌, ◌↔◌, ℕ, List, Bool, lengt
 ghost use Rattle.serde_json.specs.Data.{string};
 ghost use Rattle.serde_json.specs.Find.{as_str};
 ghost use Rattle.serde_json.specs.View.{view};
-ghost use Rattle.const_hex.specs.Results.{AreBytes, ReadsSized, is_text_of, body_of, lowered};
-ghost use Rattle.const_hex.specs.Types.{ReadsInside, IsCount};
-ghost use Rattle.const_hex.specs.Texts.{full_text};
-ghost use Rattle.const_hex.specs.TypeLaws.{ReadsAs-faithful, ReadsSized-faithful};
+ghost use Rattle.const_hex.specs.Prelude.{AreBytes, ReadsSized, is_text_of, body_of, lowered, ReadsInside, IsCount, full_text, ReadsAs-faithful, ReadsSized-faithful};
 ghost use Rattle.hash_hex.specs.Fixed.{fixed_bytes, ReadsFixed};
 ghost use Rattle.hash_hex.specs.declared.fixed.FixedBytes.{FixedBytes};
 

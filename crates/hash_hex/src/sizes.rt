@@ -1,8 +1,7 @@
 //! Hashes of 32 bytes and addresses of 20 bytes.
 
 ghost use Rattle.std.specs.Prelude.{◌≡◌, true, false};
-ghost use Rattle.const_hex.specs.Buffers.{buffer_text};
-ghost use Rattle.const_hex.specs.Texts.{full_text};
+ghost use Rattle.const_hex.specs.Prelude.{buffer_text, full_text};
 ghost use Rattle.hash_hex.specs.Fixed.{fixed_bytes};
 
 use crate::fixed::FixedBytes;

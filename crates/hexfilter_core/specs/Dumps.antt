@@ -1,9 +1,7 @@
 -- What a dump is: the text of bytes in groups, as it is written, and an input that is read as such a text.
 use Rattle.std.specs.Prelude.{◌≡◌, ℕ, ◌+◌, ◌-◌, ◌*◌, ◌/◌, ◌^◌, ◌==◌, nat_le, nat_lt, ◌<◌, min, ◌&&◌, ◌||◌, not, Bool, true, false, if◌then◌else◌, List, [], ◌∷◌, ◌++◌, length, take, Option, Some, None}
 use Rattle.std.specs.Io.KnownBytes.{IsAtEnd}
-pub use Rattle.const_hex.specs.Results.{IsOdd, body_of}
-pub use Rattle.const_hex.specs.Decoding.{counted}
-pub use Rattle.const_hex.specs.Texts.{AllDigits, Spells, full_text}
+pub use Rattle.const_hex.specs.Prelude.{IsOdd, body_of, counted, AllDigits, Spells, full_text}
 pub use Rattle.const_hex.specs.declared.error.FromHexError.{FromHexError}
 pub use Rattle.const_hex.specs.declared.error.FromHexError.TheVariants.{OddLength, InvalidStringLength, InvalidHexCharacter, NoMemory}
 pub use Rattle.hexfilter_core.specs.declared.mode.Groups.{Groups}

@@ -1,12 +1,10 @@
 -- What a run makes of its input, its errors, and what the exit status of the program says.
-use Rattle.std.specs.Prelude.{◌≡◌, ◌≢◌, ◌⊎◌, ℕ, if◌then◌else◌, Bool, true, false, List, [], ◌++◌, Option, None, Some, Result, Ok, Err, codes, get_or}
+use Rattle.std.specs.Prelude.{◌≡◌, ◌≢◌, ◌⊎◌, ℕ, if◌then◌else◌, Bool, true, false, List, [], ◌++◌, Option, None, Some, Result, Ok, Err, codes, get_or, bytes_eq}
 use Rattle.std.specs.Borrow.{Bor}
 use Rattle.std.specs.Io.KnownBytes.{Appends, Consumes, IsAtEnd}
 use Rattle.std.specs.IoError.{error_kind}
-use Rattle.std.specs.Str.{bytes_eq}
 use Rattle.std.specs.declared.io.ErrorKind.TheVariants.{Interrupted}
-pub use Rattle.const_hex.specs.Results.{Reads}
-pub use Rattle.const_hex.specs.Writers.{WritesBeginning}
+pub use Rattle.const_hex.specs.Prelude.{Reads, WritesBeginning}
 use Rattle.hexfilter_core.specs.Dumps.{FromHexError, HasError, Place, Reading, SpellsBeginning, encoded, text_of}
 pub use Rattle.hexfilter_core.specs.declared.error.RunError.{RunError}
 pub use Rattle.hexfilter_core.specs.declared.error.RunError.TheVariants.{Text, Read, Write}

@@ -1,6 +1,6 @@
 -- What a run has made of the chunks that it has read.
 use Rattle.std.specs.Prelude.{◌≡◌, ◌<◌, ◌≤◌, ◌++◌, Bool, true, ℕ, List, Option, None, Some, length}
-pub use Rattle.const_hex.specs.Decoding.{HasRead, counted}
+pub use Rattle.const_hex.specs.Prelude.{HasRead, counted}
 pub use Rattle.const_hex.specs.declared.codec.decoder.Decoder.{Decoder}
 use Rattle.hexfilter_core.specs.Dumps.{Groups, IsPlace, Reading, encoded, full_text, groups_from, leaves_out, next_from, text_of}
 use Rattle.hexfilter_core.specs.Runs.{Decode, Encode, IsErrorOf, Makes, Mode, RunError, written}

@@ -1,7 +1,7 @@
 //! A text in groups.
 
 ghost use Rattle.std.specs.Prelude.{◌≡◌, ◌≢◌, ◌+◌, ◌*◌, ◌≤◌, ◌<◌, ◌++◌, ◌∷◌, [], List, ℕ, length, take};
-ghost use Rattle.const_hex.specs.Decoding.{listed};
+ghost use Rattle.const_hex.specs.Prelude.{listed};
 ghost use Rattle.hexfilter_core.specs.Dumps.{PutsInto, groups_from};
 
 use crate::mode::Groups;

@@ -1,7 +1,6 @@
 //! Where a character stands, as editors count.
 
-ghost use Rattle.std.specs.Prelude.{◌≡◌, ◌≢◌, ◌++◌, ◌∷◌, [], List, ℕ, length};
-ghost use Rattle.std.specs.List.{All};
+ghost use Rattle.std.specs.Prelude.{◌≡◌, ◌≢◌, ◌++◌, ◌∷◌, [], List, ℕ, length, All};
 ghost use Rattle.hexfilter_core.specs.Dumps.{IsPlace};
 
 /// The line and the column of a character. Both count from 1, and a line ends with `\n`.

@@ -2,7 +2,7 @@
 
 ghost use Rattle.std.specs.Prelude.{◌≡◌, ◌+◌, ◌≤◌, ◌<◌, ◌∷◌, [], List, ℕ, false, length, min, take, not, nat_lt};
 ghost use Rattle.std.specs.List.{All, prefix_len};
-ghost use Rattle.const_hex.specs.Decoding.{listed};
+ghost use Rattle.const_hex.specs.Prelude.{listed};
 ghost use Rattle.hexfilter_core.specs.Stages.{HasAdded, HasScanned};
 ghost use Rattle.hexfilter_core.specs.Dumps.{StandsAfter, is_whitespace, kept, next};
 

@@ -1,7 +1,7 @@
 //! What a run makes of its input, chunk after chunk.
 
 ghost use Rattle.std.specs.Prelude.{◌≡◌, ◌*◌, ◌+◌, ◌≤◌, ◌<◌, ◌++◌, [], List, ℕ, Bool, if◌then◌else◌, length, take, false, ◌/◌, ◌∷◌, Option, None, Some, IfOk, OnErr};
-ghost use Rattle.const_hex.specs.Decoding.{listed};
+ghost use Rattle.const_hex.specs.Prelude.{listed};
 ghost use Rattle.hexfilter_core.specs.Dumps.{Groups, PutsInto, encoded, ended, full_text, AllDigits, Reading, body_of, chunk_size, text_of};
 ghost use Rattle.hexfilter_core.specs.Stages.{HasDecoded, HasWritten, Reaches, HasMade};
 ghost use Rattle.std.specs.Io.KnownBytes.{IsAtEnd};

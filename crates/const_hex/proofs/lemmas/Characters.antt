@@ -1,11 +1,9 @@
 -- Steps of an iterator over the characters of bytes.
 use mir.Val.{bool_byte}
-use Rattle.std.proofs.Common.{◌≡◌, ℕ, ◌+◌, ◌*◌, ◌/◌, ◌%◌, Bool, List, [], ◌∷◌, length, Option, None, refl, arith}
-use Rattle.std.specs.Prelude.{is_some}
+use Rattle.std.proofs.Common.{◌≡◌, ℕ, ◌+◌, ◌*◌, ◌/◌, ◌%◌, Bool, List, [], ◌∷◌, length, Option, None, refl, arith, is_some}
 use Rattle.std.proofs.lemmas.List.{nil_from_length}
-use Rattle.const_hex_arch.specs.Texts.{hex_digit, hex_text}
+use Rattle.const_hex.specs.Prelude.{hex_digit, hex_text, with_low}
 use Rattle.const_hex_arch.proofs.lemmas.Texts.{length-hex_text}
-use Rattle.const_hex.specs.Types.{with_low}
 
 -- nothing is left
 pub left-none : (up : Bool) (low : Option ℕ) (u : List ℕ) → low ≡ None → length u ≡ 0

@@ -1,16 +1,39 @@
 -- A text in chunks: what a `Decoder` has read after one more, with or without an error.
-use Rattle.std.proofs.Common.{◌≡◌, ℕ, ◌+◌, ◌-◌, ◌*◌, ◌/◌, ◌%◌, ◌≤◌, ◌≢◌, List, [], ◌∷◌, ◌++◌, length, take, drop, get_or, slice_index, None, Ok, refl, sym, ap, ◌∙◌, arith, length-append, length-drop}
-use Rattle.std.proofs.lemmas.List.{append_assoc, append-nil, get_or_append_left, get_or-append-add, length-take, take-append-le, take-append-drop, take_all, take_at, drop_all, drop_at}
+use Rattle.std.proofs.Common.{◌≡◌, ◌≤◌, ◌*◌, ◌/◌, ℕ, List, ◌++◌, length, take, drop, refl, arith, ◌+◌, ◌-◌, ◌%◌, ◌≢◌, [], ◌∷◌, get_or, slice_index, None, Ok, sym, ap, ◌∙◌, length-append, length-drop}
+use Rattle.std.proofs.lemmas.Grind.{common_steps}
+use Rattle.std.proofs.lemmas.List.{take-append-drop, take-append-le, drop-append-le, append_assoc, append-nil, get_or_append_left, get_or-append-add, length-take, take_all, take_at, drop_all, drop_at}
 use Rattle.std.proofs.lemmas.List.Elements.{All-drop, All-take}
-use Rattle.const_hex.specs.Results.{IsOdd, Reads, body_of}
-use Rattle.const_hex.specs.Decoding.{HasRead, NamesCounted, counted, error_of, position_of, waiting_digit}
-use Rattle.const_hex.specs.TypeLaws.{body-parity}
-use Rattle.const_hex.specs.declared.codec.decoder.Decoder.{Decoder}
-use Rattle.const_hex_arch.specs.Texts.{IsDigit, AllDigits, FirstBad, Partial, Spells}
-use Rattle.const_hex_arch.proofs.lemmas.DigitTexts.{digits_append}
-use Rattle.const_hex_arch.proofs.lemmas.FirstInvalid.{FirstBad-after, Spells-some}
-use Rattle.const_hex_arch.proofs.lemmas.LeftOutputs.{Partial-after, none_decoded}
-use Rattle.const_hex_arch.proofs.lemmas.Spelling.{Spells-append, Spells-digits, Spells-length}
+use Rattle.const_hex.specs.Prelude.{Partial, IsOdd, Reads, body_of, HasRead, NamesCounted, counted, error_of, position_of, waiting_digit, body-parity, Decoder, IsDigit, AllDigits, FirstBad, Spells}
+use Rattle.const_hex_arch.proofs.lemmas.Digits.{digits_append}
+use Rattle.const_hex_arch.proofs.lemmas.FirstInvalid.{FirstBad-after, Spells-some, Partial-after, none_decoded}
+use Rattle.const_hex_arch.proofs.lemmas.Texts.{Spells-append, Spells-digits, Spells-length}
+
+-- ---- what an error leaves of an output whose front was to be filled
+
+-- what `Partial` says of a front that the pairs of the text just fill, it says of the whole output
+pub partial_pairs : (old u new : List ℕ) (n : ℕ) → n ≤ length old → length u / 2 ≡ n → Partial (take n old) u new
+    → Partial old u (new ++ drop n old)
+partial_pairs old u new n within sized p =
+    let front = take n old in
+    let other = drop n old in
+    let bad = p.first_bad.within in
+    let in_new : p.done ≤ length new = grind (arith, common_steps) in
+    let in_old : p.done ≤ length front = grind (arith, common_steps) in
+    record {
+      bad = p.bad;
+      done = p.done;
+      first_bad = p.first_bad;
+      not_past = p.not_past;
+      same_length = grind (arith, common_steps);
+      front = rw (take-append-le p.done new other in_new) p.front;
+      rest = rw (drop-append-le p.done new other in_new, p.rest, ← drop-append-le p.done front other in_old)
+          (rw (take-append-drop n old) refl);
+    }
+
+-- the same for an even text
+pub partial_front : (old u new : List ℕ) (n : ℕ) → n ≤ length old → length u ≡ 2 * n → Partial (take n old) u new
+    → Partial old u (new ++ drop n old)
+partial_front old u new n within sized p = partial_pairs old u new n within (omega (arith, sized)) p
 
 -- ---- pairs, and what follows
 

@@ -1,16 +1,13 @@
 -- Texts that are passed to a formatter in pieces.
-use Rattle.std.proofs.Common.{◌≡◌, ℕ, Bool, false, List, [], ◌∷◌, refl, subst, ◌∙◌}
+use Rattle.std.proofs.Common.{◌≡◌, ℕ, Bool, false, List, [], ◌∷◌, refl, subst, ◌∙◌, Result}
 use Rattle.std.specs.List.{concat}
-use Rattle.std.specs.Prelude.{Result}
 use Rattle.std.specs.Fmt.{WritesOnOk, WritesStyledOnOk, formatter_spec, spec_alternate}
 use Rattle.std.specs.declared.fmt.Error.{Error}
 use Rattle.std.specs.declared.fmt.Formatter.{Formatter}
 use Rattle.std.proofs.Output.{has_written_styled_nil, has_written_styled_append}
-use Rattle.const_hex_arch.specs.Sinks.{Offers, Streams}
-use Rattle.const_hex_arch.specs.Texts.{hex_text, full_text}
+use Rattle.const_hex.specs.Prelude.{Offers, Streams, hex_text, full_text, FormatterStep}
 use Rattle.const_hex_arch.proofs.lemmas.Streams.{Offers-accepting, Streams-all}
 use Rattle.const_hex.specs.declared.formatting.sink.FormatterSink.{FormatterSink}
-use Rattle.const_hex.specs.Writers.{FormatterStep}
 
 module _ {W : Type 0} (took : W → List ℕ → W → Type 0) where
   -- if nothing failed, pieces are written as one

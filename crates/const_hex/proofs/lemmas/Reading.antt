@@ -1,14 +1,10 @@
 -- Each text has exactly one result when it is read.
-use Rattle.std.proofs.Common.{◌≡◌, ℕ, ◌*◌, List, length, Result, Ok, Err, refl, ap, ◌∙◌, arith, eqb-true, eq-eqb}
+use Rattle.std.proofs.Common.{◌≡◌, ℕ, ◌*◌, List, length, Result, Ok, Err, refl, ap, ◌∙◌, arith, eqb-true, eq-eqb, IsOk, IsTrue, ◌↔◌}
 use Rattle.std.proofs.lemmas.Bool.{and_parts, and_from}
 use Rattle.std.proofs.lemmas.List.Sums.{AllPass-from_list_all, list_all-from_AllPass}
-use Rattle.std.specs.Prelude.{IsOk, IsTrue, ◌↔◌}
-use Rattle.const_hex_arch.specs.Texts.{Spells, AllDigits, FirstBad}
+use Rattle.const_hex.specs.Prelude.{Spells, AllDigits, FirstBad, body_of, Reads, ReadsSized, Checks, ChecksText, IsEven, is_text_of, body-parity, FromHexError}
 use Rattle.const_hex_arch.proofs.lemmas.FirstInvalid.{Spells-some, FirstBad-same, digits_no_bad}
-use Rattle.const_hex_arch.proofs.lemmas.Spelling.{Spells-same, Spells-digits}
-use Rattle.const_hex.specs.Results.{body_of, Reads, ReadsSized, Checks, ChecksText, IsEven, is_text_of}
-use Rattle.const_hex.specs.TypeLaws.{body-parity}
-use Rattle.const_hex.specs.declared.error.FromHexError.{FromHexError}
+use Rattle.const_hex_arch.proofs.lemmas.Texts.{Spells-same, Spells-digits}
 
 -- no text decodes to bytes and has an invalid character
 pub Spells-no_bad : (u bs : List ℕ) (p : ℕ) → Spells u bs → FirstBad u p → ⊥

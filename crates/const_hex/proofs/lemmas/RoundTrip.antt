@@ -1,14 +1,40 @@
--- Text that was written is read again.
-use Rattle.std.proofs.Common.{◌≡◌, ℕ, ◌*◌, Bool, true, false, List, [], ◌∷◌, length, Result, Ok, Err, refl, arith}
-use Rattle.std.specs.Prelude.{IfOk, IfErr, ◌≢◌, ◌↔◌}
+-- Text that was written is read again, and the canonical text of what a text decodes to.
+use Rattle.std.proofs.Common.{◌≡◌, ℕ, ◌+◌, ◌/◌, ◌%◌, nat_le, ◌&&◌, if◌then◌else◌, false, List, [], ◌∷◌, Some, refl, sym, ◌∙◌, arith, ◌↔◌, ◌*◌, Bool, true, length, Result, Ok, Err, IfOk, IfErr, ◌≢◌}
 use Rattle.std.proofs.lemmas.Bool.Decides.{nat_tests}
-use Rattle.const_hex_arch.specs.Texts.{hex_text, full_text}
-use Rattle.const_hex_arch.proofs.lemmas.Texts.{Spells-hex_text, length-hex_text, length-full_text}
-use Rattle.const_hex.specs.Results.{body_of, lowered, Reads, ReadsSized, IsOdd, AreBytes, Decodes, DecodesToArray}
-use Rattle.const_hex.specs.declared.error.FromHexError.{FromHexError}
-use Rattle.const_hex.specs.declared.error.FromHexError.TheVariants.{NoMemory, OddLength}
+use Rattle.const_hex.specs.Prelude.{hex_value, hex_digit, hex_text, Spells, lowered, full_text, body_of, Reads, ReadsSized, IsOdd, AreBytes, Decodes, DecodesToArray, FromHexError, NoMemory, OddLength}
+use Rattle.const_hex_arch.proofs.lemmas.Digits.{hex_value-small}
+use Rattle.const_hex_arch.proofs.lemmas.Texts.{Spells-same, Spells-bytes, Spells-hex_text, length-hex_text, length-full_text}
 use Rattle.const_hex.proofs.lemmas.Reading.{one_answer, one_sized_answer, sized_accepts}
-use Rattle.const_hex.proofs.lemmas.Lowering.{hex_text-lowered, Spells-agree}
+
+-- the lower digit of a digit's value
+lowered_digit : (c v : ℕ) → hex_value c ≡ Some v
+    → hex_digit false v ≡ (if nat_le 65 c && nat_le c 70 then c + 32 else c)
+lowered_digit c v h = grind (arith, nat_tests)
+
+-- the text of the bytes that a text decodes to is that text in lowercase
+pub hex_text-lowered : (u bs : List ℕ) → Spells u bs → hex_text false bs ≡ lowered u
+unfolding hex_text
+hex_text-lowered [] [] s = refl
+hex_text-lowered (c ∷ d ∷ u) (b ∷ bs) s =
+    let low = hex_value-small d s.0.low s.0.low_is in
+    let e = s.0.byte_is in
+    let h : b / 16 ≡ s.0.high = omega (arith, low, e) in
+    let l : b % 16 ≡ s.0.low = omega (arith, low, e) in
+    rw (h, l, lowered_digit c s.0.high s.0.high_is, lowered_digit d s.0.low s.0.low_is, hex_text-lowered u bs s.1) refl
+hex_text-lowered _ _ s = absurd s
+
+-- two texts decode to the same bytes if and only if they are the same in lowercase
+pub Spells-agree : (u v xs ys : List ℕ) → Spells u xs → Spells v ys → (xs ≡ ys) ↔ (lowered u ≡ lowered v)
+Spells-agree u v xs ys s t =
+    let a = hex_text-lowered u xs s in
+    let b = hex_text-lowered v ys t in
+    let of_xs = Spells-hex_text false xs (Spells-bytes u xs s) in
+    let of_ys = Spells-hex_text false ys (Spells-bytes v ys t) in
+    (λ e. cc, λ e. Spells-same (hex_text false xs) xs ys of_xs (rw (a ∙ e ∙ sym b) of_ys))
+
+pub ruleset read_back = (hex_text-lowered, Spells-agree)
+
+-- ---- text that was written is read again
 
 -- the body of a full text is its text
 pub body-full_text : (prefix up : Bool) (bs : List ℕ) → body_of (full_text prefix up bs) ≡ hex_text up bs
@@ -20,8 +46,7 @@ body-full_text false up (b ∷ bs) = grind (arith, nat_tests)
 -- what was written is read as its bytes
 pub Reads-full_text : (t : List ℕ) (prefix up : Bool) (bs : List ℕ) → AreBytes bs → t ≡ full_text prefix up bs
     → Reads t (Ok bs)
-Reads-full_text t prefix up bs h e =
-    rw e (grind (arith, length-full_text), rw (body-full_text prefix up bs) (Spells-hex_text up bs h))
+Reads-full_text t prefix up bs h e = grind (arith, length-full_text, body-full_text, Spells-hex_text)
 
 -- ---- what any text gives
 

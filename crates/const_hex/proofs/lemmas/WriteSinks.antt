@@ -1,5 +1,5 @@
 -- Texts that are passed to a writer in pieces.
-use Rattle.std.proofs.Common.{◌≡◌, ℕ, ◌+◌, ◌-◌, ◌≤◌, true, false, List, [], ◌∷◌, ◌++◌, length, take, drop, Option, refl, sym, ap, ◌∙◌, arith, inl, inr}
+use Rattle.std.proofs.Common.{◌≡◌, ℕ, ◌+◌, ◌-◌, ◌≤◌, true, false, List, [], ◌∷◌, ◌++◌, length, take, drop, Option, refl, sym, ap, ◌∙◌, arith, inl, inr, min, Some, None, is_some, IfSome, ◌≢◌}
 use Rattle.std.proofs.lemmas.Bool.{cases_Bool, false_from_ne_true}
 use Rattle.std.proofs.KnownBytes.{Appends-kept, Appends-nil, Appends-trans}
 use Rattle.std.proofs.Math.Seq.{take-add, take-append-add}
@@ -7,12 +7,10 @@ use Rattle.std.proofs.lemmas.List.{append_assoc, drop_all, take_min, take_rest, 
 use Rattle.std.proofs.lemmas.List.Folds.{concat-append}
 use Rattle.std.specs.Io.KnownBytes.{Appends}
 use Rattle.std.specs.List.{concat}
-use Rattle.std.specs.Prelude.{min, Some, None, is_some, IfSome, ◌≢◌}
 use Rattle.std.specs.IoError.{error_kind}
 use Rattle.std.specs.declared.io.Error.{Error}
 use Rattle.std.specs.declared.io.ErrorKind.TheVariants.{Interrupted}
-use Rattle.const_hex_arch.specs.Sinks.{Offers, Streams}
-use Rattle.const_hex.specs.Writers.{WriteStep, sink_writer, has_failed}
+use Rattle.const_hex.specs.Prelude.{Offers, Streams, WriteStep, sink_writer, has_failed}
 use Rattle.const_hex.specs.declared.write_sink.WriteSink.{WriteSink}
 
 -- n bytes of what follows the first `done` bytes end inside the whole

@@ -1,7 +1,6 @@
 //! An array of ASCII bytes that is lent as text.
 
-ghost use Rattle.std.specs.Prelude.{◌≡◌, ◌<◌, length, replicate, slice_set};
-ghost use Rattle.std.specs.Str.{IsAscii};
+ghost use Rattle.std.specs.Prelude.{◌≡◌, ◌<◌, length, replicate, slice_set, IsAscii};
 ghost use Rattle.const_hex_arch.specs.Texts.{full_text, text_length};
 
 use const_hex_arch::{FixedKernel, fill_text};

@@ -1,9 +1,7 @@
 //! Whether a text can be decoded.
 
 ghost use Rattle.std.specs.Prelude.{◌↔◌, Result, Ok, IsTrue};
-ghost use Rattle.const_hex_arch.specs.Texts.{AllDigits};
-ghost use Rattle.const_hex.specs.Results.{ChecksText};
-ghost use Rattle.const_hex.specs.declared.error.FromHexError.{FromHexError};
+ghost use Rattle.const_hex.specs.Prelude.{AllDigits, ChecksText, FromHexError};
 
 use crate::codec::body::{find_first_bad, find_invalid_character, invalid_character, strip_even};
 use crate::error::FromHexError;

@@ -1,11 +1,7 @@
 //! Decoding a text that arrives in chunks.
 
 ghost use Rattle.std.specs.Prelude.{◌≡◌, ◌≢◌, ℕ, List, [], ◌∷◌, None, ◌++◌, ◌*◌, ◌+◌, ◌/◌, ◌%◌, ◌≤◌, ◌↔◌, Some, Ok, Err, true, false, length, take, drop, slice_index, IsOk, OnErr, IfSome, IsTrue};
-ghost use Rattle.const_hex_arch.specs.Texts.{AllDigits, FirstBad, IsDigit, Partial, Spells};
-ghost use Rattle.const_hex.specs.Results.{IsOdd, Reads, body_of};
-ghost use Rattle.const_hex.specs.Decoding.{HasRead, counted, error_of, listed, position_of, waiting_digit, zero_decoder, ChecksChunk, DecodesChunk};
-ghost use Rattle.const_hex.specs.declared.error.FromHexError.{FromHexError};
-ghost use Rattle.const_hex.specs.declared.error.FromHexError.TheVariants.{OddLength, InvalidStringLength, InvalidHexCharacter};
+ghost use Rattle.const_hex.specs.Prelude.{AllDigits, FirstBad, IsDigit, Partial, Spells, IsOdd, Reads, body_of, HasRead, counted, error_of, listed, position_of, waiting_digit, zero_decoder, ChecksChunk, DecodesChunk, FromHexError, OddLength, InvalidStringLength, InvalidHexCharacter};
 
 use crate::codec::body::{decode_body, find_first_bad, invalid_character, is_prefix, strip_prefix};
 use crate::error::FromHexError;
@@ -227,6 +223,7 @@ impl Decoder {
 
     /// The digit that waits and the digits that follow, if this chunk follows.
     #[inline(always)]
+    #[tactic(auto, using(std::proofs::lemmas::Grind::common_steps))]
     fn next_digits<'a>(&self, chunk: &'a [u8]) -> (Option<u8>, &'a [u8])
         ensures whole { (t pairs : List ℕ) → position_of self.now ≡ counted (length t)
             → body_of t ≡ pairs ++ waiting_digit self.now → length pairs % 2 ≡ 0

@@ -1,7 +1,7 @@
 //! Decoding a whole text.
 
 ghost use Rattle.std.specs.Prelude.{◌≡◌, ◌*◌, false, length, IsTrue, Ok};
-ghost use Rattle.const_hex.specs.Results.{body_of, ReadsSized, all_digits, DecodesToSlice, DecodesToFront, DecodesToArray};
+ghost use Rattle.const_hex.specs.Prelude.{body_of, ReadsSized, all_digits, DecodesToSlice, DecodesToFront, DecodesToArray};
 
 use crate::codec::body::{are_digits, decode_body, find_invalid_character, strip_even};
 use crate::error::FromHexError;
@@ -101,7 +101,7 @@ pub fn decode_to_front(input: &[u8], output: &mut [u8]) -> Result<usize, FromHex
 /// assert_eq!(rt; &bytes, b"kiwi..");
 /// ```
 #[inline]
-#[tactic(auto, using(crate::proofs::lemmas::Fronts::partial_front))]
+#[tactic(auto, using(crate::proofs::lemmas::Decoding::partial_front))]
 pub fn decode_to_front_with<K: Kernel>(
     input: &[u8],
     output: &mut [u8],

@@ -1,12 +1,8 @@
 //! Encoding bytes as text in a slice.
 
-ghost use Rattle.std.specs.Prelude.{◌≡◌, ◌≢◌, ◌*◌, true, false, length, IsTrue, IsOk, IfOk, IfErr, Err, ◌↔◌};
+ghost use Rattle.std.specs.Prelude.{◌≡◌, ◌≢◌, ◌*◌, true, false, length, IsTrue, IsOk, IfOk, IfErr, Err, ◌↔◌, IsAscii};
 ghost use Rattle.std.specs.Borrow.{sem};
-ghost use Rattle.std.specs.Str.{IsAscii};
-ghost use Rattle.const_hex_arch.specs.Texts.{hex_text, full_text, text_length};
-ghost use Rattle.const_hex.specs.Buffers.{EndsEncoded};
-ghost use Rattle.const_hex.specs.Results.{EncodesToSlice};
-ghost use Rattle.const_hex.specs.declared.error.FromHexError.TheVariants.{InvalidStringLength};
+ghost use Rattle.const_hex.specs.Prelude.{hex_text, full_text, text_length, EndsEncoded, EncodesToSlice, InvalidStringLength};
 
 use crate::error::FromHexError;
 use const_hex_arch::{FixedKernel, Kernel, ascii_text, fill_text, text_length};

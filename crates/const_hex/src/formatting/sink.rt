@@ -1,7 +1,7 @@
 //! A formatter as a sink.
 
 ghost use Rattle.std.specs.Prelude.{◌≡◌, false, None};
-ghost use Rattle.const_hex.specs.Writers.{FormatterStep, sink_formatter, formatter_name, formatter_failed};
+ghost use Rattle.const_hex.specs.Prelude.{FormatterStep, sink_formatter, formatter_name, formatter_failed};
 
 use const_hex_arch::{Sink, SinkError};
 use std::fmt;

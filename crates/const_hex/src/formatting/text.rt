@@ -2,8 +2,7 @@
 
 ghost use Rattle.std.specs.Prelude.{Some, true, false};
 ghost use Rattle.std.specs.Fmt.{WritesStyledOnOk, formatter_spec, spec_alternate};
-ghost use Rattle.const_hex_arch.specs.Texts.{hex_text};
-ghost use Rattle.const_hex.specs.Writers.{display_bytes, printed_text};
+ghost use Rattle.const_hex.specs.Prelude.{hex_text, display_bytes, printed_text};
 
 use crate::formatting::sink::FormatterSink;
 use const_hex_arch::BufferedHex;

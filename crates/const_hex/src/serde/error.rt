@@ -1,6 +1,6 @@
 //! Why a JSON value cannot be read into a type.
 
-ghost use Rattle.const_hex.specs.Types.{json_message};
+ghost use Rattle.const_hex.specs.Prelude.{json_message};
 
 use std::error::Error;
 use std::fmt;

@@ -1,9 +1,7 @@
 //! Hexadecimal text for a sink, with short text in one call.
 
 ghost use Rattle.std.specs.Prelude.{◌≡◌, ◌+◌, ◌*◌, ◌<◌, ◌≤◌, false, not, is_ok, length};
-ghost use Rattle.const_hex_arch.specs.Texts.{full_text};
-ghost use Rattle.const_hex_arch.specs.Sinks.{Streams, ReportsCut};
-ghost use Rattle.const_hex.specs.Writers.{ReportsWhole};
+ghost use Rattle.const_hex.specs.Prelude.{full_text, Streams, ReportsCut, ReportsWhole};
 
 use const_hex_arch::{
     BufferedHex, FixedKernel, Sink, SinkError, ascii_text, fill_text, text_length,

@@ -1,8 +1,6 @@
 //! Reading into arrays.
 
-ghost use Rattle.const_hex.specs.Results.{ReadsSized, DecodesToArray};
-ghost use Rattle.const_hex.specs.Types.{IsCount};
-ghost use Rattle.const_hex.specs.TypeLaws.{ReadsSized-faithful};
+ghost use Rattle.const_hex.specs.Prelude.{ReadsSized, DecodesToArray, IsCount, ReadsSized-faithful};
 
 use crate::codec::decoders::decode_to_array;
 use crate::error::FromHexError;

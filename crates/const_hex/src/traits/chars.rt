@@ -3,7 +3,7 @@
 ghost use Rattle.std.specs.Prelude.{◌≡◌, IfSome, length};
 ghost use Rattle.std.specs.Iterator.{YieldsFirst, item_count, UpTo};
 ghost use Rattle.std.specs.Iterator.SizeHint.{IsWithinCount};
-ghost use Rattle.const_hex_arch.specs.Texts.{hex_text};
+ghost use Rattle.const_hex.specs.Prelude.{hex_text};
 
 use const_hex_arch::digit_at;
 
@@ -26,7 +26,7 @@ pub struct BytesToHexChars<'a, const UPPER: bool> {
 }
 
 impl<'a, const UPPER: bool> BytesToHexChars<'a, UPPER> {
-    ghost use Rattle.const_hex.specs.Types.{chars_left};
+    ghost use Rattle.const_hex.specs.Prelude.{chars_left};
 
     /// The characters of these bytes, from the first.
     ///
@@ -42,7 +42,7 @@ impl<'a, const UPPER: bool> BytesToHexChars<'a, UPPER> {
 }
 
 impl<const UPPER: bool> Iterator for BytesToHexChars<'_, UPPER> {
-    ghost use Rattle.const_hex.specs.Types.{chars_left, exactly};
+    ghost use Rattle.const_hex.specs.Prelude.{chars_left, exactly};
 
     type Item = char;
 

@@ -1,8 +1,7 @@
 //! Which errors mean out of memory.
 
 ghost use Rattle.std.specs.Prelude.{◌≡◌, Bool, true};
-ghost use Rattle.const_hex.specs.Types.{is_no_memory};
-ghost use Rattle.const_hex.specs.declared.error.FromHexError.TheVariants.{NoMemory};
+ghost use Rattle.const_hex.specs.Prelude.{is_no_memory, NoMemory};
 
 use crate::error::FromHexError;
 

@@ -1,8 +1,7 @@
 //! Reading into vectors and boxed slices.
 
 ghost use Rattle.std.specs.Box.{boxed_slice_items};
-ghost use Rattle.const_hex.specs.Types.{AnyCount, ReadsOwned};
-ghost use Rattle.const_hex.specs.TypeLaws.{ReadsOwned-faithful};
+ghost use Rattle.const_hex.specs.Prelude.{AnyCount, ReadsOwned, ReadsOwned-faithful};
 
 use crate::error::FromHexError;
 use crate::owned::decode;

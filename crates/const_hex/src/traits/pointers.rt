@@ -1,7 +1,6 @@
 //! Reading into what a pointer owns.
 
-ghost use Rattle.const_hex.specs.Types.{ReadsThrough};
-ghost use Rattle.const_hex.specs.TypeLaws.{ReadsThrough-faithful};
+ghost use Rattle.const_hex.specs.Prelude.{ReadsThrough, ReadsThrough-faithful};
 
 use crate::traits::faults::HexFault;
 use crate::traits::reading::FromHex;

@@ -1,7 +1,7 @@
 //! Reading a text into a type.
 
 ghost use Rattle.std.specs.Prelude.{ℕ, List, Result};
-ghost use Rattle.const_hex.specs.Types.{IsFaithful};
+ghost use Rattle.const_hex.specs.Prelude.{IsFaithful};
 
 use crate::traits::faults::HexFault;
 use std::alloc::Global;

@@ -2,9 +2,7 @@
 
 ghost use Rattle.std.specs.Prelude.{◌≡◌, length, map};
 ghost use Rattle.std.specs.Box.{boxed_slice_items};
-ghost use Rattle.const_hex.specs.Results.{ReadsSized};
-ghost use Rattle.const_hex.specs.Types.{signed_of, byte_of, AnyCount, IsCount, ReadsOwned, ReadsSigned};
-ghost use Rattle.const_hex.specs.TypeLaws.{ReadsOwned-faithful, ReadsSized-faithful, ReadsSigned-faithful};
+ghost use Rattle.const_hex.specs.Prelude.{ReadsSized, signed_of, byte_of, AnyCount, IsCount, ReadsOwned, ReadsSigned, ReadsOwned-faithful, ReadsSized-faithful, ReadsSigned-faithful};
 
 use crate::codec::decoders::decode_to_array;
 use crate::error::FromHexError;
@@ -15,6 +13,7 @@ use std::boxed::BoxedSlice;
 
 /// Fills the numbers with the bits of the bytes. Both slices must have the same length.
 #[inline(always)]
+#[tactic(auto, using(std::proofs::lemmas::Grind::common_steps))]
 fn fill_signed(bytes: &[u8], numbers: &mut [i8])
     requires { length numbers.old ≡ length bytes.now }
     ensures { numbers.new ≡ map signed_of bytes.now }

@@ -1,7 +1,7 @@
 //! Writing a value's bytes as text.
 
 ghost use Rattle.std.specs.Prelude.{◌≡◌, ℕ, List, true, false, IfOk, string_bytes};
-ghost use Rattle.const_hex_arch.specs.Texts.{hex_text, full_text};
+ghost use Rattle.const_hex.specs.Prelude.{hex_text, full_text};
 
 use crate::owned::{encode, encode_prefixed, encode_upper, encode_upper_prefixed};
 use std::alloc::{AllocError, Global};

@@ -1,10 +1,11 @@
--- Digits and their values.
-use Rattle.std.proofs.Common.{◌≡◌, ℕ, ◌<◌, ◌≢◌, get_or, bit_or, Option, Some, IsSome, IsNone, refl, arith}
+-- Digits, their values, and texts of digits.
+use Rattle.std.proofs.Common.{◌≡◌, ℕ, ◌<◌, ◌≢◌, get_or, bit_or, Option, Some, IsSome, IsNone, refl, arith, ◌+◌, ◌↔◌, List, ◌++◌, length, take, drop, take-append-drop, take_at, drop_at}
 use Rattle.std.proofs.lemmas.Bool.Decides.{nat_tests}
 use Rattle.std.proofs.lemmas.Nat.{le_or_l, le_or_r}
+use Rattle.std.proofs.lemmas.List.Elements.{All-append, All-take, All-drop, All-get_or, All-more}
 use Rattle.const_hex_arch.specs.declared.tables.TheConstants.{HEX_DECODE_LUT}
-use Rattle.const_hex_arch.specs.Texts.{hex_value, value_or_nil, IsDigit}
-use Rattle.const_hex_arch.proofs.lemmas.Tables.{same_below}
+use Rattle.const_hex_arch.specs.{hex_value, value_or_nil, IsDigit, AllDigits}
+use Rattle.const_hex_arch.proofs.lemmas.Standard.{same_below}
 
 -- a byte that has a value is a digit
 pub IsDigit-from_value : (b v : ℕ) → hex_value b ≡ Some v → IsDigit b
@@ -34,10 +35,29 @@ digit_small b r e digit = hex_value-small b r (digit_found b r e digit)
 -- two look-ups without a bit that only NIL has
 pub two_digits : (b c v w : ℕ) → v ≡ value_or_nil (hex_value b) → w ≡ value_or_nil (hex_value c) → bit_or v w < 128
     → IsDigit b × IsDigit c
-two_digits b c v w e f below = (
-  IsDigit-from_value b v (value_found b v e (λ n. omega (arith, n, below, le_or_l v w))),
-  IsDigit-from_value c w (value_found c w f (λ n. omega (arith, n, below, le_or_r v w))),
-)
+two_digits b c v w e f below = grind (arith, IsDigit-from_value, value_found, le_or_l, le_or_r)
 
 pub no_value : (o : Option ℕ) → IsNone o → IsSome o → ⊥
 no_value o n s = cc
+
+-- ---- texts of digits alone
+
+pub digits_append : (xs ys : List ℕ) → AllDigits (xs ++ ys) ↔ (AllDigits xs × AllDigits ys)
+digits_append xs ys =
+    let n = length xs in
+    let front = rw (take_at xs ys n refl) at (All-take IsDigit n (xs ++ ys)) in
+    let back = rw (drop_at xs ys n refl) at (All-drop IsDigit n (xs ++ ys)) in
+    (λ h. (front h, back h), λ h. All-append IsDigit xs ys h.0 h.1)
+
+pub digits_parts : (i : ℕ) (u : List ℕ) → AllDigits u ↔ (AllDigits (take i u) × AllDigits (drop i u))
+digits_parts i u = let parts = digits_append (take i u) (drop i u) in rw take-append-drop at parts
+
+-- one byte more of a text, which the look-up takes for a digit
+pub digits_more : (u : List ℕ) (i : ℕ) → AllDigits (take i u) → i < length u
+    → value_or_nil (hex_value (get_or u i 0)) ≢ 255 → AllDigits (take (i + 1) u)
+digits_more u i a h n =
+    All-more IsDigit u i 0 h a (IsDigit-from_value (get_or u i 0) _ (value_found (get_or u i 0) _ refl n))
+
+-- the look-up takes each byte of digits for one
+pub digit_values : (u : List ℕ) (i : ℕ) → AllDigits u → i < length u → value_or_nil (hex_value (get_or u i 0)) ≢ 255
+digit_values u i a h = let d = All-get_or IsDigit u i 0 h a in grind (arith, nat_tests)

@@ -7,11 +7,10 @@ use Rattle.std.proofs.lemmas.Simd.{length-put_chunk, take_more_put_chunk}
 use lib.Lanes.{put_chunk}
 use borrow.Rule.Slice.PartMut.{put_mid}
 use Rattle.std.proofs.lemmas.Slice.{take-put_mid}
-use Rattle.const_hex_arch.specs.Texts.{IsDigit, hex_digit, hex_text, AllDigits, Spells}
-use Rattle.const_hex_arch.proofs.lemmas.DigitTexts.{digits_append, digits_parts}
-use Rattle.const_hex_arch.proofs.lemmas.Spelling.{Spells-append, Spells-parts}
+use Rattle.const_hex_arch.specs.{IsDigit, hex_digit, hex_text, AllDigits, Spells}
+use Rattle.const_hex_arch.proofs.lemmas.Digits.{digits_append, digits_parts}
+use Rattle.const_hex_arch.proofs.lemmas.Texts.{Spells-append, Spells-parts, hex_text-nil, hex_text-one, hex_text-append, length-hex_text}
 use Rattle.const_hex_arch.proofs.lemmas.Steps.{digits_last}
-use Rattle.const_hex_arch.proofs.lemmas.Texts.{hex_text-nil, hex_text-one, hex_text-append, length-hex_text}
 
 -- the text of the first k bytes, and of the others
 hex_text-parts : (up : Bool) (k : ℕ) (bs : List ℕ) → k ≤ length bs
@@ -101,14 +100,7 @@ pub filled_step : {up : Bool} {u new : List ℕ} {i end : ℕ} (r : List ℕ) (n
     → end ≤ length u → m ≡ 2 * n
     → r ≡ hex_text up (take n (drop i u)) → IsFilled up u (put_mid (2 * i) m new r) end
 filled_step {up} {u} {new} {i} {end} r n m d e h f s =
-    let long : length r ≡ m =
-    omega (arith, ap length s, length-hex_text up (take n (drop i u)), length-take n (drop i u), length-drop i u) in
-    let bytes = take-put_mid (2 * i) m new r (2 * end) (omega arith) (omega arith) in
-    let kept : length (put_mid (2 * i) m new r) ≡ length new = grind (arith, common_steps) in record {
-      within = h;
-      size = kept ∙ d.size;
-      front = rw (bytes, d.front, s, e, take-add i n u, hex_text-append);
-    }
+    grind (arith, common_steps, length-hex_text, length-take, length-drop, take-put_mid, put_mid, take-add, hex_text-append)
 
 -- the digits of one byte more
 pub filled_one : {up : Bool} {u new : List ℕ} {i end : ℕ} (r : List ℕ) (m : ℕ) → IsFilled up u new i → i < length u
@@ -116,6 +108,8 @@ pub filled_one : {up : Bool} {u new : List ℕ} {i end : ℕ} (r : List ℕ) (m 
     → IsFilled up u (put_mid (2 * i) m new r) end
 filled_one {up} {u} {new} {i} r m d h e f s =
     filled_step r 1 m d e (omega arith) f (s ∙ sym (hex_text-one up u i h))
+
+pub ruleset fills = (none_filled, filled_one, hex_text-nil)
 
 -- fewer bytes are written than there are
 pub filled_less : {up : Bool} {u new : List ℕ} {i : ℕ} (e : ℕ) → IsFilled up u new i → e ≤ i → IsFilled up u new e

@@ -1,14 +1,12 @@
--- The first invalid character of a text.
-use Rattle.std.proofs.Common.{◌≡◌, ℕ, zero, suc, ◌+◌, ◌%◌, ◌<◌, ◌≤◌, List, [], ◌∷◌, length, take, drop, slice_index, ◌⊎◌, inl, inr, refl, arith, take-add, length-take}
+-- The first invalid character of a text, and what an output holds after the text was rejected.
+use Rattle.std.proofs.Common.{◌≡◌, ℕ, zero, suc, ◌+◌, ◌%◌, ◌<◌, ◌≤◌, List, [], ◌∷◌, length, take, drop, slice_index, ◌⊎◌, inl, inr, refl, arith, take-add, length-take, get_or-take, get_or-drop, is_some, ◌*◌, get_or, bit_or, sym, ◌∙◌, drop-drop}
 use Rattle.std.proofs.lemmas.Grind.{common_steps}
-use Rattle.std.proofs.lemmas.List.{get_or-take, get_or-drop}
 use Rattle.std.proofs.lemmas.List.Elements.{All-nil, All-cons, All-head, All-tail, All-get_or}
-use Rattle.const_hex_arch.specs.Texts.{hex_value, IsDigit, Spells, AllDigits, FirstBad}
-use Rattle.const_hex_arch.proofs.lemmas.DigitTexts.{digits_append}
-use Rattle.std.specs.Option.{is_some}
 use Rattle.std.proofs.lemmas.Bool.{cases_Bool}
-use Rattle.const_hex_arch.proofs.lemmas.Digits.{digit_found, no_value}
-use Rattle.const_hex_arch.proofs.lemmas.Spelling.{IsPair-of}
+use Rattle.std.proofs.lemmas.Nat.{or_lt}
+use Rattle.const_hex_arch.specs.{hex_value, IsDigit, Spells, AllDigits, FirstBad, value_or_nil, Partial}
+use Rattle.const_hex_arch.proofs.lemmas.Digits.{digits_append, digit_found, no_value, digit_small, digits_parts}
+use Rattle.const_hex_arch.proofs.lemmas.Texts.{IsPair-of, Spells-append, Spells-digits, Spells-length}
 
 -- no text of digits has an invalid character
 pub digits_no_bad : (u : List ℕ) (p : ℕ) → AllDigits u → FirstBad u p → ⊥
@@ -21,10 +19,7 @@ not_before u p q h f g =
     no_value _ f.here (rw (get_or-take q u p 0 h) at (All-get_or IsDigit (take q u) p 0 len g.before))
 
 pub FirstBad-same : (u : List ℕ) (p q : ℕ) → FirstBad u p → FirstBad u q → p ≡ q
-FirstBad-same u p q f g =
-    let below = λ (h : p < q). not_before u p q h f g in
-    let above = λ (h : q < p). not_before u q p h g f in
-    omega (arith, below, above)
+FirstBad-same u p q f g = grind (arith, not_before)
 
 -- an invalid character after k digits
 pub FirstBad-after : (k : ℕ) (u : List ℕ) (p : ℕ) → AllDigits (take k u) → k ≤ length u → FirstBad (drop k u) p
@@ -65,3 +60,44 @@ Spells-some (c ∷ d ∷ u) e a =
     let low = digit_found d _ refl (All-head IsDigit d u rest) in
     let more = Spells-some u (omega arith) (All-tail IsDigit d u rest) in
     (_ ∷ more.0, (IsPair-of c d _ _ _ high low refl, more.1))
+
+-- ---- what an output holds after a text was rejected
+
+-- nothing was decoded
+pub none_decoded : (old u : List ℕ) → (AllDigits u → ⊥) → Partial old u old
+none_decoded old u n =
+    let r = first_bad u n in
+    record { bad = r.0; done = 0; first_bad = r.1; not_past = omega arith; same_length = refl; front = tt; rest = refl }
+
+-- a text that is rejected after k bytes were decoded
+pub Partial-after : (old u new : List ℕ) (k m : ℕ) → m ≡ 2 * k → m ≤ length u → length new ≡ length old → k ≤ length new
+    → Spells (take m u) (take k new) → Partial (drop k old) (drop m u) (drop k new) → Partial old u new
+Partial-after old u new k m e h l b s p =
+    record {
+      bad = m + p.bad;
+      done = k + p.done;
+      first_bad = FirstBad-after m u p.bad (Spells-digits _ _ s) h p.first_bad;
+      not_past = omega arith;
+      same_length = l;
+      front =
+          let q : 2 * (k + p.done) ≡ m + 2 * p.done = omega arith in
+          rw (q, take-add m (2 * p.done) u, take-add k p.done new) (Spells-append _ _ _ _ s p.front);
+      rest = sym (drop-drop p.done k new) ∙ p.rest ∙ drop-drop p.done k old;
+    }
+
+-- two bytes, after i pairs, whose values, or NIL, have a bit that no value has
+pub refused_joint : (old u new : List ℕ) (i high low : ℕ) → Spells (take (2 * i) u) (take i new)
+    → drop i new ≡ drop i old → 2 * i + 1 < length u
+    → length new ≡ length old → high ≡ value_or_nil (hex_value (get_or u (2 * i) 0))
+    → low ≡ value_or_nil (hex_value (get_or u (2 * i + 1) 0))
+    → 16 ≤ bit_or high low → Partial old u new
+refused_joint old u new i high low s d h l e f large =
+    let within : i ≤ length new =
+    omega (arith, Spells-length _ _ s, length-take (2 * i) u, length-take i new) in
+    let not_digits : AllDigits (drop (2 * i) u) → ⊥ = λ a.
+    let here = (digits_parts (2 * i) u).1 (Spells-digits _ _ s, a) in
+    let first = digit_small (get_or u (2 * i) 0) high e (All-get_or IsDigit u (2 * i) 0 (omega arith) here) in
+    let second = digit_small (get_or u (2 * i + 1) 0) low f (All-get_or IsDigit u (2 * i + 1) 0 h here) in
+    omega (arith, or_lt 4 high low first second) in
+    Partial-after old u new i (2 * i) refl (omega arith) l within s
+    (rw d (none_decoded (drop i old) (drop (2 * i) u) not_digits))

@@ -1,10 +1,9 @@
 -- Digits in a vector: their values and the test of each lane by one look-up, and the test of all lanes. The numbers
 -- are those of lanes16.rt and lanes.rt, which docs/DESIGN.md explains under "Checking and decoding one vector": adding
 -- 208 subtracts `0`, 143 (0x8F) is the part of a byte that looks up its limit, and 216 (0xD8) are the bits of a mark.
-use Rattle.std.proofs.Common.{◌≡◌, ℕ, zero, suc, ◌+◌, ◌-◌, ◌*◌, ◌/◌, ◌%◌, ◌<◌, ◌≤◌, ◌↔◌, Bool, true, eqb, cond, ltb, ltb→lt, ◌||◌, T, List, [], ◌∷◌, ◌++◌, length, replicate, get_or, bit_and, bit_or, refl, subst, arith, w8, Fits, IsTrue, Some}
+use Rattle.std.proofs.Common.{◌≡◌, ℕ, zero, suc, ◌+◌, ◌-◌, ◌*◌, ◌/◌, ◌%◌, ◌<◌, ◌≤◌, ◌↔◌, Bool, true, eqb, cond, ltb, ltb→lt, ◌||◌, T, List, [], ◌∷◌, ◌++◌, length, replicate, get_or, bit_and, bit_or, refl, subst, arith, w8, Fits, IsTrue, Some, is_some}
 use Rattle.std.specs.List.{AllZip}
 use Rattle.std.specs.Int.{bit_at}
-use Rattle.std.specs.Option.{is_some}
 use Rattle.std.proofs.lemmas.Bool.{agree_below, agree_below_at}
 use Rattle.std.proofs.lemmas.Bool.Decides.{nat_tests}
 use Rattle.std.proofs.lemmas.List.Elements.{All-nil, All-head, All-tail, All-cons}
@@ -13,11 +12,10 @@ use Rattle.std.proofs.lemmas.Nat.Bits.{bit_at_or}
 use Rattle.std.proofs.lemmas.Simd.{swz_l}
 use lib.Lanes.{zip2, fold_l, Each1, number_l, digits_l}
 use mir.Val.{zeroes}
-use Rattle.const_hex_arch.specs.Texts.{hex_value, IsDigit, AllDigits}
-use Rattle.const_hex_arch.specs.Lanes.{IsUnmarked, AllUnmarked, IsValueOf, IsPartOf, IsLimitOf}
-use Rattle.const_hex_arch.proofs.lemmas.Tables.{holds_below, every_below}
+use Rattle.const_hex_arch.specs.{hex_value, IsDigit, AllDigits, IsUnmarked, AllUnmarked, IsValueOf, IsPartOf, IsLimitOf}
+use Rattle.const_hex_arch.proofs.lemmas.Standard.{holds_below, every_below}
 use Rattle.const_hex_arch.proofs.lemmas.LaneValues.{same_value, is_none, same_if_some, sub8, min_l}
-use Rattle.const_hex_arch.proofs.lemmas.DigitTexts.{digits_append}
+use Rattle.const_hex_arch.proofs.lemmas.Digits.{digits_append}
 
 -- the bits that mark a lane
 abbrev mark_bits : ℕ → ℕ
@@ -174,5 +172,4 @@ unmarked_numbers a _ _ e f = absurd (omega arith)
 pub are_unmarked : (n : ℕ) (xs : List ℕ) → (length xs ≡ 8 * n) × Each1 (Fits w8) xs
     → IsTrue (eqb (fold_l bit_or 0 (digits_l 18446744073709551616 n (number_l 256 (zip2 bit_and xs (replicate (8 * n) 216))))) 0)
     ↔ AllUnmarked xs
-are_unmarked n xs f =
-    rw (← f.0) (grind (arith, nat_tests, unmarked_numbers 0 n xs f.0 f.1))
+are_unmarked n xs f = rw (← f.0) (grind (arith, nat_tests, unmarked_numbers 0 n xs f.0 f.1))

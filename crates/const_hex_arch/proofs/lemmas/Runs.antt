@@ -1,11 +1,9 @@
 -- Runs of steps over pieces, and the space that they leave.
-use Rattle.std.proofs.Common.{◌≡◌, ℕ, ◌+◌, ◌≤◌, ◌<◌, List, [], ◌∷◌, ◌++◌, length, length-append, refl, sym, ap, subst, arith, inl}
-use Rattle.std.specs.Prelude.{Option}
+use Rattle.std.proofs.Common.{◌≡◌, ℕ, ◌+◌, ◌≤◌, ◌<◌, List, [], ◌∷◌, ◌++◌, length, length-append, refl, sym, ap, subst, arith, inl, Option, append-nil}
 use Rattle.std.specs.List.{All, FoldsTo, concat}
-use Rattle.std.proofs.lemmas.List.{append-nil}
 use Rattle.std.proofs.lemmas.List.Elements.{All-nil, All-cons, All-append}
 use Rattle.std.proofs.lemmas.List.Folds.{concat-append}
-use Rattle.const_hex_arch.specs.Outputs.{Gathers, piece_of, HasSpace, less_space, IsKernelPiece, ArePieces, Writes, WritesPieces, piece_size}
+use Rattle.const_hex_arch.specs.{Gathers, piece_of, HasSpace, less_space, IsKernelPiece, ArePieces, Writes, WritesPieces, piece_size}
 pub use Rattle.const_hex_arch.specs.Laws.{less_space-add, run_shrinks}
 
 -- what is left of the space after m bytes

@@ -1,17 +1,15 @@
 -- Texts that are worked through in steps, and the remainder by another call.
-use Rattle.std.proofs.Common.{◌≡◌, ℕ, ◌+◌, ◌-◌, ◌*◌, ◌<◌, ◌≤◌, ◌↔◌, List, [], ◌∷◌, ◌++◌, length, take, drop, slice_index, slice_index_or, refl, ap, ◌∙◌, arith, take-add, take-append-drop, drop-drop, length-take, length-append, Option}
-use Rattle.std.specs.Str.{IsAscii}
+use Rattle.std.proofs.Common.{◌≡◌, ℕ, ◌+◌, ◌-◌, ◌*◌, ◌<◌, ◌≤◌, ◌↔◌, List, [], ◌∷◌, ◌++◌, length, take, drop, slice_index, slice_index_or, refl, ap, ◌∙◌, arith, take-add, take-append-drop, drop-drop, length-take, length-append, Option, IsAscii}
 use Rattle.std.proofs.lemmas.Grind.{common_steps}
 use Rattle.std.proofs.lemmas.List.{append-nil, take_at, drop_at, take_rest}
 use Rattle.std.proofs.lemmas.List.Elements.{All-take, All-drop}
 use Rattle.std.proofs.lemmas.Slice.{take-put_mid, drop-put_mid}
 use borrow.Rule.Slice.PartMut.{put_mid}
-use Rattle.const_hex_arch.specs.Texts.{IsDigit, AllDigits, Spells, Partial}
-use Rattle.const_hex_arch.specs.Outputs.{HasSpace, less_space, WritesPieces}
+use Rattle.const_hex_arch.specs.{IsDigit, AllDigits, Spells, Partial, HasSpace, less_space, WritesPieces}
 use Rattle.const_hex_arch.proofs.lemmas.Runs.{HasSpace-less, one_piece}
-use Rattle.const_hex_arch.proofs.lemmas.DigitTexts.{digits_append, digits_parts}
-use Rattle.const_hex_arch.proofs.lemmas.LeftOutputs.{none_decoded, Partial-after}
-use Rattle.const_hex_arch.proofs.lemmas.Spelling.{Spells-append, Spells-parts, Spells-digits}
+use Rattle.const_hex_arch.proofs.lemmas.Digits.{digits_append, digits_parts}
+use Rattle.const_hex_arch.proofs.lemmas.FirstInvalid.{none_decoded, Partial-after}
+use Rattle.const_hex_arch.proofs.lemmas.Texts.{Spells-append, Spells-parts, Spells-digits}
 
 pub parts : (n : ℕ) {u front back : List ℕ} → front ≡ take n u → back ≡ drop n u → front ++ back ≡ u
 parts n {u} f b = rw (f, b) (take-append-drop n u)

@@ -1,14 +1,11 @@
 -- From writes in small pieces to the calls of a sink.
-use Rattle.std.proofs.Common.{◌≡◌, ℕ, suc, ◌+◌, ◌*◌, ◌/◌, ◌<◌, ◌≤◌, Bool, true, false, not, List, [], ◌∷◌, ◌++◌, length, take, refl, sym, ap, ◌∙◌, arith, inl, inr, length-append}
-use Rattle.std.specs.Prelude.{Option, ◌-◌, if◌then◌else◌}
+use Rattle.std.proofs.Common.{◌≡◌, ℕ, suc, ◌+◌, ◌*◌, ◌/◌, ◌<◌, ◌≤◌, Bool, true, false, not, List, [], ◌∷◌, ◌++◌, length, take, refl, sym, ap, ◌∙◌, arith, inl, inr, length-append, Option, ◌-◌, if◌then◌else◌, le-div_iff_mul-le}
 use Rattle.std.specs.List.{FoldsTo, concat, All}
 use Rattle.std.proofs.lemmas.Bool.{cases_Bool}
-use Rattle.std.proofs.Math.Nat.{le-div_iff_mul-le}
 use Rattle.std.proofs.lemmas.List.{append-nil, append_assoc, take_all, take-append-le}
 use Rattle.std.proofs.lemmas.List.Elements.{All-nil, All-cons, All-head, All-tail, All-append, All-take, All-weaker}
 use Rattle.std.proofs.lemmas.List.Folds.{concat-append}
-use Rattle.const_hex_arch.specs.Outputs.{Writes, IsKernelPiece, Gathers, piece_of, FlushesPending}
-use Rattle.const_hex_arch.specs.Sinks.{SinkStep, output_sink, sink_name, reported_after, IsCallPiece, IsLargePiece, Cut, Offers, Streams, StreamsWhole}
+use Rattle.const_hex_arch.specs.{Writes, IsKernelPiece, Gathers, piece_of, FlushesPending, SinkStep, output_sink, sink_name, reported_after, IsCallPiece, IsLargePiece, Cut, Offers, Streams, StreamsWhole}
 use Rattle.const_hex_arch.specs.declared.sink.output.SinkOutput.{SinkOutput}
 use Rattle.const_hex_arch.proofs.lemmas.Runs.{run_append, concat-piece_of}
 
@@ -243,3 +240,5 @@ pub Streams-at : {S : Type 0} (step : S → List ℕ → S → Type 0) (is_refus
     (new : S)
     → Streams step is_refused old text new → (end : S) → end ≡ new → Streams step is_refused old text end
 Streams-at step is_refused old text new h end e = rw e h
+
+pub ruleset wholes = (StreamsWhole-of, Streams-none, Streams-one)

@@ -2,8 +2,7 @@
 
 ghost use Rattle.std.specs.Prelude.{◌≡◌, ◌↔◌, [], ◌∷◌, ◌*◌, ◌<◌, ◌++◌, length, map, IsTrue, false};
 ghost use Rattle.std.specs.List.{AllZip, concat};
-ghost use Rattle.const_hex_arch.specs.Texts.{hex_text};
-ghost use Rattle.const_hex_arch.specs.Lanes.{AllNibbles, AllUnmarked, byte_pairs, IsLimitOf};
+ghost use Rattle.const_hex_arch.specs.{hex_text, AllNibbles, AllUnmarked, byte_pairs, IsLimitOf};
 
 use crate::arch::lanes::LaneOps;
 use crate::arch::lanes16::{self, Lanes16};

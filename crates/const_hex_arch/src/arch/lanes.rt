@@ -4,8 +4,7 @@
 
 ghost use Rattle.std.specs.Prelude.{◌≡◌, ◌*◌, ◌++◌, ◌≤◌, ◌↔◌, [], ◌∷◌, length, map, IsTrue};
 ghost use Rattle.std.specs.List.{AllZip, concat};
-ghost use Rattle.const_hex_arch.specs.Texts.{hex_value, hex_text, AllDigits, Spells};
-ghost use Rattle.const_hex_arch.specs.Lanes.{AllNibbles, AllUnmarked, byte_pairs, as_value, IsValueOf, IsPartOf, IsLimitOf};
+ghost use Rattle.const_hex_arch.specs.{hex_value, hex_text, AllDigits, Spells, AllNibbles, AllUnmarked, byte_pairs, as_value, IsValueOf, IsPartOf, IsLimitOf};
 
 use std::simd::prelude::*;
 
@@ -108,7 +107,7 @@ pub(crate) fn joint_marks<const N: usize, V: LaneOps<N>>(
 /// Decodes two vectors of digits to one vector of bytes. If some lane is not a digit, the result is
 /// unspecified: test the marks before you use it.
 #[inline(always)]
-#[tactic(auto, using(crate::proofs::lemmas::LaneMarks::values_of_parts, crate::proofs::lemmas::LaneBytes::merge_spells))]
+#[tactic(auto, using(crate::proofs::lemmas::LaneMarks::values_of_parts, crate::proofs::lemmas::LaneValues::merge_spells))]
 pub(crate) fn decode<const N: usize, V: LaneOps<N>>(
     first: Simd<u8, N>,
     second: Simd<u8, N>,
@@ -121,7 +120,7 @@ pub(crate) fn decode<const N: usize, V: LaneOps<N>>(
 
 /// As [`decode`], by [`unhex`], for lanes that were tested before.
 #[inline(always)]
-#[tactic(auto, using(crate::proofs::lemmas::LaneBytes::merge_spells))]
+#[tactic(auto, using(crate::proofs::lemmas::LaneValues::merge_spells))]
 pub(crate) fn decode_digits<const N: usize, V: LaneOps<N>>(
     first: Simd<u8, N>,
     second: Simd<u8, N>,

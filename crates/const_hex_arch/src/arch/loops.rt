@@ -6,7 +6,7 @@
 //! steps differ from those of const-hex is in docs/DECISIONS.md.
 
 ghost use Rattle.std.specs.Prelude.{◌≡◌, ◌*◌, ◌≤◌, ◌↔◌, IsTrue, false, length};
-ghost use Rattle.const_hex_arch.specs.Texts.{hex_text, AllDigits, Spells, Partial};
+ghost use Rattle.const_hex_arch.specs.{hex_text, AllDigits, Spells, Partial};
 
 use crate::arch::lanes::LaneOps;
 use crate::arch::{lanes16, small_input, steps};

@@ -38,6 +38,7 @@ impl<const PAIRS: bool> Kernel for ByteByByte<PAIRS> {
     const PIECE: usize = 1;
 
     #[inline(always)]
+    #[tactic(auto, using(crate::proofs::lemmas::Ends::fills))]
     fn fill(input: &[u8], upper: bool, output: &mut [u8]) {
         for i in 0..input.len() {
             output[2 * i..2 * i + 2].copy_from_slice(&digits_at::<PAIRS>(upper, input[i]));
@@ -45,7 +46,7 @@ impl<const PAIRS: bool> Kernel for ByteByByte<PAIRS> {
     }
 
     #[inline(always)]
-    #[tactic(auto, using(std::proofs::lemmas::List::take_all))]
+    #[tactic(auto, using(std::proofs::lemmas::List::take_all, crate::proofs::lemmas::Digits::digits_more))]
     fn check(input: &[u8]) -> bool {
         for b in input {
             if value_at(*b) == NIL {
@@ -56,6 +57,7 @@ impl<const PAIRS: bool> Kernel for ByteByByte<PAIRS> {
     }
 
     #[inline(always)]
+    #[tactic(auto, using(std::proofs::lemmas::Grind::common_steps, std::proofs::lemmas::List::take_all, std::proofs::lemmas::Nat::le_or_l, std::proofs::lemmas::Nat::le_or_r, crate::proofs::lemmas::FirstInvalid::refused_joint, crate::proofs::lemmas::Texts::pair_more))]
     fn decode_checked(input: &[u8], output: &mut [u8]) -> bool {
         // By this length, which cannot overflow, LLVM needs no test of an index in Rust.
         let text = &input[..output.len().saturating_mul(2)];
@@ -72,6 +74,7 @@ impl<const PAIRS: bool> Kernel for ByteByByte<PAIRS> {
     }
 
     #[inline(always)]
+    #[tactic(auto, using(crate::proofs::lemmas::Digits::digit_values, crate::proofs::lemmas::Texts::pair_more))]
     fn decode_unchecked(input: &[u8], output: &mut [u8]) {
         for i in 0..output.len() {
             output[i] = value_at(input[2 * i]) * 16 + value_at(input[2 * i + 1]);

@@ -1,7 +1,7 @@
 //! Encodes, checks and decodes a short input, by its first and its last bytes at once.
 
 ghost use Rattle.std.specs.Prelude.{◌≡◌, [], ◌∷◌, ◌+◌, ◌*◌, ◌<◌, ◌≤◌, ◌++◌, ◌↔◌, length, take, IsTrue, false};
-ghost use Rattle.const_hex_arch.specs.Texts.{AllDigits, Spells, Partial, hex_text};
+ghost use Rattle.const_hex_arch.specs.{AllDigits, Spells, Partial, hex_text};
 
 use crate::arch::lanes::LaneOps;
 use crate::arch::lanes16::Lanes16;

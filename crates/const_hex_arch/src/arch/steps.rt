@@ -3,8 +3,7 @@
 //! `V` has the `N` lanes of a step.
 
 ghost use Rattle.std.specs.Prelude.{◌≡◌, ◌-◌, ◌*◌, ◌≤◌, ◌++◌, ◌↔◌, IsTrue, false, length, take, drop};
-ghost use Rattle.const_hex_arch.specs.Texts.{IsDigit, hex_text, AllDigits, Spells};
-ghost use Rattle.const_hex_arch.specs.Lanes.{AllUnmarked};
+ghost use Rattle.const_hex_arch.specs.{IsDigit, hex_text, AllDigits, Spells, AllUnmarked};
 
 use crate::arch::lanes::{self, LaneOps};
 use std::simd::prelude::*;
@@ -27,6 +26,7 @@ pub(crate) fn fill_step<const N: usize, V: LaneOps<N>>(
 
 /// As `fill_step`, for the bytes of two steps.
 #[inline(always)]
+#[tactic(auto, using(crate::proofs::lemmas::Steps::parts, crate::proofs::lemmas::Texts::texts))]
 pub(crate) fn fill_two_steps<const N: usize, V: LaneOps<N>>(
     bytes: &[u8],
     upper: bool,
@@ -104,7 +104,7 @@ pub(crate) fn check_four_steps<const N: usize, V: LaneOps<N>>(text: &[u8]) -> bo
 
 /// Joined marks of the text of two steps. They are clear if and only if each byte is a digit.
 #[inline(always)]
-#[tactic(auto, using(crate::proofs::lemmas::LaneBytes::in_two))]
+#[tactic(auto, using(crate::proofs::lemmas::LaneValues::in_two))]
 fn marks_of_two_steps<const N: usize, V: LaneOps<N>>(text: &[u8]) -> Simd<u8, N>
     requires { length text.now ≡ 2 * N }
     ensures { AllUnmarked result ↔ AllDigits text.now }
@@ -136,7 +136,7 @@ pub(crate) fn decode_step<const N: usize, V: LaneOps<N>>(
 
 /// As `decode_step`, for the text of two steps, by one test.
 #[inline(always)]
-#[tactic(auto, using(crate::proofs::lemmas::Spelling::spelled, crate::proofs::lemmas::Steps::parts, std::proofs::lemmas::Simd::put_chunk_whole))]
+#[tactic(auto, using(crate::proofs::lemmas::Texts::spelled, crate::proofs::lemmas::Steps::parts, std::proofs::lemmas::Simd::put_chunk_whole))]
 pub(crate) fn decode_two_steps<const N: usize, V: LaneOps<N>>(
     text: &[u8],
     second_row: bool,
@@ -163,7 +163,7 @@ pub(crate) fn decode_two_steps<const N: usize, V: LaneOps<N>>(
 /// Decodes the digits of a step.
 // The test has already computed these values for the marks. The compiler merges both computations.
 #[inline(always)]
-#[tactic(auto, using(crate::proofs::lemmas::LaneBytes::in_two))]
+#[tactic(auto, using(crate::proofs::lemmas::LaneValues::in_two))]
 fn decode_vector<const N: usize, V: LaneOps<N>>(text: &[u8], second_row: bool) -> Simd<u8, N>
     requires text { length text.now ≡ 2 * N }
     requires digits { AllDigits text.now }
@@ -178,7 +178,7 @@ fn decode_vector<const N: usize, V: LaneOps<N>>(text: &[u8], second_row: bool) -
 
 /// Decodes the digits of a step into the output.
 #[inline(always)]
-#[tactic(auto, using(crate::proofs::lemmas::LaneBytes::in_two, std::proofs::lemmas::Simd::put_chunk_whole))]
+#[tactic(auto, using(crate::proofs::lemmas::LaneValues::in_two, std::proofs::lemmas::Simd::put_chunk_whole))]
 pub(crate) fn decode_digits_step<const N: usize, V: LaneOps<N>>(
     text: &[u8],
     second_row: bool,

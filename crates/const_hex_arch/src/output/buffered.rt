@@ -1,9 +1,8 @@
 //! An output that gathers small pieces into large ones.
 
-ghost use Rattle.std.specs.Prelude.{◌≡◌, ℕ, ◌+◌, ◌<◌, ◌≤◌, List, [], ◌++◌, length, take};
+ghost use Rattle.std.specs.Prelude.{◌≡◌, ℕ, ◌+◌, ◌<◌, ◌≤◌, List, [], ◌++◌, length, take, IsAscii};
 ghost use Rattle.std.specs.List.{FoldsTo};
-ghost use Rattle.std.specs.Str.{IsAscii};
-ghost use Rattle.const_hex_arch.specs.Outputs.{HasSpace, less_space, Gathers, piece_of};
+ghost use Rattle.const_hex_arch.specs.{HasSpace, less_space, Gathers, piece_of};
 
 use crate::output::Output;
 use std::marker::Model;
@@ -165,7 +164,7 @@ impl<O: Output, const N: usize> Output for BufferedOutput<O, N> {
         self.keep(&[byte]);
     }
 
-    ghost use Rattle.const_hex_arch.specs.Laws.{Gathers_space};
+    ghost use Rattle.const_hex_arch.specs.{Gathers_space};
 
     ghost shrinks = { λ s piece t h.
         Gathers_space O.step O.space O.shrinks N s.0 s.1 piece t.0 t.1 h };

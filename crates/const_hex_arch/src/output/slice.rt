@@ -1,7 +1,7 @@
 //! An output into a slice.
 
 ghost use Rattle.std.specs.Prelude.{◌≡◌, ◌-◌, length, Some};
-ghost use Rattle.const_hex_arch.specs.Outputs.{SliceStep, slice_bytes, slice_written, slice_name};
+ghost use Rattle.const_hex_arch.specs.{SliceStep, slice_bytes, slice_written, slice_name};
 
 use crate::output::Output;
 

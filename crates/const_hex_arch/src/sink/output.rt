@@ -1,7 +1,7 @@
 //! An output over a sink.
 
 ghost use Rattle.std.specs.Prelude.{◌≡◌, false, not, is_ok, None};
-ghost use Rattle.const_hex_arch.specs.Sinks.{SinkStep, output_sink, sink_name};
+ghost use Rattle.const_hex_arch.specs.{SinkStep, output_sink, sink_name};
 
 use crate::output::Output;
 use crate::sink::{Sink, SinkError, fail_if_refused};

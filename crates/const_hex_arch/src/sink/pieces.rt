@@ -1,7 +1,7 @@
 //! A sink that keeps its pieces.
 
 ghost use Rattle.std.specs.Prelude.{◌≡◌, ◌≢◌, ◌+◌, ◌↔◌, [], ◌∷◌, ◌++◌, true, false, map, string_bytes, IsTrue, OnOk, OnErr, Some};
-ghost use Rattle.const_hex_arch.specs.Sinks.{PieceState, PieceStep, count_of_calls};
+ghost use Rattle.const_hex_arch.specs.{PieceState, PieceStep, count_of_calls};
 
 use crate::sink::{Sink, SinkError};
 use std::alloc::{AllocError, Global};
@@ -28,7 +28,7 @@ pub struct PieceSink {
 
 impl Model for PieceSink {
     ghost use Rattle.std.specs.Prelude.{map, string_bytes};
-    ghost use Rattle.const_hex_arch.specs.Sinks.{PieceState};
+    ghost use Rattle.const_hex_arch.specs.{PieceState};
 
     ghost Value = { PieceState };
 
@@ -129,7 +129,7 @@ impl Sink for PieceSink {
         Ok(())
     }
 
-    ghost use Rattle.const_hex_arch.specs.Laws.{PieceStep-reports};
+    ghost use Rattle.const_hex_arch.specs.{PieceStep-reports};
 
     ghost reports = { PieceStep-reports };
 }

@@ -1,6 +1,5 @@
 -- A message in a buffer that has space for it.
-use Rattle.std.proofs.Common.{◌≡◌, ◌∙◌, ap, ℕ, ◌-◌, ◌<◌, List, length, take, min, arith}
-use Rattle.std.proofs.lemmas.List.{take_all}
+use Rattle.std.proofs.Common.{◌≡◌, ◌∙◌, ap, ℕ, ◌-◌, ◌<◌, List, length, take, min, arith, take_all}
 use Rattle.const_hex_c.specs.Errors.{message_of_struct}
 use Rattle.const_hex_c.specs.declared.error.HexError.{HexError}
 

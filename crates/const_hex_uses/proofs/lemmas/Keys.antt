@@ -1,7 +1,6 @@
 -- What an error leaves of a key.
 use Rattle.std.proofs.Common.{◌≡◌, ℕ, ◌*◌, List, drop, take}
-use Rattle.const_hex.specs.Results.{LeavesOutput, body_of}
-use Rattle.const_hex.specs.Texts.{Spells}
+use Rattle.const_hex.specs.Prelude.{LeavesOutput, body_of, Spells}
 use Rattle.const_hex.specs.declared.error.FromHexError.{FromHexError}
 use Rattle.const_hex.specs.declared.error.FromHexError.TheVariants.{OddLength, InvalidStringLength, InvalidHexCharacter, NoMemory}
 

@@ -1,8 +1,7 @@
 -- The pieces that a sink reports.
 use Rattle.std.proofs.Common.{◌≡◌, ◌∙◌, refl, ap, Bool, true, false, not, true≢false, List, ℕ, ◌++◌, Option, Some, Result, Ok, Err, is_ok, OnOk}
 use Rattle.std.specs.List.{concat}
-use Rattle.const_hex_arch.specs.Sinks.{reported_after}
-use Rattle.const_hex.specs.Writers.{ReportsWhole}
+use Rattle.const_hex.specs.Prelude.{reported_after, ReportsWhole}
 
 -- the new ones are together the text
 pub reported_text : {E : Type 0} (r : Result Unit E) (refused : Bool) (reported : List (List ℕ))

@@ -1,9 +1,8 @@
 -- Steps of the loop that reads chunks.
 use borrow.Rule.Slice.PartMut.{put_mid, post_of}
-use Rattle.std.proofs.Common.{◌≡◌, ℕ, ◌+◌, ◌-◌, ◌≤◌, List, ◌++◌, length, take, drop, Option, ap, ◌∙◌, append_assoc}
+use Rattle.std.proofs.Common.{◌≡◌, ℕ, ◌+◌, ◌-◌, ◌≤◌, List, ◌++◌, length, take, drop, Option, ap, ◌∙◌, append_assoc, length-take-le, take-take}
 use Rattle.std.proofs.KnownBytes.{Consumes-trans}
-use Rattle.std.proofs.Math.Seq.{take-append-add}
-use Rattle.std.proofs.lemmas.List.{take-append-le, length-take-le, take-take}
+use Rattle.std.proofs.Math.Seq.{take-append-add, take-append-le}
 use Rattle.std.specs.Io.KnownBytes.{Consumes}
 
 take_two : (front chunk rest : List ℕ) (n : ℕ) → n ≤ length chunk

@@ -1,6 +1,6 @@
 -- What the modes that read a text say of it.
 use Rattle.std.proofs.Common.{◌≡◌, ◌≢◌, ◌≤◌, ◌⊎◌, ℕ, List, length, Result, Ok, Err, IfOk, IfErr, arith}
-use Rattle.const_hex.specs.Results.{IsOdd, Reads}
+use Rattle.const_hex.specs.Prelude.{IsOdd, Reads}
 use Rattle.const_hex.specs.declared.error.FromHexError.{FromHexError}
 use Rattle.const_hex.specs.declared.error.FromHexError.TheVariants.{OddLength}
 use Rattle.consthex.specs.Program.{Answer, Fails, TakesMemory, limit, without_newline}

@@ -1,9 +1,8 @@
 -- What an exit status says of an error.
-use Rattle.std.proofs.Common.{◌≡◌, ◌≢◌, ℕ, List, Result, Ok, Err, OnErr, arith}
-use Rattle.std.specs.Prelude.{Option}
+use Rattle.std.proofs.Common.{◌≡◌, ◌≢◌, ℕ, List, Result, Ok, Err, OnErr, arith, Option}
 use Rattle.std.specs.Io.KnownBytes.{Keeps}
 use Rattle.const_hex.specs.declared.error.FromHexError.{FromHexError}
-use Rattle.const_hex.specs.Writers.{WritesBeginning}
+use Rattle.const_hex.specs.Prelude.{WritesBeginning}
 use Rattle.consthex.specs.Program.{status_of, Answers, Ends}
 use Rattle.consthex.specs.declared.mode.Mode.{Mode}
 use Rattle.consthex.specs.declared.error.RunError.{RunError}

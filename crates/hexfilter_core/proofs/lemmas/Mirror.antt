@@ -1,15 +1,12 @@
 -- What was encoded is decoded again.
-use Rattle.std.proofs.Common.{◌≡◌, ◌≢◌, ℕ, ◌+◌, ◌<◌, ◌≤◌, ◌==◌, ◌&&◌, ◌||◌, Bool, true, false, if◌then◌else◌, List, [], ◌∷◌, ◌++◌, length, min, Option, Some, Result, Ok, refl, sym, ap, ◌∙◌, arith, append_assoc, append-nil}
+use Rattle.std.proofs.Common.{◌≡◌, ◌≢◌, ℕ, ◌+◌, ◌<◌, ◌≤◌, ◌==◌, ◌&&◌, ◌||◌, Bool, true, false, if◌then◌else◌, List, [], ◌∷◌, ◌++◌, length, min, Option, Some, Result, Ok, refl, sym, ap, ◌∙◌, arith, append_assoc, append-nil, All}
 use Rattle.std.proofs.lemmas.Bool.Decides.{nat_tests}
 use Rattle.std.proofs.lemmas.List.Elements.{All-cons, All-head, All-nil, All-tail, All-weaker}
-use Rattle.std.specs.List.{All}
 use Rattle.const_hex.proofs.lemmas.Reading.{one_answer}
 use Rattle.const_hex.proofs.lemmas.RoundTrip.{Reads-full_text}
-use Rattle.const_hex.specs.Results.{AreBytes, IsEven, Reads, body_of}
-use Rattle.const_hex.specs.Texts.{AllDigits, IsDigit, full_text, hex_text, prefix_of}
-use Rattle.const_hex_arch.proofs.lemmas.DigitTexts.{digits_append}
-use Rattle.const_hex_arch.proofs.lemmas.Spelling.{Spells-digits}
-use Rattle.const_hex_arch.proofs.lemmas.Texts.{Spells-hex_text}
+use Rattle.const_hex.specs.Prelude.{AreBytes, IsEven, Reads, body_of, AllDigits, IsDigit, full_text, hex_text, prefix_of}
+use Rattle.const_hex_arch.proofs.lemmas.Digits.{digits_append}
+use Rattle.const_hex_arch.proofs.lemmas.Texts.{Spells-digits, Spells-hex_text}
 use Rattle.hexfilter_core.specs.Dumps.{FromHexError, Groups, HasError, IgnoresLines, InvalidHexCharacter, InvalidStringLength, NoMemory, OddLength, Place, Reading, encoded, groups_from, is_whitespace, mirror, text_from, text_of}
 use Rattle.hexfilter_core.specs.Runs.{Decode, FailsWith, Makes}
 use Rattle.hexfilter_core.proofs.lemmas.Texts.{body-longer, text-append}

@@ -1,7 +1,6 @@
 -- What errors and exit statuses say of decoders and runs.
-use Rattle.std.proofs.Common.{◌≡◌, ◌≢◌, ℕ, List, Option, Result, Ok, Err, refl, inl, inr, [], Bool, true, false, if◌then◌else◌, arith}
-use Rattle.std.specs.Prelude.{OnErr, IfErr, OnOk}
-use Rattle.const_hex.specs.Decoding.{ChecksOn, ReadsOn}
+use Rattle.std.proofs.Common.{◌≡◌, ◌≢◌, ℕ, List, Option, Result, Ok, Err, refl, inl, inr, [], Bool, true, false, if◌then◌else◌, arith, OnErr, IfErr, OnOk}
+use Rattle.const_hex.specs.Prelude.{ChecksOn, ReadsOn}
 use Rattle.hexfilter_core.specs.Dumps.{AllDigits, FromHexError, InvalidHexCharacter, InvalidStringLength, NoMemory, OddLength, body_of, Place, text_from}
 use Rattle.const_hex_arch.proofs.lemmas.FirstInvalid.{digits_no_bad}
 use Rattle.hexfilter_core.specs.Runs.{IsErrorOf, IsNotInterrupted, Mode, Read, RunError, Text, Write, Decode, Encode, Ends, EndsIf, IsFailedWrite, MakesBeginning, RunsPartly, RunsToEnd, RunsToError, status_of}

@@ -1,15 +1,13 @@
 -- The text of an input, part after part.
 use borrow.Rule.Slice.PartMut.{put_mid, post_of}
-use Rattle.std.proofs.Common.{◌≡◌, ◌≢◌, ℕ, ◌+◌, ◌-◌, ◌*◌, ◌/◌, ◌<◌, ◌≤◌, ◌&&◌, min, if◌then◌else◌, Bool, true, false, List, [], ◌∷◌, ◌++◌, Option, None, Some, Ok, suc, zero, length, take, drop, get_or, refl, sym, ap, ◌∙◌, arith, append_assoc, length-append}
+use Rattle.std.proofs.Common.{◌≡◌, ◌≢◌, ℕ, ◌+◌, ◌-◌, ◌*◌, ◌/◌, ◌<◌, ◌≤◌, ◌&&◌, min, if◌then◌else◌, Bool, true, false, List, [], ◌∷◌, ◌++◌, Option, None, Some, Ok, suc, zero, length, take, drop, get_or, refl, sym, ap, ◌∙◌, arith, append_assoc, length-append, All, nat_lt}
 use Rattle.std.proofs.Math.Seq.{take-add, take-append-add}
 use Rattle.std.proofs.lemmas.Bool.Decides.{nat_tests}
 use Rattle.std.proofs.lemmas.List.{append-nil, length-drop, length-take, length-take-le, take-append-drop, take-append-le, take-take, take_all, take_min, take_more}
 use Rattle.std.proofs.lemmas.List.Elements.{All-from_get_or, All-head, All-same, All-tail, All-take, All-weaker}
-use Rattle.std.specs.List.{All}
-use Rattle.std.specs.Prelude.{nat_lt}
 use Rattle.const_hex.proofs.lemmas.Decoding.{read_digits, read_front}
-use Rattle.const_hex.specs.Decoding.{HasRead, counted, waiting_digit}
-use Rattle.const_hex_arch.proofs.lemmas.Spelling.{Spells-length, Spells-parts}
+use Rattle.const_hex.specs.Prelude.{HasRead, counted, waiting_digit}
+use Rattle.const_hex_arch.proofs.lemmas.Texts.{Spells-length, Spells-parts}
 use Rattle.hexfilter_core.specs.Stages.{Decoder, HasAdded, HasDecoded, HasMade, HasScanned, HasWritten, Reaches, Scanner, Stage}
 use Rattle.hexfilter_core.specs.Dumps.{FromHexError, HasError, InvalidHexCharacter, InvalidStringLength, IsPlace, NoMemory, OddLength, Place, Reading, SpellsBeginning, SpellsPairs, body_of, encoded, is_whitespace, kept, leaves_out, next, next_from, text_from, text_of}
 use Rattle.hexfilter_core.specs.Runs.{Decode, Encode, Makes, MakesBeginning, Mode, Read, Reads, RunError, Text, Write}

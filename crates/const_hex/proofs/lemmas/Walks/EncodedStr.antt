@@ -1,11 +1,8 @@
 -- A function that fills a lent slice by one call if the text fits, and shares it with a second call,
 -- which returns it as text, or an error. One walk serves uppercase and lowercase.
-use Rattle.std.proofs.Common.{subst}
-use Rattle.std.specs.Str.{IsAscii}
-use Rattle.std.specs.Prelude.{◌≢◌}
+use Rattle.std.proofs.Common.{subst, IsAscii, ◌≢◌}
 use Rattle.std.proofs.result.Result.TheLaws.{the_row_laws as result_laws}
 use base.Fml.{Lft, Share}
-use base.Fraction.{full_share}
 use base.Logic.{ent, ex_i}
 use base.Stored.{coded_list}
 use Rattle.const_hex_arch.proofs.lemmas.Walks.LaneOptions.{◌≡◌, ℕ, ◌*◌, Bool, List, [], ◌∷◌, length, refl, ap, ◌∙◌, Bor, MutBor, ◌↔◌, IsOk, IfOk, Ok, Err, IfErr, MatchResult, Result, proved, sep, id⊢, emp, GName, ftrue, flft, fres, Fn, Callee, local, value_local, ty_ref, ty_int, imm, mut, erased, field, deref, place, copy, addr_of, aggregate, assign, call, seq, named, w8, Val, fact, fact_i, Running, tables, Meets, ‵, raw, ◌⊛◌, some, later, ◌$◌, ◌∵◌, !, qed, done, move, drop, use0, use1, use2, split, join, pick, await, rewrite, suffices, frame, group, enter, addr, stop, fld, hop, from, no_more, and_then, returns, agg, whole, sub, alloc_all, pass_all, free_all, look_at, look_in_at, get, get_in, sets, lands_as, u8, bool, SliceRefOf, yes, no, Is, shows, bool_vals, bool_Makes, nothing, owned, heard, peeks, only, calls_at, Clauses, closing, lasts, Lasts, triple_of, Stays, stay_dropped, Goes-dropped, Goes-spent_slice, ends_at, framed, Model, Closed, Ura, Logic, sem, plain}
@@ -24,12 +21,10 @@ use denote.Ref.{as_bor}
 use denote.Signature.{named_lft}
 use denote.Slice.{slice_ty, finally, MutSlice, ShrSlice, mut_slice_vals, mut_slice_Tells, shr_slice_vals, shr_slice_Tells, shr_slice_copy}
 use denote.Text.{str-field, str-laws, str-copy}
-use Rattle.std.specs.Borrow.{Array}
+use Rattle.std.specs.Borrow.{Array, full_share}
 use Rattle.std.specs.Io.BufRead.{Rests}
-use Rattle.const_hex_arch.specs.Texts.{hex_text}
-use Rattle.const_hex.specs.Buffers.{EndsEncoded}
+use Rattle.const_hex.specs.Prelude.{hex_text, EndsEncoded, InvalidStringLength}
 use Rattle.const_hex.specs.contracts.error.FromHexError as refusal
-use Rattle.const_hex.specs.declared.error.FromHexError.TheVariants.{InvalidStringLength}
 use Rattle.const_hex.specs.contracts.codec.encoders.encode_to_str as e
 use Rattle.const_hex.specs.contracts.codec.encoders.encode_into as g
 use Rattle.const_hex.specs.contracts.codec.encoders.encoded_text as h

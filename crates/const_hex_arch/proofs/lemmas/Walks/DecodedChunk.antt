@@ -1,6 +1,6 @@
 -- A function that makes an `Option` of a vector, from a call that returns the vector beside a flag: `decode_chunk` from
 -- `decode_flagged`, for any number of lanes. ../Walks.antt says what a walk is.
-use Rattle.const_hex_arch.specs.Texts.{AllDigits, Spells}
+use Rattle.const_hex_arch.specs.{AllDigits, Spells}
 use Rattle.const_hex_arch.proofs.lemmas.Walks.LaneOptions.{ℕ, List, [], ◌∷◌, Bool, refl, lit<, w8, IsTrue, ◌↔◌, proved, Some-of, none_of, concat, Some, None, ftrue, id⊢, emp, fact, fact_i, tables, Array-Tells, Array-Lawful, u8, yes, shows, uint_Makes, uint_Lawful, nothing, owned, facts, heard, only, as_fields, calls_at, lasts, triple_of, framed, Stays, walk_of, stay_dropped, Goes-dropped, ends_at, Simd-Lawful, Simd-Makes, ty_array, ty_int, ty_bool, vbool, of_list, alloc_all, pass_all, free_all, look_at, get, get_in, sets, sets_last, lands_as, env, ‵, raw, ◌⊛◌, some, later, at_ret, ◌$◌, ◌∵◌, !, qed, done, drop, use0, use1, split, join, pick, await, suffices, group, live, agg, whole, sub, enter, of_opd, lit, fld, stop, no_more, and_then, first, branches, exec, returns, and_true, NoneClause, SpellsClause, some_is, none_is, Lanes, Pair, pair_vals, lanes_vals, lanes_Tells, Flagged, flagged_is, flagged_lanes, Answer, sep, Ura, Fn, Body, Callee, local, value_local, field, place, copy, int, rv_opd, aggregate, assign, call, cond, seq, Running, Model, Closed, Logic, plain, Clauses, Ended, closing, Meets}
 use mir.Syntax.{return as end}
 use denote.Param.{layout}

@@ -35,10 +35,9 @@ pub use types.Logic.{Logic, sem}
 pub use types.Match.{live}
 pub use types.Part.{agg, whole, sub}
 pub use types.Run.{enter, of_opd, lit, fld, stop, no_more, and_then, first, branches, exec, returns, addr, un, hop, from, skips, returns_within}
-use Rattle.const_hex_arch.specs.Texts.{AllDigits, Spells}
-use Rattle.std.proofs.Common.{◌++◌, ◌&&◌, subst, arith}
+use Rattle.const_hex_arch.specs.{AllDigits, Spells}
+use Rattle.std.proofs.Common.{◌++◌, ◌&&◌, subst, arith, IsNone, IfSome}
 use Rattle.std.proofs.option.Option.TheLaws.{the_loose}
-use Rattle.std.specs.Prelude.{IsNone, IfSome}
 use denote.Array.{array_vals}
 use denote.Builtin.{Simd, SimdOf, ArrayOf}
 use denote.Enum.Loose.{loose_lawful}

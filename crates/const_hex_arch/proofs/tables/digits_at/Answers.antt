@@ -1,7 +1,7 @@
 use Rattle.std.proofs.Common.{◌≡◌, ℕ, ◌+◌, ◌*◌, ◌/◌, ◌%◌, ◌<◌, true, false, get_or, arith}
-use Rattle.const_hex_arch.specs.Texts.{hex_digit}
+use Rattle.const_hex_arch.specs.{hex_digit}
 use Rattle.const_hex_arch.specs.declared.tables.TheConstants.{PAIRS_LOWER, PAIRS_UPPER}
-use Rattle.const_hex_arch.proofs.lemmas.Tables.{same_below}
+use Rattle.const_hex_arch.proofs.lemmas.Standard.{same_below}
 use Rattle.const_hex_arch.proofs.tables.digits_at.Goals as goal
 
 lower_high : (b : ℕ) → b < 256 → get_or PAIRS_LOWER.now (2 * b) 0 ≡ hex_digit false (b / 16)

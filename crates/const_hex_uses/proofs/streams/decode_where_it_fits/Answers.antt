@@ -1,8 +1,5 @@
-use Rattle.std.proofs.Common.{◌≡◌, ◌↔◌, ◌/◌, ◌<◌, [], ℕ, List, Result, Ok, Err, length, refl, arith}
-use Rattle.std.specs.Prelude.{IfOk}
-use Rattle.const_hex.specs.Decoding.{ReadsOn}
-use Rattle.const_hex.specs.Results.{body_of}
-use Rattle.const_hex.specs.Texts.{AllDigits}
+use Rattle.std.proofs.Common.{◌≡◌, ◌↔◌, ◌/◌, ◌<◌, [], ℕ, List, Result, Ok, Err, length, refl, arith, IfOk}
+use Rattle.const_hex.specs.Prelude.{ReadsOn, body_of, AllDigits}
 use Rattle.const_hex.specs.declared.error.FromHexError.{FromHexError}
 use Rattle.const_hex.specs.declared.error.FromHexError.TheVariants.{OddLength, InvalidStringLength, InvalidHexCharacter, NoMemory}
 use Rattle.const_hex_uses.proofs.streams.decode_where_it_fits.Goals as goal

@@ -1,6 +1,5 @@
-use Rattle.std.proofs.Common.{arith}
+use Rattle.std.proofs.Common.{arith, take_all}
 use Rattle.std.proofs.KnownBytes.{Appends-kept}
-use Rattle.std.proofs.lemmas.List.{take_all}
 use Rattle.const_hex.proofs.lemmas.WriteSinks.{step_within, write_step}
 use Rattle.consthex.proofs.runs.write_all.Goals as goal
 

@@ -1,5 +1,4 @@
-use Rattle.std.proofs.Common.{◌≡◌, ◌∙◌, ◌+◌, ◌-◌, ◌++◌, take, drop, ap, arith}
-use Rattle.std.proofs.lemmas.List.{take-take}
+use Rattle.std.proofs.Common.{◌≡◌, ◌∙◌, ◌+◌, ◌-◌, ◌++◌, take, drop, ap, arith, take-take}
 use Rattle.hexfilter_core.proofs.lemmas.Groups.{goes_on, puts_more}
 use Rattle.hexfilter_core.proofs.lemmas.Texts.{take_put}
 use Rattle.hexfilter_core.proofs.groups.put_groups.Goals as goal

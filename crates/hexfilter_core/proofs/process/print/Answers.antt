@@ -1,6 +1,5 @@
-use Rattle.std.proofs.Common.{length, arith}
+use Rattle.std.proofs.Common.{length, arith, take_all}
 use Rattle.std.proofs.KnownBytes.{Appends-kept}
-use Rattle.std.proofs.lemmas.List.{take_all}
 use Rattle.hexfilter_core.proofs.lemmas.Runs.{failed}
 use Rattle.hexfilter_core.proofs.process.print.Goals as goal
 

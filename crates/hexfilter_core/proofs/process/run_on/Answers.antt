@@ -1,5 +1,4 @@
-use Rattle.std.proofs.Common.{◌≡◌, ◌∙◌, List, ℕ, Some, Option, true, false, refl, sym, ap}
-use Rattle.std.specs.Borrow.{Bor}
+use Rattle.std.proofs.Common.{◌≡◌, ◌∙◌, List, ℕ, Some, Option, true, false, refl, sym, ap, Bor}
 use Rattle.hexfilter_core.specs.Runs.{bytes_of}
 use Rattle.hexfilter_core.proofs.lemmas.Runs.{ends}
 use Rattle.hexfilter_core.proofs.process.run_on.Goals as goal

@@ -1,8 +1,7 @@
-use Rattle.std.proofs.Common.{◌≡◌, ◌<◌, ◌≤◌, ◌∙◌, length, take, false, ap, arith}
+use Rattle.std.proofs.Common.{◌≡◌, ◌<◌, ◌≤◌, ◌∙◌, length, take, false, ap, arith, nat_lt}
 use Rattle.std.proofs.lemmas.List.{get_or-take, length-take, length-take-le, take-append-le, take-take}
 use Rattle.std.proofs.lemmas.List.Elements.{All-from_get_or}
 use Rattle.std.proofs.lemmas.Simd.{put_chunk_is, run_in_chunk_fails, run_in_chunk_le}
-use Rattle.std.specs.Prelude.{nat_lt}
 use lib.Lanes.{chunk}
 use Rattle.hexfilter_core.proofs.scanner.copy_block.Goals as goal
 

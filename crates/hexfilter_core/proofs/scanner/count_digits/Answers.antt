@@ -1,7 +1,5 @@
-use Rattle.std.proofs.Common.{◌≡◌, length, arith}
+use Rattle.std.proofs.Common.{◌≡◌, length, arith, nat_lt, w8}
 use Rattle.std.proofs.lemmas.Simd.{bitmask_splat, first_set_mask_l}
-use Rattle.std.specs.Prelude.{nat_lt}
-use mir.Syntax.{w8}
 use Rattle.hexfilter_core.proofs.scanner.count_digits.Goals as goal
 
 pub returns-then-others-eq0 : goal.returns-then-others-eq0

@@ -1,5 +1,4 @@
-use Rattle.std.proofs.Common.{arith}
-use Rattle.std.proofs.lemmas.List.{take_all}
+use Rattle.std.proofs.Common.{arith, take_all}
 use Rattle.hexfilter_core.proofs.transfer.write_piece.Goals as goal
 
 pub returns-then-done-piece-clause-ok : goal.returns-then-done-piece-clause-ok

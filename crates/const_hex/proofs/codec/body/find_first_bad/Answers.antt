@@ -1,8 +1,7 @@
 use Rattle.std.proofs.Common.{◌∙◌, get_or, arith}
 use Rattle.std.proofs.lemmas.List.{take_all}
-use Rattle.const_hex_arch.specs.Texts.{AllDigits, FirstBad}
-use Rattle.const_hex_arch.proofs.lemmas.Digits.{value_not_found}
-use Rattle.const_hex_arch.proofs.lemmas.DigitTexts.{digits_more}
+use Rattle.const_hex.specs.Prelude.{AllDigits, FirstBad}
+use Rattle.const_hex_arch.proofs.lemmas.Digits.{value_not_found, digits_more}
 use Rattle.const_hex_arch.proofs.lemmas.FirstInvalid.{digits_no_bad}
 use Rattle.const_hex.proofs.codec.body.find_first_bad.Goals as goal
 

@@ -1,9 +1,8 @@
 use Rattle.std.proofs.Common.{◌≡◌, ◌∙◌, ◌≤◌, ◌-◌, ◌+◌, ℕ, List, length, get_or, refl, sym, arith}
 use Rattle.std.proofs.lemmas.Bool.Decides.{nat_tests}
 use Rattle.std.proofs.lemmas.List.Elements.{All-nil}
-use Rattle.const_hex_arch.specs.Texts.{FirstBad, IsDigit, value_or_nil, hex_value}
+use Rattle.const_hex.specs.Prelude.{FirstBad, IsDigit, value_or_nil, hex_value, body_of}
 use Rattle.const_hex_arch.proofs.lemmas.Digits.{value_not_found}
-use Rattle.const_hex.specs.Results.{body_of}
 use Rattle.const_hex.proofs.codec.body.locate_invalid.Goals as goal
 
 -- no prefix begins with a byte that is not a digit

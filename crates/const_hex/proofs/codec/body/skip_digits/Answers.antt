@@ -1,5 +1,5 @@
 use Rattle.std.proofs.Common.{◌+◌, ◌≤◌, length, take, refl, arith}
-use Rattle.const_hex_arch.specs.Texts.{AllDigits}
+use Rattle.const_hex.specs.Prelude.{AllDigits}
 use Rattle.const_hex.proofs.lemmas.Searching.{two_more}
 use Rattle.const_hex.proofs.codec.body.skip_digits.Goals as goal
 use Rattle.const_hex.proofs.codec.body.skip_digits.Goals.{Else-not-are_digits}

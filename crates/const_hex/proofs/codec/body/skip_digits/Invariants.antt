@@ -1,5 +1,5 @@
 use Rattle.std.proofs.Common.{◌-◌, ◌≤◌, length, take}
-use Rattle.const_hex_arch.specs.Texts.{AllDigits}
+use Rattle.const_hex.specs.Prelude.{AllDigits}
 use Rattle.const_hex.proofs.codec.body.skip_digits.Given as goal
 
 abbrev pub invariant-fours : goal.invariant-fours

@@ -1,8 +1,7 @@
 use Rattle.std.proofs.Common.{◌≡◌, ◌*◌, suc, [], ◌∷◌, refl, arith, get_or, length, take, drop}
 use Rattle.std.proofs.lemmas.List.{take_rest}
-use Rattle.const_hex_arch.proofs.lemmas.Spelling.{Spells-append}
-use Rattle.const_hex.proofs.lemmas.Decoding.{Partial-longer, first_and_rest, rest_refused}
-use Rattle.const_hex.proofs.lemmas.Fronts.{partial_front}
+use Rattle.const_hex_arch.proofs.lemmas.Texts.{Spells-append}
+use Rattle.const_hex.proofs.lemmas.Decoding.{Partial-longer, first_and_rest, rest_refused, partial_front}
 use Rattle.const_hex.proofs.codec.decoder.decode_after.Goals as goal
 
 pub returns-then-decode_body-clause-spells : goal.returns-then-decode_body-clause-spells

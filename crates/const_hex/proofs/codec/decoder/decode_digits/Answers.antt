@@ -1,7 +1,7 @@
-use Rattle.std.proofs.Common.{refl, arith, length, ◌*◌, sym, ◌∙◌}
+use Rattle.std.proofs.Common.{refl, arith, length, ◌*◌}
 use Rattle.const_hex_arch.proofs.lemmas.Standard.{false_is_true}
-use Rattle.const_hex_arch.proofs.lemmas.DigitTexts.{digits_parts}
-use Rattle.const_hex_arch.proofs.lemmas.Spelling.{Spells-digits}
+use Rattle.const_hex_arch.proofs.lemmas.Digits.{digits_parts}
+use Rattle.const_hex_arch.proofs.lemmas.Texts.{Spells-digits}
 use Rattle.const_hex.proofs.lemmas.Decoding.{last_refused, pairs_refused}
 use Rattle.const_hex.proofs.codec.decoder.decode_digits.Goals as goal
 
@@ -12,13 +12,7 @@ returns-then-decode_body-clause-digits g c = λ h.
     (Spells-digits _ _ s, rw c.split_at.ensures.back at (c.check_last.ensures.0 h))
 
 pub returns-then-decode_body-clause-refused : goal.returns-then-decode_body-clause-refused
-returns-then-decode_body-clause-refused g c = λ h.
-    let s = rw c.split_at.ensures.front at (c.if-decode_body.ensures.spells refl) in
-    last_refused c.args.output.now c.args.digits.now c.decode_body.new.output
-    (λ a. false_is_true (sym h ∙ c.check_last.ensures.1 (rw c.split_at.ensures.back a))) (omega arith)
-    c.decode_body.auto.output s
+returns-then-decode_body-clause-refused g c = grind (arith, last_refused, false_is_true)
 
 pub returns-else-decode_body-clause-refused : goal.returns-else-decode_body-clause-refused
-returns-else-decode_body-clause-refused g c = λ h.
-    pairs_refused c.args.output.now c.args.digits.now c.decode_body.new.output (2 * length c.args.output.now)
-    (rw c.split_at.ensures.front at (c.if-decode_body.ensures.refused refl))
+returns-else-decode_body-clause-refused g c = grind (arith, pairs_refused)

@@ -1,7 +1,5 @@
-use Rattle.std.proofs.Common.{◌*◌, ◌+◌, get_or, arith, rules}
-use Rattle.std.proofs.lemmas.Grind.{common_steps}
-use Rattle.std.proofs.lemmas.List.{take_all}
-use Rattle.const_hex_arch.proofs.lemmas.MorePairs.{pair_more}
+use Rattle.std.proofs.Common.{◌*◌, arith, rules, take_all}
+use Rattle.const_hex_arch.proofs.lemmas.Texts.{pair_more}
 use Rattle.const_hex.proofs.lemmas.Searching.{has_value}
 use Rattle.const_hex.proofs.lemmas.RoundTrip.{DecodesToArray-from_ReadsSized}
 use Rattle.const_hex.proofs.codec.decoders.const_decode_to_array.Goals as goal
@@ -16,18 +14,7 @@ pub returns-then-not-are_digits : goal.returns-then-not-are_digits
 returns-then-not-are_digits g c = DecodesToArray-from_ReadsSized g.row.N c.args.input.now _ (search rules)
 
 pub pairs-preserved : goal.pairs-preserved
-pairs-preserved g c =
-    let digits = c.are_digits.ensures.0 c.if-not-are_digits.false in
-    let first = has_value (get_or c.in-Ok.body.now (2 * c.pairs.index) 0) digits.0 in
-    let second = has_value (get_or c.in-Ok.body.now (2 * c.pairs.index + 1) 0) digits.1 in record {
-      front =
-          pair_more c.in-Ok.body.now c.pairs.bytes c.pairs.index c.value_at.result c.value_at-in-pairs.result
-          c.pairs.invariant.front (omega arith)
-          (omega arith) c.value_at.ensures c.value_at-in-pairs.ensures (rw c.value_at.ensures first)
-          (rw c.value_at-in-pairs.ensures second);
-      size = grind (arith, common_steps);
-      within = omega arith;
-    }
+pairs-preserved g c = search (rules, has_value, pair_more)
 
 pub returns : goal.returns
 returns g c =

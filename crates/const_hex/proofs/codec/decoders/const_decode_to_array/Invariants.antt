@@ -1,5 +1,5 @@
 use Rattle.std.proofs.Common.{◌≡◌, ◌≤◌, ◌-◌, ◌*◌, length, take}
-use Rattle.const_hex_arch.specs.Texts.{Spells}
+use Rattle.const_hex.specs.Prelude.{Spells}
 use Rattle.const_hex.proofs.codec.decoders.const_decode_to_array.Given as goal
 
 abbrev pub invariant-pairs : goal.invariant-pairs

@@ -3,8 +3,7 @@ use Rattle.std.specs.Char.{encode_utf8, is_ascii}
 use Rattle.std.specs.Fmt.{DisplaysOnOk, debug_escape, ◌++?◌}
 use Rattle.std.proofs.lemmas.Bool.Decides.{nat_tests}
 use Rattle.std.proofs.lemmas.Fmt.{hex_one_digit, hex_two_digits}
-use Rattle.const_hex.specs.Messages.{shown, message_text, message_of}
-use Rattle.const_hex.specs.declared.error.FromHexError.TheVariants.{InvalidHexCharacter}
+use Rattle.const_hex.specs.Prelude.{shown, message_text, message_of, InvalidHexCharacter}
 use Rattle.const_hex.proofs.error.FromHexErrorDisplay.fmt.Goals as goal
 
 -- how the standard library's contract of `{:?}` shows an ASCII character

@@ -1,5 +1,5 @@
 use Rattle.std.proofs.Common.{◌≡◌, take, map}
-use Rattle.const_hex.specs.Types.{signed_of}
+use Rattle.const_hex.specs.Prelude.{signed_of}
 use Rattle.const_hex.proofs.traits.signed.fill_signed.Given as goal
 
 abbrev pub invariant-bytes : goal.invariant-bytes

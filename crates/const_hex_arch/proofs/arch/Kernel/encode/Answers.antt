@@ -1,20 +1,13 @@
-use Rattle.std.proofs.Common.{◌≡◌, ℕ, Bool, List, [], ◌∷◌, ◌++◌, length, take, drop, sym, ap, ◌∙◌, refl, arith}
-use Rattle.std.specs.Str.{IsAscii}
+use Rattle.std.proofs.Common.{◌≡◌, ℕ, Bool, List, [], ◌∷◌, ◌++◌, length, take, drop, sym, ap, ◌∙◌, refl, arith, IsAscii, Option}
 use Rattle.std.proofs.lemmas.List.{nil_from_length}
-use Rattle.std.specs.Prelude.{Option}
-use Rattle.const_hex_arch.specs.Outputs.{less_space, piece_size}
-use Rattle.const_hex_arch.specs.Texts.{hex_text}
+use Rattle.const_hex_arch.specs.{less_space, piece_size, hex_text}
 use Rattle.const_hex_arch.proofs.lemmas.Runs.{HasSpace-fewer, no_pieces}
 use Rattle.const_hex_arch.proofs.lemmas.Steps.{IsWritten, part_ascii, piece_written, two_bytes, parts}
 use Rattle.const_hex_arch.proofs.lemmas.Texts.{IsAscii-hex_text, hex_text-append, hex_text-nil, length-hex_text}
 use Rattle.const_hex_arch.proofs.arch.Kernel.encode.Goals as goal
 
 pub loop-rest-init : goal.loop-rest-init
-loop-rest-init g c = record {
-  onward = λ t w. w;
-  has_space = rw length-hex_text c.requires;
-  ascii = IsAscii-hex_text c.args.upper c.args.input.now (λ k. let byte = c.type_inv.input k in omega (arith, byte));
-}
+loop-rest-init g c = grind (arith, length-hex_text, IsAscii-hex_text)
 
 -- the text of the bytes of a turn, and then that of the rest
 cut : (up : Bool) (n : ℕ) (u front back : List ℕ) → front ≡ take n u → back ≡ drop n u
@@ -42,16 +35,10 @@ write_byte-requires-then-PIECE-lt2-clause-ascii g c =
     rw c.fill.ensures (front_ascii _ _ _ _ _ halves.front halves.back c.loop-rest.invariant.ascii 1)
 
 pub write-requires-clause-fits : goal.write-requires-clause-fits
-write-requires-clause-fits g c =
-    let up = c.args.upper in
-    let part = ap length c.fill.ensures ∙ length-hex_text up c.split_at.result.0.now in
-    HasSpace-fewer (g.O.Output.space c.loop-rest.output) _ _
-    (omega (arith, part, length-hex_text up c.loop-rest.rest.now)) c.loop-rest.invariant.has_space
+write-requires-clause-fits g c = grind (arith, length-hex_text, HasSpace-fewer)
 
 pub write_byte-requires-clause-fits : goal.write_byte-requires-clause-fits
-write_byte-requires-clause-fits g c =
-    HasSpace-fewer (g.O.Output.space c.loop-rest.output) _ _
-    (omega (arith, length-hex_text c.args.upper c.loop-rest.rest.now)) c.loop-rest.invariant.has_space
+write_byte-requires-clause-fits g c = grind (arith, HasSpace-fewer, length-hex_text)
 
 -- the first of two digits is written
 first_digit : {S : Type 0} {n : ℕ} {step : S → List ℕ → S → Type 0} {space : S → Option ℕ} {text all pair : List ℕ}
@@ -65,15 +52,7 @@ first_digit a b rest shrinks d whole two h one =
 
 pub write_byte-requires-then-PIECE-lt2-clause-fits : goal.write_byte-requires-then-PIECE-lt2-clause-fits
 write_byte-requires-then-PIECE-lt2-clause-fits g c =
-    let up = c.args.upper in
-    let halves = c.split_at.ensures in
-    let small = rw c.PIECE-in-loop-rest.ensures at c.if-PIECE-lt2.true in
-    let most = rw c.PIECE.ensures at c.clamp.ensures in
-    let part = ap length c.fill.ensures ∙ length-hex_text up c.split_at.result.0.now in
-    let two = two_bytes c.fill.new.output (grind (arith, part, most, small)) in
-    let first = first_digit _ _ _ g.met.O.Output.shrinks c.loop-rest.invariant
-    (cut up _ _ _ _ halves.front halves.back) (sym c.fill.ensures ∙ two) c.write_byte.ensures (grind (arith, small)) in
-    HasSpace-fewer (g.O.Output.space c.write_byte.new.self) _ _ (omega arith) first.has_space
+    grind (arith, length-hex_text, two_bytes, first_digit, cut, HasSpace-fewer)
 
 pub loop-rest-preserved-then-PIECE-lt2 : goal.loop-rest-preserved-then-PIECE-lt2
 loop-rest-preserved-then-PIECE-lt2 g c =
@@ -102,6 +81,4 @@ loop-rest-preserved g c =
     (λ less. let none = nil_from_length c.split_at.result.1.now (grind (arith, part, most, long)) in rw (none, hex_text-nil) refl)
 
 pub returns : goal.returns
-returns g c =
-    let none = nil_from_length c.loop-rest.rest.now (omega arith) in
-    c.loop-rest.invariant.onward _ (rw (none, hex_text-nil) (no_pieces _ _ _))
+returns g c = grind (arith, nil_from_length, hex_text-nil, no_pieces)

@@ -1,6 +1,5 @@
 use Rattle.std.proofs.Common.{length}
-use Rattle.const_hex_arch.specs.Outputs.{piece_size}
-use Rattle.const_hex_arch.specs.Texts.{hex_text}
+use Rattle.const_hex_arch.specs.{piece_size, hex_text}
 use Rattle.const_hex_arch.proofs.lemmas.Steps.{IsWritten}
 use Rattle.const_hex_arch.proofs.arch.Kernel.encode.Given as goal
 

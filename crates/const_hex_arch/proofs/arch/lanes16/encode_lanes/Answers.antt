@@ -1,6 +1,6 @@
 use Rattle.std.proofs.Common.{map, ◌++◌}
 use Rattle.std.specs.List.{range_with_len}
-use Rattle.const_hex_arch.specs.Texts.{hex_digit}
+use Rattle.const_hex_arch.specs.{hex_digit}
 use Rattle.const_hex_arch.proofs.lemmas.LaneText.{halves_ok, halves_text, row_is_table}
 use Rattle.const_hex_arch.proofs.arch.lanes16.encode_lanes.Goals as goal
 

@@ -1,4 +1,4 @@
-use Rattle.const_hex_arch.proofs.lemmas.LaneBytes.{merge_all}
+use Rattle.const_hex_arch.proofs.lemmas.LaneValues.{merge_all}
 use Rattle.const_hex_arch.proofs.arch.lanes16.pack.Goals as goal
 
 pub returns : goal.returns

@@ -1,10 +1,9 @@
 use Rattle.std.proofs.Common.{◌+◌, ◌-◌, ◌*◌, ◌≤◌, length, take, drop, refl, arith}
 use Rattle.std.proofs.lemmas.List.Elements.{All-take, All-drop}
-use Rattle.const_hex_arch.specs.Texts.{IsDigit, AllDigits}
-use Rattle.const_hex_arch.proofs.lemmas.DigitTexts.{digits_append}
+use Rattle.const_hex_arch.specs.{IsDigit, AllDigits}
+use Rattle.const_hex_arch.proofs.lemmas.Digits.{digits_append}
 use Rattle.const_hex_arch.proofs.lemmas.Standard.{through}
 use Rattle.const_hex_arch.proofs.lemmas.Steps.{digits_step, digits_last}
-use Rattle.const_hex_arch.proofs.arch.loops.check_in_steps.Given.{Over}
 use Rattle.const_hex_arch.proofs.arch.loops.check_in_steps.Goals as goal
 use Rattle.const_hex_arch.proofs.arch.loops.check_in_steps.Goals.{Joined-input-at, then-input-at+else-not-check_two_steps, else-input-at}
 
@@ -15,7 +14,7 @@ loop-at-preserved g c = record {
 }
 
 -- before the last test
-digits : (g : Over) (c : Joined-input-at g) → (length c.args.input.now ≤ c.if-input-at.at + 2 * g.row.N)
+digits : (g : _) (c : Joined-input-at g) → (length c.args.input.now ≤ c.if-input-at.at + 2 * g.row.N)
     × AllDigits (take c.if-input-at.at c.args.input.now)
 digits g c =
     elim c.if-input-at.branch [

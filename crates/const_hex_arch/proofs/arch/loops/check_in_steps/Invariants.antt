@@ -1,5 +1,5 @@
 use Rattle.std.proofs.Common.{◌-◌, ◌≤◌, length, take}
-use Rattle.const_hex_arch.specs.Texts.{AllDigits}
+use Rattle.const_hex_arch.specs.{AllDigits}
 use Rattle.const_hex_arch.proofs.arch.loops.check_in_steps.Given as goal
 
 abbrev pub invariant-loop-at : goal.invariant-loop-at

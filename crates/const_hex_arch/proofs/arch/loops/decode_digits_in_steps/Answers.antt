@@ -1,7 +1,5 @@
-use Rattle.std.proofs.Common.{◌+◌, ◌-◌, ◌*◌, ◌≤◌, length, arith}
-use Rattle.std.proofs.lemmas.List.{take_all}
+use Rattle.std.proofs.Common.{◌+◌, ◌-◌, ◌*◌, ◌≤◌, length, arith, take_all}
 use Rattle.const_hex_arch.proofs.lemmas.Steps.{IsDecoded, decoded_step, decoded_less, spells_rest}
-use Rattle.const_hex_arch.proofs.arch.loops.decode_digits_in_steps.Given.{Over}
 use Rattle.const_hex_arch.proofs.arch.loops.decode_digits_in_steps.Goals as goal
 use Rattle.const_hex_arch.proofs.arch.loops.decode_digits_in_steps.Goals.{Joined-output-at-ge16, then-output-at-ge16, else-output-at-ge16}
 
@@ -11,7 +9,7 @@ loop-output-preserved g c =
     c.decode_digits_step.ensures
 
 -- before the remainder
-decoded : (g : Over) (c : Joined-output-at-ge16 g) → (length c.if-output-at-ge16.output ≤ c.if-output-at-ge16.at + 16)
+decoded : (g : _) (c : Joined-output-at-ge16 g) → (length c.if-output-at-ge16.output ≤ c.if-output-at-ge16.at + 16)
     × IsDecoded c.args.input.now c.args.output.now c.if-output-at-ge16.output c.if-output-at-ge16.at
 decoded g c =
     let sizes = g.met.V.LaneOps.sizes in

@@ -1,10 +1,8 @@
-use Rattle.std.proofs.Common.{◌≡◌, ◌+◌, ◌-◌, ◌*◌, ◌≤◌, length, refl, arith, ◌∙◌, sym}
-use Rattle.std.proofs.lemmas.List.{take_all}
+use Rattle.std.proofs.Common.{◌≡◌, ◌+◌, ◌-◌, ◌*◌, ◌≤◌, length, refl, arith, take_all}
 use borrow.Rule.Slice.PartMut.{put_mid}
-use Rattle.const_hex_arch.proofs.lemmas.LeftOutputs.{none_decoded}
+use Rattle.const_hex_arch.proofs.lemmas.FirstInvalid.{none_decoded}
 use Rattle.const_hex_arch.proofs.lemmas.Standard.{false_is_true}
 use Rattle.const_hex_arch.proofs.lemmas.Steps.{IsDecoded, decoded_step, decoded_less, kept_step, refused_step, spells_rest, refused_rest}
-use Rattle.const_hex_arch.proofs.arch.loops.decode_in_steps.Given.{Over}
 use Rattle.const_hex_arch.proofs.arch.loops.decode_in_steps.Goals as goal
 use Rattle.const_hex_arch.proofs.arch.loops.decode_in_steps.Goals.{Joined-output-at-ge16, else-loop-output-test, then-loop-output-test+then-not-decode_two_steps+else-not-this-2, then-output-at-ge16+else-not-decode_step-2, else-output-at-ge16}
 
@@ -14,15 +12,7 @@ loop-output-preserved g c =
     (c.if-not-decode_two_steps.ensures.spells refl)
 
 pub loop-output-2-init : goal.loop-output-2-init
-loop-output-2-init g c = elim c.loop-output-test.branch [
-  | else-loop-output-test w ↦ rw w.output-is c.loop-output.invariant
-  | then-loop-output-test+then-not-decode_two_steps+else-not-this-2 w ↦
-      rw (
-        w.output-is,
-        kept_step c.loop-output.output _ c.loop-output.at _
-            (w.if-not-decode_two_steps.ensures.unchanged refl),
-      ) c.loop-output.invariant
-]
+loop-output-2-init g c = grind (arith, kept_step)
 
 pub loop-output-2-preserved : goal.loop-output-2-preserved
 loop-output-2-preserved g c =
@@ -40,7 +30,7 @@ returns-then-not-decode_step-2-clause-refused g c = λ _.
     refused_step _ _ _ _ c.loop-output-2.invariant c.requires (is.unchanged refl) (λ d. false_is_true (is.digits.1 d))
 
 -- before the remainder
-decoded : (g : Over) (c : Joined-output-at-ge16 g) → (length c.if-output-at-ge16.output ≤ c.if-output-at-ge16.at + 16)
+decoded : (g : _) (c : Joined-output-at-ge16 g) → (length c.if-output-at-ge16.output ≤ c.if-output-at-ge16.at + 16)
     × IsDecoded c.args.input.now c.args.output.now c.if-output-at-ge16.output c.if-output-at-ge16.at
 decoded g c =
     let sizes = g.met.V.LaneOps.sizes in
@@ -69,9 +59,7 @@ returns-then-decode_step-clause-spells g c = λ _.
     (c.if-decode_step.ensures.spells refl)
 
 pub returns-then-output-le16-clause-refused : goal.returns-then-output-le16-clause-refused
-returns-then-output-le16-clause-refused g c = λ f.
-    let is = c.decode_short.ensures in
-    rw (is.unchanged f) (none_decoded _ _ (λ d. false_is_true (sym f ∙ is.digits.1 d)))
+returns-then-output-le16-clause-refused g c = grind (arith, none_decoded, false_is_true)
 
 pub returns-then-not-this-2-clause-refused : goal.returns-then-not-this-2-clause-refused
 returns-then-not-this-2-clause-refused g c = λ _.
@@ -79,9 +67,7 @@ returns-then-not-this-2-clause-refused g c = λ _.
     refused_step _ _ _ _ c.loop-output.invariant c.requires (is.unchanged refl) (λ d. false_is_true (is.digits.1 d))
 
 pub returns-else-this-ne0-clause-refused : goal.returns-else-this-ne0-clause-refused
-returns-else-this-ne0-clause-refused g c = λ _.
-    let is = c.if-decode_small.ensures in
-    rw (is.unchanged refl) (none_decoded _ _ (λ d. false_is_true (is.digits.1 d)))
+returns-else-this-ne0-clause-refused g c = grind (arith, none_decoded, false_is_true)
 
 pub returns-else-this-ne0-2-clause-refused : goal.returns-else-this-ne0-2-clause-refused
 returns-else-this-ne0-2-clause-refused g c = λ _.

@@ -1,6 +1,5 @@
 use Rattle.std.proofs.Common.{◌+◌, ◌-◌, ◌*◌, length, arith}
 use Rattle.const_hex_arch.proofs.lemmas.Ends.{IsFilled, none_filled, filled_step, filled_less, filled_whole, filled_rest}
-use Rattle.const_hex_arch.proofs.arch.loops.fill_in_steps.Given.{Over}
 use Rattle.const_hex_arch.proofs.arch.loops.fill_in_steps.Goals as goal
 use Rattle.const_hex_arch.proofs.arch.loops.fill_in_steps.Goals.{Joined-input-at, then-input-at, else-input-at}
 
@@ -8,14 +7,13 @@ pub loop-at-init : goal.loop-at-init
 loop-at-init g c = none_filled c.requires
 
 pub loop-at-preserved : goal.loop-at-preserved
-loop-at-preserved g c =
-    filled_step _ _ _ c.loop-at.invariant (omega arith) (omega arith) (omega arith) c.fill_two_steps.ensures
+loop-at-preserved g c = grind (arith, filled_step)
 
 pub returns-then-at-input : goal.returns-then-at-input
 returns-then-at-input g c = filled_whole c.loop-at.invariant (omega arith)
 
 -- before the last step
-filled : (g : Over) (c : Joined-input-at g)
+filled : (g : _) (c : Joined-input-at g)
     → IsFilled c.args.upper c.args.input.now c.if-input-at.output (length c.args.input.now - g.row.N)
 filled g c = elim c.if-input-at.branch [
   | then-input-at w ↦

@@ -4,5 +4,4 @@ use Rattle.const_hex_arch.proofs.lemmas.Texts.{hex_text-nil}
 use Rattle.const_hex_arch.proofs.arch.small_input.fill.Goals as goal
 
 pub returns-else-bytes-ge2 : goal.returns-else-bytes-ge2
-returns-else-bytes-ge2 g c =
-    rw (nil_from_length c.args.output.now (omega arith), nil_from_length c.args.bytes.now (omega arith), hex_text-nil)
+returns-else-bytes-ge2 g c = grind (arith, nil_from_length, hex_text-nil)

@@ -1,12 +1,10 @@
+use Rattle.std.proofs.lemmas.Grind.{common_steps}
 use Rattle.std.proofs.Common.{◌-◌, ◌*◌, length, arith}
 use Rattle.const_hex_arch.proofs.lemmas.Ends.{IsFilled, none_filled, filled_step, filled_less, filled_whole, filled_rest}
 use Rattle.const_hex_arch.proofs.arch.small_input.fill_overlapping.Goals as goal
 
 pub returns-else-bytes : goal.returns-else-bytes
-returns-else-bytes g c =
-    let n = g.row.N in
-    filled_whole (filled_step {end = n} _ n (2 * n) (none_filled c.requires.size) (omega arith) (omega arith)
-    (omega arith) c.fill_step.ensures) (omega arith)
+returns-else-bytes g c = grind (arith, common_steps, filled_whole, filled_step, none_filled)
 
 pub returns-then-bytes : goal.returns-then-bytes
 returns-then-bytes g c =

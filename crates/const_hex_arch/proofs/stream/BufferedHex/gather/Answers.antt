@@ -1,6 +1,5 @@
-use Rattle.std.proofs.Common.{rules, ap, ◌∙◌}
-use Rattle.std.specs.Prelude.{None}
-use Rattle.const_hex_arch.specs.Sinks.{output_sink, sink_name}
+use Rattle.std.proofs.Common.{rules, ap, ◌∙◌, None}
+use Rattle.const_hex_arch.specs.{output_sink, sink_name}
 use Rattle.const_hex_arch.proofs.lemmas.Streams.{Streams-from_writes, Streams-at, StreamsWhole-of}
 use Rattle.const_hex_arch.proofs.stream.BufferedHex.gather.Goals as goal
 

@@ -1,5 +1,4 @@
-use Rattle.std.proofs.Common.{◌≤◌, take, arith}
-use Rattle.std.proofs.lemmas.List.{length-take-le}
+use Rattle.std.proofs.Common.{◌≤◌, take, arith, length-take-le}
 use Rattle.hexfilter_core.proofs.lemmas.Texts.{fewer_copied, fewer_high, high_added, next_bound}
 use Rattle.hexfilter_core.proofs.scanner.Scanner.run.Goals as goal
 

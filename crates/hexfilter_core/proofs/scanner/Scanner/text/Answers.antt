@@ -1,5 +1,5 @@
 use Rattle.std.proofs.Common.{◌+◌, ◌<◌, length, arith}
-use Rattle.const_hex.specs.Decoding.{listed}
+use Rattle.const_hex.specs.Prelude.{listed}
 use Rattle.hexfilter_core.proofs.lemmas.Texts.{added_byte, added_run, rest-size}
 use Rattle.hexfilter_core.proofs.scanner.Scanner.text.Goals as goal
 

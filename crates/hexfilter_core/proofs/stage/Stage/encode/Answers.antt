@@ -1,6 +1,6 @@
 use Rattle.std.proofs.Common.{arith}
 use Rattle.std.proofs.lemmas.Grind.{common_steps}
-use Rattle.const_hex.specs.Texts.{full_text}
+use Rattle.const_hex.specs.Prelude.{full_text}
 use Rattle.hexfilter_core.proofs.lemmas.Groups.{without_groups}
 use Rattle.hexfilter_core.proofs.stage.Stage.encode.Goals as goal
 

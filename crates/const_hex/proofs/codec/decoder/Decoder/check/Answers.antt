@@ -1,6 +1,6 @@
 use Rattle.std.proofs.Common.{◌∙◌, refl, rules}
 use Rattle.const_hex_arch.proofs.lemmas.Standard.{false_is_true}
-use Rattle.const_hex.specs.Decoding.{listed}
+use Rattle.const_hex.specs.Prelude.{listed}
 use Rattle.const_hex.proofs.lemmas.Decoding.{bad_by_now, digits_by_now, goes_on_unwritten}
 use Rattle.const_hex.proofs.codec.decoder.Decoder.check.Goals as goal
 

@@ -1,10 +1,8 @@
-use Rattle.std.proofs.Common.{arith, refl, sym, length, ◌≡◌, ◌∙◌, take, drop, rules}
-use Rattle.std.proofs.lemmas.List.{length-take-le, take_at, drop_at}
-use Rattle.const_hex.specs.Decoding.{listed}
-use Rattle.const_hex_arch.proofs.lemmas.DigitTexts.{digits_append}
+use Rattle.std.proofs.Common.{arith, refl, sym, length, ◌≡◌, ◌∙◌, take, drop, rules, length-take-le, take_at, drop_at}
+use Rattle.const_hex.specs.Prelude.{listed}
+use Rattle.const_hex_arch.proofs.lemmas.Digits.{digits_append}
 use Rattle.const_hex_arch.proofs.lemmas.FirstInvalid.{digits_no_bad}
-use Rattle.const_hex.proofs.lemmas.Decoding.{added, bad_by_now, digits_by_now, goes_on, spelled_by_now}
-use Rattle.const_hex.proofs.lemmas.Fronts.{partial_pairs}
+use Rattle.const_hex.proofs.lemmas.Decoding.{added, bad_by_now, digits_by_now, goes_on, spelled_by_now, partial_pairs}
 use Rattle.const_hex.proofs.codec.decoder.Decoder.decode_with.Goals as goal
 
 pub returns-then-count-output : goal.returns-then-count-output

@@ -1,5 +1,5 @@
 use Rattle.std.proofs.Common.{◌≡◌, ◌+◌, arith}
-use Rattle.const_hex.specs.Decoding.{counted, position_of}
+use Rattle.const_hex.specs.Prelude.{counted, position_of}
 use Rattle.const_hex.proofs.codec.decoder.Decoder.fail.Goals as goal
 
 pub returns-clause-names : goal.returns-clause-names

@@ -1,4 +1,4 @@
-use Rattle.std.proofs.Common.{arith, refl}
+use Rattle.std.proofs.Common.{arith, refl, rules}
 use Rattle.const_hex.proofs.lemmas.Decoding.{ends_even, ends_odd}
 use Rattle.const_hex.proofs.codec.decoder.Decoder.finish.Goals as goal
 
@@ -8,8 +8,7 @@ returns-then-self-eq-WAITING-clause-ok c = λ t bs r.
     (λ gone. cc, λ reads. absurd (omega (arith, odd, reads.0)))
 
 pub returns-then-self-eq-WAITING-clause-odd : goal.returns-then-self-eq-WAITING-clause-odd
-returns-then-self-eq-WAITING-clause-odd c = λ t bs r.
-    (λ _. ends_odd c.args.self t bs r c.if-self-eq-WAITING.true, λ _. refl)
+returns-then-self-eq-WAITING-clause-odd c = search (rules, ends_odd)
 
 pub returns-clause-ok : goal.returns-clause-ok
 returns-clause-ok c = λ t bs r. (λ _. ends_even c.args.self t bs r c.if-self-eq-WAITING.false, λ _. refl)

@@ -1,6 +1,6 @@
 use Rattle.std.proofs.Common.{◌∙◌, ap, length, arith}
 use Rattle.std.proofs.lemmas.Simd.{put_chunk_whole}
-use Rattle.const_hex_arch.proofs.lemmas.LanePairs.{high_ok, low_ok, woven_text}
+use Rattle.const_hex_arch.proofs.lemmas.LaneText.{high_ok, low_ok, woven_text}
 use Rattle.const_hex_arch.proofs.arch.interleaved.InterleavedLaneOps16.write_digits.Goals as goal
 
 pub swizzle-first : goal.swizzle-first

@@ -1,5 +1,5 @@
 use Rattle.std.proofs.Common.{arith, length-append}
-use Rattle.const_hex_arch.proofs.lemmas.LanePairs.{pairs_are}
+use Rattle.const_hex_arch.proofs.lemmas.LaneText.{pairs_are}
 use Rattle.const_hex_arch.proofs.arch.interleaved.InterleavedLaneOps32.merge.Goals as goal
 
 pub returns : goal.returns

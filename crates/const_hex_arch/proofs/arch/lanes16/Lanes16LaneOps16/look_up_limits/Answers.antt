@@ -1,6 +1,6 @@
 use Rattle.std.proofs.Common.{refl}
 use Rattle.const_hex_arch.specs.declared.arch.lanes16.TheConstants.{LIMITS}
-use Rattle.const_hex_arch.proofs.lemmas.LaneLookups.{masked_ok}
+use Rattle.const_hex_arch.proofs.lemmas.LaneText.{masked_ok}
 use Rattle.const_hex_arch.proofs.lemmas.LaneMarks.{limits_are}
 use Rattle.const_hex_arch.proofs.arch.lanes16.Lanes16LaneOps16.look_up_limits.Goals as goal
 

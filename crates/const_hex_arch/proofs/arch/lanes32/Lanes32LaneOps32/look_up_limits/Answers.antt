@@ -1,5 +1,5 @@
-use Rattle.const_hex_arch.specs.Lanes.{IsLimitOf}
-use Rattle.const_hex_arch.proofs.lemmas.LaneLookups.{by_halves}
+use Rattle.const_hex_arch.specs.{IsLimitOf}
+use Rattle.const_hex_arch.proofs.lemmas.LaneText.{by_halves}
 use Rattle.const_hex_arch.proofs.arch.lanes32.Lanes32LaneOps32.look_up_limits.Goals as goal
 
 pub returns : goal.returns

@@ -1,5 +1,5 @@
 use Rattle.std.proofs.Common.{take}
-use Rattle.const_hex_arch.specs.Texts.{AllDigits}
+use Rattle.const_hex_arch.specs.{AllDigits}
 use Rattle.const_hex_arch.proofs.arch.plain.ByteByByteKernel.check.Given as goal
 
 abbrev pub invariant-loop-b : goal.invariant-loop-b

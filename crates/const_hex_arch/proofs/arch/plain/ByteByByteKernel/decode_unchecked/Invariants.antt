@@ -1,5 +1,5 @@
 use Rattle.std.proofs.Common.{◌*◌, take}
-use Rattle.const_hex_arch.specs.Texts.{Spells}
+use Rattle.const_hex_arch.specs.{Spells}
 use Rattle.const_hex_arch.proofs.arch.plain.ByteByByteKernel.decode_unchecked.Given as goal
 
 abbrev pub invariant-loop-i : goal.invariant-loop-i

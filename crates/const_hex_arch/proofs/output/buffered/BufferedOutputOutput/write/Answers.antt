@@ -2,7 +2,6 @@ use Rattle.std.proofs.Common.{◌≡◌, [], take, refl, ap, ◌∙◌, arith}
 use Rattle.std.proofs.lemmas.List.{nil_from_length}
 use Rattle.const_hex_arch.proofs.lemmas.Runs.{Gathers-long}
 use Rattle.const_hex_arch.proofs.output.buffered.BufferedOutputOutput.write.Goals as goal
-use Rattle.const_hex_arch.proofs.output.buffered.BufferedOutputOutput.write.Goals.{then-bytes-pending, else-bytes-pending}
 
 pub returns-then-bytes : goal.returns-then-bytes
 returns-then-bytes g c =
@@ -12,11 +11,11 @@ returns-then-bytes g c =
     let passed = Gathers-long g.O.Output.step g.O.Output.space g.row.N s.0 s.1 c.args.bytes.now
     c.self-then-bytes.inside.output c.write.new.self in
     elim c.if-bytes-pending.branch [
-      | then-bytes-pending w ↦
+      | goal.then-bytes-pending w ↦
           let e : take c.self-then-bytes.inside.count c.self-then-bytes.inside.buffer ≡ [] =
           ap (λ p. p.1) v ∙ rw w.self-is w.flush.ensures.empty in
           rw e (passed (rw (m, w.self-is) w.flush.ensures.run) c.write.ensures c.if-bytes.true)
-      | else-bytes-pending w ↦
+      | goal.else-bytes-pending w ↦
           let d : s.1 ≡ [] = nil_from_length s.1 (omega arith) in
           let e : take c.self-then-bytes.inside.count c.self-then-bytes.inside.buffer ≡ [] =
           ap (λ p. p.1) v ∙ rw w.self-is d in

@@ -1,7 +1,0 @@
-use Rattle.std.proofs.Common.{arith}
-use Rattle.std.proofs.lemmas.List.{take_all}
-use Rattle.const_hex.proofs.write_sink.write_piece.Goals as goal
-
-pub returns-then-done-piece-clause-ok : goal.returns-then-done-piece-clause-ok
-returns-then-done-piece-clause-ok g c =
-    rw (take_all c.writes.done c.args.piece.now (omega arith)) at c.writes.invariant.written

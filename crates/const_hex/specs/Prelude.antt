@@ -1,0 +1,15 @@
+-- The names that most clauses and proofs cite, passed on from one place. Declares nothing.
+pub use Rattle.const_hex_arch.specs.Outputs.{ArePieces, HasSpace}
+pub use Rattle.const_hex_arch.specs.Sinks.{Offers, Streams, ReportsCut, reported_after, Cut}
+pub use Rattle.const_hex_arch.specs.Texts.{AllDigits, FirstBad, IsDigit, value_or_nil, hex_value, Spells, hex_digit, Partial, full_text, text_length, prefix_of}
+unfoldable pub use Rattle.const_hex_arch.specs.Texts.{hex_text}
+pub use Rattle.const_hex.specs.Buffers.{EndsEncoded, blank_text, buffer_text, EndsHolding}
+pub use Rattle.const_hex.specs.Decoding.{listed, counted, position_of, HasRead, NamesCounted, error_of, waiting_digit, zero_decoder, ChecksChunk, DecodesChunk, ReadsOn, ChecksOn}
+pub use Rattle.const_hex.specs.Messages.{shown, message_text, message_of}
+pub use Rattle.const_hex.specs.Results.{body_of, IsOdd, Reads, lowered, ReadsSized, Checks, ChecksText, IsEven, is_text_of, AreBytes, Decodes, DecodesToArray, all_digits, DecodesToSlice, DecodesToFront, EncodesToSlice, Encodes, ReadsWithin, LeavesOutput}
+pub use Rattle.const_hex.specs.TypeLaws.{body-parity, ReadsSized-faithful, ReadsOwned-faithful, ReadsThrough-faithful, ReadsSigned-faithful, ReadsAs-faithful}
+pub use Rattle.const_hex.specs.Types.{with_low, signed_of, ReadsInside, json_message, IsCount, chars_left, exactly, is_no_memory, AnyCount, ReadsOwned, ReadsThrough, IsFaithful, byte_of, ReadsSigned, IsRejected, ReadsAs}
+pub use Rattle.const_hex.specs.Writers.{FormatterStep, WriteStep, sink_writer, has_failed, display_bytes, sink_formatter, formatter_name, formatter_failed, printed_text, ReportsWhole, WritesBeginning, writer_name, first_error}
+pub use Rattle.const_hex.specs.declared.codec.decoder.Decoder.{Decoder}
+pub use Rattle.const_hex.specs.declared.error.FromHexError.{FromHexError}
+pub use Rattle.const_hex.specs.declared.error.FromHexError.TheVariants.{OddLength, InvalidStringLength, InvalidHexCharacter, NoMemory}

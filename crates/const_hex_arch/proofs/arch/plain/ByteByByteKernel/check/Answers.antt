@@ -1,7 +1,0 @@
-use Rattle.std.proofs.Common.{arith}
-use Rattle.const_hex_arch.proofs.lemmas.DigitTexts.{digits_more}
-use Rattle.const_hex_arch.proofs.arch.plain.ByteByByteKernel.check.Goals as goal
-
-pub loop-b-preserved : goal.loop-b-preserved
-loop-b-preserved g c =
-    digits_more c.args.input.now c.loop-b.b-index c.loop-b.invariant c.loop-b-test.true (λ e. omega (arith, e))
