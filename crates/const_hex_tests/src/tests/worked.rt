@@ -2,7 +2,7 @@
 //! say the same of every input; here the terms of the contracts meet values from elsewhere.
 
 ghost use Rattle.std.specs.Prelude.{◌≡◌, ◌≤◌, true, false};
-ghost use Rattle.const_hex.specs.Texts.{text_length};
+ghost use Rattle.const_hex.specs.Prelude.{text_length};
 
 use const_hex::FromHexError::{InvalidStringLength, OddLength};
 use const_hex::{

@@ -1,4 +1,5 @@
-use Rattle.std.proofs.Common.{◌∙◌, refl, arith, encode_utf8}
+use Rattle.std.proofs.Common.{◌∙◌, refl, arith}
+use Rattle.std.specs.Char.{encode_utf8}
 use Rattle.std.specs.Fmt.{digits}
 use Rattle.const_hex_c.proofs.lemmas.Wording.{whole_message}
 use Rattle.const_hex_c.proofs.callers.message_of_character.Goals as goal

@@ -1,5 +1,6 @@
-use Rattle.std.proofs.Common.{arith, encode_utf8}
+use Rattle.std.proofs.Common.{arith}
 use Rattle.std.proofs.lemmas.Bool.Decides.{nat_tests}
+use Rattle.std.specs.Char.{encode_utf8}
 use Rattle.const_hex_c.proofs.message.prepend_shown.Goals as goal
 
 pub returns-in_default-clause-text : goal.returns-in_default-clause-text
