@@ -17,7 +17,7 @@ from execution.paths import run
 from hints.loops import guess, heads
 from meanings import aarch64, webassembly, x86_64
 from reading.image import AARCH64, X86_64
-from solver import questions, second
+from solver import cvc5, questions
 from solver.questions import Refused
 
 PROCESSORS = {X86_64: x86_64, AARCH64: aarch64, None: webassembly}
@@ -68,7 +68,7 @@ def task(job):
     try:
         count = prove(content, symbol, contract, slice(part, None, contract.parts))
         outcome = f"proved at every length: {count} paths, {questions.counts['asked']} questions"
-        if others := second.disagreements(questions.proved, None if is_whole else SAMPLE // contract.parts):
+        if others := cvc5.disagreements(questions.proved, None if is_whole else SAMPLE // contract.parts):
             fault = f"cvc5 says {others[0][1]}: {others[0][0]}"
     except (Refused, ValueError) as refused:
         fault = refused

@@ -10,7 +10,7 @@ import itertools
 
 import z3
 
-from solver import tenths
+from solver import quotient_by_ten
 from solver.questions import (Refused, conjuncts, facts_of, holds, is_impossible, is_public, names, relevant, require,
                               values)
 
@@ -173,7 +173,7 @@ class State:
         """A tenth of a number, and the bits below it in a product. What is known of them is assumed once."""
         number = simple(number)
         if number.get_id() not in self.tenths:
-            *self.tenths[number.get_id()], known = tenths.parts(number)
+            *self.tenths[number.get_id()], known = quotient_by_ten.parts(number)
             self.assume(known)
         return self.tenths[number.get_id()]
 
@@ -183,7 +183,7 @@ class State:
 
     def product(self, a, b):
         """The product of two numbers of 64 bits, which has 128."""
-        if z3.is_bv_value(b) and b.as_long() == tenths.FACTOR and not z3.is_bv_value(simple(a)):
+        if z3.is_bv_value(b) and b.as_long() == quotient_by_ten.FACTOR and not z3.is_bv_value(simple(a)):
             return simple(z3.Concat(*self._parts(a), a * b))
         return simple(z3.ZeroExt(64, a) * z3.ZeroExt(64, b))
 

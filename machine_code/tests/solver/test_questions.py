@@ -9,7 +9,7 @@ from unittest import mock
 
 import z3
 
-from solver import integers, questions, second, tenths
+from solver import cvc5, integers, questions, quotient_by_ten
 
 BITS = 6
 NAMES = [z3.BitVec(f"p_test_{name}", BITS) for name in "ab"]
@@ -115,25 +115,25 @@ class TestQuestions(unittest.TestCase):
     def test_the_quotient_by_ten(self):
         """What is known of a tenth is so, and the lemma is none for other factors."""
         number = z3.BitVec("p_test_number", 64)
-        tenth, more, known = tenths.parts(number)
-        self.assertTrue(tenths.parts(number)[0].eq(tenth))
+        tenth, more, known = quotient_by_ten.parts(number)
+        self.assertTrue(quotient_by_ten.parts(number)[0].eq(tenth))
         for value in [0, 9, 10, (1 << 64) - 1, *[self.some.getrandbits(64) for _ in range(200)]]:
-            upper = value * tenths.FACTOR >> 64
+            upper = value * quotient_by_ten.FACTOR >> 64
             self.assertEqual(upper >> 3, value // 10)
             for by, holds in (0, True), (1, False), (-1, False), (1 << 60, False):
                 values = (number, value), (tenth, (upper >> 3) + by), (more, upper & 7)
                 of = z3.substitute(known, *[(x, z3.BitVecVal(v, x.size())) for x, v in values])
                 self.assertEqual(z3.is_true(z3.simplify(of)), holds)
-        for factor in tenths.FACTOR - 1, tenths.FACTOR + 1, 1 << 63:
-            self.assertFalse(questions.is_impossible_in_integers(tenths.lemma(factor)))
+        for factor in quotient_by_ten.FACTOR - 1, quotient_by_ten.FACTOR + 1, 1 << 63:
+            self.assertFalse(questions.is_impossible_in_integers(quotient_by_ten.lemma(factor)))
 
     def test_the_second_solver_proves_the_lemma(self):
-        with mock.patch.object(second, "disagreements", return_value=[("", "sat")]):
+        with mock.patch.object(cvc5, "disagreements", return_value=[("", "sat")]):
             with self.assertRaisesRegex(questions.Refused, "cvc5 does not prove the quotient"):
-                tenths.prove.__wrapped__()
-        with mock.patch.object(tenths, "lemma", return_value=[]):
+                quotient_by_ten.prove.__wrapped__()
+        with mock.patch.object(quotient_by_ten, "lemma", return_value=[]):
             with self.assertRaisesRegex(questions.Refused, "the quotient by ten is not proved"):
-                tenths.prove.__wrapped__()
+                quotient_by_ten.prove.__wrapped__()
 
     def test_the_second_solver(self):
         x = z3.BitVec("x", 64)
@@ -141,9 +141,9 @@ class TestQuestions(unittest.TestCase):
         wrong = ("QF_BV", [z3.ULT(x, 3)])
         no_text = ("QF_BV", [z3.ULT(x, 3), z3.Function("f", x.sort(), x.sort())(x) == 1])
         integer = ("QF_LIA", [z3.Int("n") % 3 == 1, z3.Int("n") == 9])
-        self.assertEqual(second.disagreements([right, integer]), [])
-        self.assertEqual([answer for _, answer in second.disagreements([right, wrong, integer])], ["sat"])
-        self.assertEqual(len(second.disagreements([no_text, right])), 2)
+        self.assertEqual(cvc5.disagreements([right, integer]), [])
+        self.assertEqual([answer for _, answer in cvc5.disagreements([right, wrong, integer])], ["sat"])
+        self.assertEqual(len(cvc5.disagreements([no_text, right])), 2)
         more = subprocess.CompletedProcess("cvc5", 0, "unsat\nunsat\n", "")
         with mock.patch.object(subprocess, "run", return_value=more):
-            self.assertEqual(len(second.disagreements([right])), 1)
+            self.assertEqual(len(cvc5.disagreements([right])), 1)

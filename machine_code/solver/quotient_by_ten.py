@@ -9,7 +9,7 @@ import functools
 
 import z3
 
-from solver import questions, second
+from solver import cvc5, questions
 from solver.questions import require
 
 FACTOR = 0xCCCCCCCCCCCCCCCD
@@ -30,7 +30,7 @@ def prove():
     """Proves the lemma by both solvers."""
     conditions = lemma()
     require(questions.is_impossible_in_integers(conditions), "the quotient by ten is not proved")
-    require(not second.disagreements([("QF_LIA", conditions)]), "cvc5 does not prove the quotient by ten")
+    require(not cvc5.disagreements([("QF_LIA", conditions)]), "cvc5 does not prove the quotient by ten")
 
 
 def parts(number):
