@@ -69,10 +69,10 @@ def judged(state, text, count):
     """The state in which all characters are digits, and the one in which some are not, each with the result. In the
     second, time may depend on the text if it is no valid one."""
     is_input = is_in("input", text)
+    some, index = any_below(state, count)
+    if not some:
+        return [(state, 1)]
     if is_input:  # of which any character is read
-        some, index = any_below(state, count)
-        if not some:
-            return [(state, 1)]
         characters = some.load(simple(text + index), 1)
     else:
         state.must(count == 2, "a text that is neither in the input nor a pair")

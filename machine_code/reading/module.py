@@ -9,7 +9,10 @@ import subprocess
 from collections import namedtuple
 
 SIZES = {"i32": 4, "i64": 8, "v128": 16}
-SPACE, FAIL = 1 << 32, "const_hex_decoder_fail"
+SPACE = 1 << 32
+# Local functions have no names. These are known by the sizes of their arguments and results.
+LOCAL = {((4,) * 5, ()): "const_hex_decoder_fail", ((4,) * 4, ()): "const_hex_kernel_fill",
+         ((4,) * 3, (4,)): "const_hex_kernel_read"}
 # What a module may have beside functions, data, globals and exports.
 OTHERS = (")", "(module", "(type", "(memory (;0;) 1 1)")
 Data = namedtuple("Data", "address content")
@@ -50,9 +53,8 @@ def read(data):
     # Each part begins in a line with two spaces, and the instructions of a function follow.
     for part in re.split(r"\n  (?=\()", made.stdout.decode().rstrip().removesuffix(")")):
         _add(module, part if part.startswith("(data") else re.sub(r" *;;.*", "", part))
-    # Local functions have no names. This one is known by its type.
-    module.symbols |= {FAIL: function.address for function in module.functions
-                       if (function.parameters, function.results) == ([4] * 5, [])}
+    types = {(tuple(function.parameters), tuple(function.results)): function.address for function in module.functions}
+    module.symbols |= {name: types[sizes] for sizes, name in LOCAL.items() if sizes in types}
     return module
 
 

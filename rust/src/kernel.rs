@@ -30,13 +30,17 @@ compiled! {
     } else {
         compiled! {
             if all(target_arch = "wasm32", target_feature = "simd128", not(feature = "force-generic")) {
-                pub use crate::proved::arch::lanes16::Lanes16 as Portable;
+                mod lanes;
+                mod native;
+                use crate::proved::arch::lanes16::Lanes16 as Portable;
+                use lanes as machine_code;
+                pub use native::Native;
             } else {
                 pub use crate::proved::Plain as Portable;
+                pub use Portable as Native;
             }
         }
         use portable as unchecked;
-        pub use Portable as Native;
     }
 }
 #[cfg(feature = "alloc")]
