@@ -36,6 +36,7 @@ SIZES = {X86_64: {0: 0, **dict.fromkeys((1, 6, 7, 8, 16, 17, 18, 37), 8), 36: 16
 COPY, RELATIVE = {X86_64: 5, AARCH64: 1024}, {X86_64: 8, AARCH64: 1027}
 # Symbols: a table of them, a function that all see, a file's name, no section's number, and kinds that have a place.
 SYMBOL_TABLE, GLOBAL_FUNCTION, SOURCE_FILE, RESERVED, PLACED = 2, 0x12, 4, 0xFF00, (0, 1, 2)
+ENDS = "__bss_start", "_edata", "_end"  # the names that linkers give to ends of sections, to which nobody writes
 
 
 def read(data):
@@ -147,12 +148,15 @@ def _read_relocations(image, dynamic):
 
 def _read_exported(image, dynamic):
     """Adds functions as the loader finds them, by each table of hashes. Any symbol of such a name on the loader's way
-    has to be this function. What has another name may be what others write."""
+    has to be this function."""
     numbers_of = lambda form, symbol, offset: image.numbers(form, dynamic[SYMBOLS] + 24 * symbol + offset)
     name_of = lambda symbol: image.name_of(dynamic[STRINGS] + numbers_of("<I", symbol, 0)[0])
     tables = [(walk, dynamic[tag]) for tag, walk in ((HASH, _by_hash), (GNU_HASH, _by_gnu_hash)) if tag in dynamic]
-    for place, size in (numbers_of("<QQ", symbol, 8) for walk, table in tables for symbol in walk(image, table, b"")):
-        image.shared.append(range(place, place + max(size, 1)))
+    for symbol in (symbol for walk, table in tables for symbol in walk(image, table, b"")):
+        place, size = numbers_of("<QQ", symbol, 8)
+        # Others may write to what has another name, and to all of an address, if it is said to be less than an int.
+        if name_of(symbol) not in ENDS:
+            image.shared.append(range(place, place + (size if size > 3 else 8)))
     for name in image.names:
         symbols = [[symbol for symbol in walk(image, table, name.encode()) if name_of(symbol) == name]
                    for walk, table in tables]

@@ -30,9 +30,9 @@ BINDS = [NOTHING, NOTHING, NUMBER, NOTHING, NAME, NOTHING, NUMBER, PLACE, MOVE, 
 NO_LINK, LINKS = 0xFFFF, (2, 6)
 DEBUG, TYPE, IN_SECTION, EXPORTED, RESOLVED = 0xE0, 0xE, 0xE, 1, 0x100  # of symbols
 # Kinds of sections: variables of threads, which dyld writes, and others that are harmless: up to GB_ZEROFILL,
-# 16BYTE_LITERALS, DTRACE_DOF, and from THREAD_LOCAL_REGULAR to INIT_FUNC_OFFSETS. Some have names by which dyld, or the
-# runtime of a language, writes to them and where they say, or replaces functions.
-VARIABLES, HARMLESS_SECTIONS = 0x13, {*range(13), 14, 15, *range(0x11, 0x17)}
+# 16BYTE_LITERALS, and from THREAD_LOCAL_REGULAR to INIT_FUNC_OFFSETS. Some have names by which dyld, or the runtime of
+# a language, writes to them and where they say, or replaces functions.
+VARIABLES, HARMLESS_SECTIONS = 0x13, {*range(13), 14, *range(0x11, 0x17)}
 REFUSED_NAMES = b"__interpose", b"__dyld", b"__program_vars", b"__objc_", b"__swift"
 
 
