@@ -36,7 +36,6 @@ SIZES = {X86_64: {0: 0, **dict.fromkeys((1, 6, 7, 8, 16, 17, 18, 37), 8), 36: 16
 COPY, RELATIVE = {X86_64: 5, AARCH64: 1024}, {X86_64: 8, AARCH64: 1027}
 # Symbols: a table of them, a function that all see, a file's name, no section's number, and kinds that have a place.
 SYMBOL_TABLE, GLOBAL_FUNCTION, SOURCE_FILE, RESERVED, PLACED = 2, 0x12, 4, 0xFF00, (0, 1, 2)
-ENDS = "__bss_start", "_edata", "_end"  # the names that linkers give to ends of sections, to which nobody writes
 
 
 def read(data):
@@ -46,11 +45,10 @@ def read(data):
     end = first + 56 * count
     image = Image(data[4:6] == b"\2\1" and FORMS.get((kind, machine)), end)
     headers = [Header(*struct.unpack_from("<IIQQQQQQ", data, place)) for place in range(first, end, 56)]
-    kinds = [header.kind for header in headers]
-    for kind in kinds:
-        if kind not in SEVERAL and (kind not in ONCE or kinds.count(kind) > 1):
-            raise ValueError(f"a header of the kind {kind:#x}, twice or not known here")
     loaded, one = [header for header in headers if header.kind == LOAD], {header.kind: header for header in headers}
+    for header in headers:
+        if header.kind not in SEVERAL and (header.kind not in ONCE or one[header.kind] is not header):
+            raise ValueError(f"a header of the kind {header.kind:#x}, twice or not known here")
     for _, flags, offset, address, _, in_file, in_memory, _ in loaded:
         if flags not in KINDS or (address - offset) % image.page:
             raise ValueError(f"a segment with the flags {flags}, or at another place of a page than in the file; "
@@ -154,8 +152,8 @@ def _read_exported(image, dynamic):
     tables = [(walk, dynamic[tag]) for tag, walk in ((HASH, _by_hash), (GNU_HASH, _by_gnu_hash)) if tag in dynamic]
     for symbol in (symbol for walk, table in tables for symbol in walk(image, table, b"")):
         place, size = numbers_of("<QQ", symbol, 8)
-        # Others may write to what has another name, and to all of an address, if it is said to be less than an int.
-        if name_of(symbol) not in ENDS:
+        # Nobody writes to these ends of sections. What is said to be smaller than an int may be an address.
+        if name_of(symbol) not in ("__bss_start", "_edata", "_end"):
             image.shared.append(range(place, place + (size if size > 3 else 8)))
     for name in image.names:
         symbols = [[symbol for symbol in walk(image, table, name.encode()) if name_of(symbol) == name]
