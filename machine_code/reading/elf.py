@@ -153,7 +153,7 @@ def _read_exported(image, dynamic):
     for symbol in (symbol for walk, table in tables for symbol in walk(image, table, b"")):
         place, size = numbers_of("<QQ", symbol, 8)
         # Nobody writes to these ends of sections. What is said to be smaller than an int may be an address.
-        if name_of(symbol) not in ("__bss_start", "_edata", "_end"):
+        if size or name_of(symbol) not in ("__bss_start", "_edata", "_end"):
             image.shared.append(range(place, place + (size if size > 3 else 8)))
     for name in image.names:
         symbols = [[symbol for symbol in walk(image, table, name.encode()) if name_of(symbol) == name]
