@@ -45,11 +45,10 @@ def read(data):
     end = first + 56 * count
     image = Image(data[4:6] == b"\2\1" and FORMS.get((kind, machine)), end)
     headers = [Header(*struct.unpack_from("<IIQQQQQQ", data, place)) for place in range(first, end, 56)]
-    kinds = [header.kind for header in headers]
-    for kind in kinds:
-        if kind not in SEVERAL and (kind not in ONCE or kinds.count(kind) > 1):
-            raise ValueError(f"a header of the kind {kind:#x}, twice or not known here")
     loaded, one = [header for header in headers if header.kind == LOAD], {header.kind: header for header in headers}
+    for header in headers:
+        if header.kind not in SEVERAL and (header.kind not in ONCE or one[header.kind] is not header):
+            raise ValueError(f"a header of the kind {header.kind:#x}, twice or not known here")
     for _, flags, offset, address, _, in_file, in_memory, _ in loaded:
         if flags not in KINDS or (address - offset) % image.page:
             raise ValueError(f"a segment with the flags {flags}, or at another place of a page than in the file; "
@@ -147,12 +146,15 @@ def _read_relocations(image, dynamic):
 
 def _read_exported(image, dynamic):
     """Adds functions as the loader finds them, by each table of hashes. Any symbol of such a name on the loader's way
-    has to be this function. What has another name may be what others write."""
+    has to be this function."""
     numbers_of = lambda form, symbol, offset: image.numbers(form, dynamic[SYMBOLS] + 24 * symbol + offset)
     name_of = lambda symbol: image.name_of(dynamic[STRINGS] + numbers_of("<I", symbol, 0)[0])
     tables = [(walk, dynamic[tag]) for tag, walk in ((HASH, _by_hash), (GNU_HASH, _by_gnu_hash)) if tag in dynamic]
-    for place, size in (numbers_of("<QQ", symbol, 8) for walk, table in tables for symbol in walk(image, table, b"")):
-        image.shared.append(range(place, place + max(size, 1)))
+    for symbol in (symbol for walk, table in tables for symbol in walk(image, table, b"")):
+        place, size = numbers_of("<QQ", symbol, 8)
+        # Nobody writes to these ends of sections. What is said to be smaller than an int may be an address.
+        if size or name_of(symbol) not in ("__bss_start", "_edata", "_end"):
+            image.shared.append(range(place, place + (size if size > 3 else 8)))
     for name in image.names:
         symbols = [[symbol for symbol in walk(image, table, name.encode()) if name_of(symbol) == name]
                    for walk, table in tables]

@@ -48,13 +48,14 @@ class Image:
     def add_segment(self, data, address, size, offset, in_file, kind):
         if up(self.first + self.size, self.page) > address:
             raise ValueError(f"two segments that share a page of {self.page} bytes")
-        if not in_file <= size < 1 << 62 or len(data) < offset + in_file:
-            raise ValueError("a segment that is larger in the file than in memory, or not in it")
         # A loader takes the headers in memory for those in the file, and counts from there.
         if not self.segments and (offset or in_file < self.headers):
             raise ValueError("the headers do not lie at the start of the first segment")
         self.first = self.first if self.segments else address // self.page * self.page
         self.size = address + size - self.first
+        # Loaders count with 32 bits what lies in tables.
+        if in_file > size or self.size >> 32 or len(data) < offset + in_file:
+            raise ValueError("a segment that is larger in the file than in memory, or not in it, or ends after 4 GB")
         self.segments.append(Segment(address, size, data[offset : offset + in_file], kind))
 
     def add_symbol(self, name, place, is_plain=True):

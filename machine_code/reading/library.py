@@ -10,10 +10,6 @@ MODULE = b"\0asm"
 READERS = {b"\x7fELF": elf.read, b"\xcf\xfa\xed\xfe": mach_o.read, b"MZ": pe.read, MODULE: module.read}
 
 
-def is_module(data):
-    return data.startswith(MODULE)
-
-
 def read(data):
     """The image or the module with these bytes."""
     for first, reader in READERS.items():
@@ -31,7 +27,7 @@ def whole(data):
     """The same, if the loader finds by names what it has to find: of a module what the package uses, and of a file each
     function of the header, or none."""
     file = read(data)
-    if is_module(data):
+    if data.startswith(MODULE):
         wanted = {f"const_hex_{name}" for name, function in FUNCTIONS.items() if function.is_in_module}
         for name in sorted((file.exported | file.places.keys()) ^ (wanted | {"memory", "__data_end", "__heap_base"})):
             raise ValueError(f"the export {name!r}: it is missing, or belongs to nothing of the library")

@@ -30,19 +30,19 @@ BINDS = [NOTHING, NOTHING, NUMBER, NOTHING, NAME, NOTHING, NUMBER, PLACE, MOVE, 
 NO_LINK, LINKS = 0xFFFF, (2, 6)
 DEBUG, TYPE, IN_SECTION, EXPORTED, RESOLVED = 0xE0, 0xE, 0xE, 1, 0x100  # of symbols
 # Kinds of sections: variables of threads, which dyld writes, and others that are harmless: up to GB_ZEROFILL,
-# 16BYTE_LITERALS, DTRACE_DOF, and from THREAD_LOCAL_REGULAR to INIT_FUNC_OFFSETS. Some have names by which dyld, or the
-# runtime of a language, writes to them and where they say, or replaces functions.
-VARIABLES, HARMLESS_SECTIONS = 0x13, {*range(13), 14, 15, *range(0x11, 0x17)}
+# 16BYTE_LITERALS, and from THREAD_LOCAL_REGULAR to INIT_FUNC_OFFSETS. Some have names by which dyld, or the runtime of
+# a language, writes to them and where they say, or replaces functions.
+VARIABLES, HARMLESS_SECTIONS = 0x13, {*range(13), 14, *range(0x11, 0x17)}
 REFUSED_NAMES = b"__interpose", b"__dyld", b"__program_vars", b"__objc_", b"__swift"
 
 
 def read(data):
     machine, _, kind, count, size = struct.unpack_from("<IIIII", data, 4)
-    image, place, commands, starts, tables = Image(FORMS.get((machine, kind)), 32 + size), 32, {}, [], []
+    image, place, commands, starts, tables, parts = Image(FORMS.get((machine, kind)), 32 + size), 32, {}, [], [], []
     for _ in range(count):
         command, size = struct.unpack_from("<II", data, place)
         if command == SEGMENT:
-            starts.append(_add_segment(image, data, place))
+            starts.append(_add_segment(image, data, place, parts))
             # dyld finds its tables in the last segment of this name.
             if data.startswith(b"__LINKEDIT\0", place + 8):
                 tables.append(starts[-1] - struct.unpack_from("<Q", data, place + 40)[0])
@@ -68,13 +68,14 @@ def read(data):
             image.add_symbol(name.removeprefix("_"), place, kind & TYPE == IN_SECTION and not flags & RESOLVED)
             image.shared += [range(place, place + 8)] if kind & EXPORTED else []
     _read_exported(image, table(*commands.get(TRIE, info[8:])) or bytes(2))
+    # No name says how large a variable is. It may be as large as its section.
+    image.shared += [part for part in parts if any(variable.start in part for variable in image.shared)]
     return image
 
 
-def _add_segment(image, data, command):
-    """Adds a segment, if it is in memory, and gives where it begins."""
-    address, in_memory, offset, in_file, _, protection, count, flags = struct.unpack_from(
-        "<QQQQIIII", data, command + 24)
+def _add_segment(image, data, command, parts):
+    """Adds a segment, if it is in memory, and its sections to the parts, and gives where it begins."""
+    address, in_memory, offset, in_file, _, protection, count, flags = struct.unpack_from("<4Q4I", data, command + 24)
     kind = KINDS.get((protection, flags), "unknown")
     if kind == "unknown" or address % image.page or offset % image.page or kind == WRITTEN and in_file % image.page:
         raise ValueError(f"a segment that is {protection}, {flags}, or is no whole pages in the file or in memory")
@@ -86,8 +87,10 @@ def _add_segment(image, data, command):
     for section in range(command + 72, command + 72 + 80 * count, 80):
         if data[section + 64] not in HARMLESS_SECTIONS or data.startswith(REFUSED_NAMES, section):
             raise ValueError("a section of a kind that is not known here, or by which others are written or replaced")
+        start, size = struct.unpack_from("<QQ", data, section + 32)
+        parts.append(range(start, start + size))
         if data[section + 64] == VARIABLES:
-            image.change(*struct.unpack_from("<QQ", data, section + 32), FIXED_UP)
+            image.change(start, size, FIXED_UP)
     return address
 
 

@@ -8,11 +8,9 @@ import re
 import subprocess
 from collections import namedtuple
 
-SIZES = {"i32": 4, "i64": 8, "v128": 16}
-SPACE = 1 << 32
+SIZES, SPACE = {"i32": 4, "i64": 8, "v128": 16}, 1 << 32
 # Local functions have no names. These are known by the sizes of their arguments and results.
-LOCAL = {((4,) * 5, ()): "const_hex_decoder_fail", ((4,) * 4, ()): "const_hex_kernel_fill",
-         ((4,) * 3, (4,)): "const_hex_kernel_read"}
+LOCAL = {"const_hex_decoder_fail": ([4] * 5, []), "const_hex_kernel_read": ([4] * 3, [4])}
 # What a module may have beside functions, data, globals and exports.
 OTHERS = (")", "(module", "(type", "(memory (;0;) 1 1)")
 Data = namedtuple("Data", "address content")
@@ -53,8 +51,8 @@ def read(data):
     # Each part begins in a line with two spaces, and the instructions of a function follow.
     for part in re.split(r"\n  (?=\()", made.stdout.decode().rstrip().removesuffix(")")):
         _add(module, part if part.startswith("(data") else re.sub(r" *;;.*", "", part))
-    types = {(tuple(function.parameters), tuple(function.results)): function.address for function in module.functions}
-    module.symbols |= {name: types[sizes] for sizes, name in LOCAL.items() if sizes in types}
+    module.symbols |= {name: function.address for function in module.functions for name, sizes in LOCAL.items()
+                       if (function.parameters, function.results) == sizes}
     return module
 
 

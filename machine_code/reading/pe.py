@@ -4,7 +4,7 @@ table of names."""
 
 import struct
 
-from reading.image import AARCH64, CODE, CONSTANTS, WRITTEN, X86_64, Image, up
+from reading.image import AARCH64, CODE, CONSTANTS, X86_64, Image, up
 
 PAGE, IN_FILE = 1 << 12, 512
 FORMS = {0x8664: (X86_64, PAGE), 0xAA64: (AARCH64, PAGE)}  # by a processor
@@ -12,19 +12,17 @@ FORMS = {0x8664: (X86_64, PAGE), 0xAA64: (AARCH64, PAGE)}  # by a processor
 # entries of DEBUG: CODEVIEW, VC_FEATURE, POGO, ILTCG, REPRO. With others, the loader writes elsewhere, or does more.
 EXPORTS, IMPORTS, RELOCATIONS, DEBUG, THREADS, ADDRESSES = READ = 0, 1, 5, 6, 9, 12
 TABLES, HARMLESS, HARMLESS_ENTRIES = 16, (2, 3, 4), {2, 12, 13, 14, 16}
-# What a section is, by its flags without those that mean nothing here: what it has, and how it was aligned. In others
-# nothing is known.
-KINDS = {0x60000000: CODE, 0x40000000: CONSTANTS, 0xC0000000: WRITTEN, 0xC0000080: WRITTEN}
-NO_MEANING, OTHER, HEADERS = 0x00F00060, "other", "headers"
-ALL = CODE, CONSTANTS, WRITTEN, OTHER
+# What a section is, by its flags without those that mean nothing here: what it has, and how it was aligned. Of others
+# nothing is known. No byte is kept in any, since the functions for C are for ELF and Mach-O alone.
+KINDS, NO_MEANING, HEADERS = {0x60000000: CODE, 0x40000000: CONSTANTS}, 0x00F00060, "headers"
+ALL = CODE, CONSTANTS, None
 PADDING, ADDRESS = 0, 10  # kinds of relocations
-NOT_MOVED = 1  # in the form of a file, which has no relocations
 EXTERNAL, STATIC = 2, 3  # kinds of symbols
 
 
 def read(data):
     [start] = struct.unpack_from("<I", data, 60)
-    machine, count, _, symbols, symbols_count, size, form = struct.unpack_from("<HHIIIHH", data, start + 4)
+    machine, count, _, symbols, symbols_count, size = struct.unpack_from("<HHIIIH", data, start + 4)
     table, is_known = start + 24 + size, (data[start:][:4], data[start + 24 :][:2]) == (b"PE\0\0", b"\x0b\x02")
     image = Image(is_known and FORMS.get(machine), table + 40 * count)
     base, alignment, in_file = struct.unpack_from("<QII", data, start + 48)
@@ -39,7 +37,7 @@ def read(data):
             raise ValueError("a section with more pages in the file than in memory")
         # An offset of 0 means that nothing is read from the file.
         image.add_segment(data, address, in_memory, offset, offset and min(size, in_memory),
-                          KINDS.get(flags & ~NO_MEANING, OTHER))
+                          KINDS.get(flags & ~NO_MEANING))
     tables = [struct.unpack_from("<II", data, start + 136 + 8 * number) for number in range(TABLES)]
     if tables_count != TABLES or any(where and number not in (*READ, *HARMLESS)
                                      for number, (where, _) in enumerate(tables)):
@@ -49,9 +47,8 @@ def read(data):
     numbers = image.numbers("<Q", threads, ALL) if threads else ()
     places = _read_relocations(image, *tables[RELOCATIONS])
     for number in numbers:
-        if not (threads in places or form & NOT_MOVED):
+        if threads not in places:
             raise ValueError("a number for threads at an address that is not relocated")
-        _change(image, threads, 0 if threads in places else 8)
         _change(image, number - base, 4)
     _read_imports(image, tables[IMPORTS][0])
     if tables[ADDRESSES][0]:
@@ -61,7 +58,8 @@ def read(data):
     if not kinds <= HARMLESS_ENTRIES or data.startswith(b"Wine ", 64):
         raise ValueError("calls may be compared with returns (CET), or Wine may load another file by this name")
     _read_symbols(image, data, symbols, symbols_count, [section[2] for section in sections])
-    _read_exports(image, *tables[EXPORTS])
+    if tables[EXPORTS][0]:
+        _read_exports(image, *tables[EXPORTS])
     return image
 
 
@@ -95,6 +93,8 @@ def _read_relocations(image, address, size):
 def _read_imports(image, address):
     """For each file, the loader writes an address for each name in a table."""
     while address and any(row := image.numbers("<IIIII", address, ALL)):
+        if row[1] or row[2]:
+            raise ValueError("imports that are bound, of which some loaders write others")
         place, names = row[4], row[0] or row[4]
         while any(image.numbers("<Q", names, ALL)):
             _change(image, place, 8)
@@ -106,8 +106,6 @@ def _read_imports(image, address):
 
 def _read_exports(image, address, size):
     """Adds functions as the loader finds them, in a table of names that is sorted."""
-    if not address:
-        return
     limit, count, places, names, numbers = image.numbers("<IIIII", address + 20)
     names = [image.name_of(name) for name in image.numbers(f"<{count}I", names)]
     if names != sorted(set(names)):

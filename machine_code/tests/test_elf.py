@@ -136,6 +136,8 @@ CHANGED = [
     ("code at another place of a page", segment(5, offset=lambda old: old + 16), "", "another place of a"),
     ("constants that end early", segment(4, start=PAGE, in_file=1), FILL, WRITTEN),
     ("a segment larger than in memory", segment(5, in_memory=1), "", "larger in the file"),
+    # The number of a symbol that lies so far away begins at 0 again.
+    ("a segment of 4 GB", segment(6, in_memory=1 << 32), "", "ends after 4 GB"),
     ("a segment with random bytes", put("<I", STACK, 0x65A3DBE6), "", "a header of the kind 0x65a3dbe6"),
     ("a second table for the loader", put("<I", STACK, 2), "", "a header of the kind 0x2, twice"),
     ("other notes in the file", segment(4, 4, in_file=0), "", NOTE),
@@ -233,7 +235,7 @@ CHANGED_MORE = [
 C, DISPATCH, FALSE = "functions_x86_64", "dispatch", "mov $1, %eax; ret"
 SCRIPT, OTHER = "-Wl,--version-script=/dev/stdin", ".globl other; .type other, @function; other: ret"
 HIDDEN, WRONG = "hidden SYMBOL(const_hex_check_nonnull)", "is left out|must|head of a loop|a register|an address"
-END, OF_OTHERS = f"\tend SYMBOL({VERSION})", ".globl optind; .set optind, choice; .type optind"
+END, OF_OTHERS = f"\tend SYMBOL({VERSION})", ".globl optind; .set optind, choice - 3; .type optind"
 # What is linked, and of which function: options, lines of files that have another text, more of a source, and a script.
 LINKED = [
     ("a function that others may replace", "const_hex_check", [],
@@ -258,6 +260,7 @@ LINKED = [
      f".globl other; .symver other, {VERSION}@V1; .type other, @function; other: {FALSE}",
      "V1 {}; V2 { const_hex_*; };", "or a version"),
     ("versions", "", [SCRIPT], [], "", "V1 { const_hex_*; };", "or a version"),
+    ("a choice where sections end, as by gold", CHECK, ["-fuse-ld=gold"], [], "", "", "accepted"),
     ("versions of others", VERSION, [SCRIPT], [], OTHER, "V1 { other; };", "accepted"),
     ("a function that is not exported", "", [SCRIPT], [], "", "{ local: const_hex_check_raw; };",
      "the loader does not find const_hex_check_raw"),

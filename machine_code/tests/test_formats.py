@@ -125,9 +125,9 @@ def imported(name, zeros=0, names=None):
 # Where the first exported function lies, and what says where the loader writes a number for threads.
 EXPORTED = lambda file: file.offset(number_at(content(0, 28))(file))
 THREADS = lambda file: file.numbers("<I", file.table(9))[0] + 16
-NOT_RELOCATED, NOT_MOVED = put("<II", lambda file: file.table(5), 0, 0), head("<H", 22, 1)
 PES = [
     ("nothing", lambda file: None, "accepted"),
+    ("a byte that is kept, which others may write", lambda file: None, NO_CHOICE, ".bss"),
     ("constants that can be written", section(".rdata", 36, lambda flags: flags | 1 << 31), NO_CONSTANT),
     ("constants that are not in the file", section(".rdata", 36, lambda flags: flags | 0x80), NO_CONSTANT),
     ("code that can be written", section(".text", 36, lambda flags: flags | 1 << 31), NO_CODE),
@@ -158,10 +158,7 @@ PES = [
         file.numbers("<Q", file.head + 48)[0] + place_of(file, CONSTANT_OF_FILL))), NO_CONSTANT),
     ("a number for threads at an unknown place", base_relocation(THREADS, 4), "twice"),
     ("a number for threads where an import says", imported(THREADS), "twice"),
-    ("a number for threads that is not relocated", NOT_RELOCATED, "that is not relocated"),
-    ("a number for threads in a file that stays", lambda file: NOT_RELOCATED(file) or NOT_MOVED(file), "accepted"),
-    ("a number for threads where an import says in a file that is not moved",
-     lambda file: imported(THREADS)(file) or NOT_RELOCATED(file) or NOT_MOVED(file), "twice"),
+    ("a number for threads that is not relocated", put("<II", lambda file: file.table(5), 0, 0), "not relocated"),
     *((f"a table for debuggers with an entry of the kind {kind}", lambda file, kind=kind: (
         put("<II", file.table(6), 4096, 28)(file), put("<I", file.numbers("<I", file.section(".text") + 20)[0] + 12,
                                                        kind)(file)), wanted)
@@ -169,6 +166,7 @@ PES = [
     ("a file for which Wine may load another one", put("<16s", 64, b"Wine builtin DLL"), "Wine may load another"),
     ("no imports", put("<II", lambda file: file.table(1), 0, 0), "accepted"),
     ("imports over zeros", imported(CONSTANT_OF_FILL, zeros=16), NO_CONSTANT),
+    *((f"imports that are bound by number {more}", put("<I", content(1, more), 1), "are bound") for more in (4, 8)),
     ("imports without names", imported(CONSTANT_OF_FILL, names=0), NO_CONSTANT),
     ("imports in two sections", lambda file: (section(".xdata", 8, lambda old: 4096)(file),
                                               put("<I", content(1, 16), place_of(file, ".bss") - 8)(file)), MUST_NOT),
@@ -296,7 +294,7 @@ MACH_OS = [
     ("a second tree of names", lambda file: file.add(0x80000033, bytes(8)), TABLES),
     ("tables for dyld that are written", lambda file: file.append(bytes(-len(file) % 4096)) and segment(
         "__LINKEDIT", 56, "<II", 3, 3)(file), NOWHERE),
-    ("functions that replace others", segment("__DATA", 136, "<B", 13), REPLACE),
+    *((f"a section of the kind {kind}", segment("__DATA", 136, "<B", kind), REPLACE) for kind in (13, 15)),
     *((f"a section by the name {name}", segment("__DATA", 72, "<16s", name.encode()), REPLACE)
       for name in ("__interpose", "__dyld", "__program_vars", "__objc_classlist", "__swift5_types")),
     ("a choice in a variable of threads", segment("__DATA", 216, "<B", 0x13), NO_CHOICE),
@@ -304,8 +302,7 @@ MACH_OS = [
     ("code that is encrypted", segment("__TEXT", 68, "<I", 8), "a segment that is 5, 8"),
     ("a segment by the name of the first one", segment("__DATA", 8, "<16s", b"__TEXT"), "has to be __TEXT"),
     ("a choice that is closed", segment("__DATA", 68, "<I", 16), NO_CHOICE),
-    ("a segment in a page", segment("__DATA", 24, "<Q", 0x4010), PAGES),
-    ("a segment in a page of the file", segment("__DATA", 40, "<Q", 0x4010), PAGES),
+    *((f"a segment in a page, by number {at}", segment("__DATA", at, "<Q", 0x4010), PAGES) for at in (24, 40)),
     ("a segment that ends in a page", segment("__DATA", 48, "<Q", 16), PAGES),
     ("pages of 16 KB", segment("__DATA", 24, "<Q", 0x5000), PAGES, "arm64"),
     ("code from elsewhere in the file", segment("__TEXT", 40, "<Q", 4096), "start of the first"),
@@ -333,7 +330,7 @@ MACH_OS = [
     ("a branch that is missing", put("<B", edge("version"), ord("x")), NOT_FOUND),
     ("a function of another library", put("<B", node("version", 1), 8), OTHER_KIND),
     ("another function in the tree", put("<B", node("version", 2), 128), OTHER_KIND),
-    ("a choice in the tree", put("<B", node("shown", 2), lambda file: file.value("choice") & 127 | 128), NO_CHOICE),
+    ("a choice beside a variable", put("<B", node("shown", 2), lambda file: file.value("_more") & 127 | 128), NO_CHOICE),
     ("a choice that others see", put("<B", lambda file: file.symbol("choice") + 4, 15), NO_CHOICE),
     ("a name for a debugger", symbol("<B", 4, 0x24), "accepted"),
     ("a name from elsewhere", symbol("<B", 4, 1), "accepted"),
@@ -366,10 +363,10 @@ class TestPe(unittest.TestCase):
     def setUpClass(cls):
         cls.right = linked_for_windows()
 
-    def refuse(self, change, wanted):
+    def refuse(self, change, wanted, kept=None):
         file = Pe(self.right)
         change(file)
-        self.assertRegex(read(bytes(file), FILL, CONSTANT_OF_FILL), wanted)
+        self.assertRegex(read(bytes(file), FILL, CONSTANT_OF_FILL, kept and place_of(file, kept)), wanted)
 
     def test_another_function_by_the_name_of_a_kernel(self):
         with self.assertRaisesRegex(ValueError, f"{FILL} {OTHER_KIND}"):

@@ -31,10 +31,8 @@ compiled! {
         compiled! {
             if all(target_arch = "wasm32", target_feature = "simd128", not(feature = "force-generic")) {
                 mod lanes;
-                mod native;
                 use crate::proved::arch::lanes16::Lanes16 as Portable;
-                use lanes as machine_code;
-                pub use native::Native;
+                pub use lanes::Native;
             } else {
                 pub use crate::proved::Plain as Portable;
                 pub use Portable as Native;

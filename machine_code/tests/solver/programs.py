@@ -140,7 +140,7 @@ def prove(content, call, contracts=KERNELS, name=None, which=slice(None)):
     contract = next(contract for contract in contracts
                     if contract.function == call and contract.name == (name or contract.name))
     symbols = [symbol for symbol in library.read(content).symbols
-               if re.fullmatch(contract.symbol if not library.is_module(content) else
+               if re.fullmatch(contract.symbol if not content.startswith(library.MODULE) else
                              contract.symbol.removesuffix("_nonnull"), symbol)]
     require(len(symbols) == 1, f"{len(symbols)} functions {contract.symbol}")
     return proofs.prove(content, symbols[0], contract, which)

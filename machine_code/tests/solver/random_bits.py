@@ -117,7 +117,7 @@ def is_equal(file, content):
     with tempfile.TemporaryDirectory() as folder:
         copy = pathlib.Path(folder, "libconst_hex.so.1")
         copy.write_bytes(content)
-        if library.is_module(content):
+        if content.startswith(library.MODULE):
             return subprocess.run(["node", SAME, file, copy], stdout=subprocess.DEVNULL, timeout=TO_RUN).returncode == 0
         machine = library.read(content).machine
         compiler, runner = TOOLS[machine]
@@ -134,7 +134,7 @@ def task(job):
     file, seed = job
     some, content = random.Random(seed), pathlib.Path(file).read_bytes()
     signal.signal(signal.SIGPROF, stop)
-    change = changed_module if library.is_module(content) else changed_library
+    change = changed_module if content.startswith(library.MODULE) else changed_library
     content, what, contracts = change(content, some)
     try:
         # Again each second, since a guess goes on after a refusal.

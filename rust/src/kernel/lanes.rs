@@ -1,25 +1,44 @@
-//! The functions of `machine_code` for WebAssembly with vectors, by the kernel of 16 lanes.
-//!
-//! Two are not inlined: so `machine_code` in the repository proves each once, and takes its contract where it is called.
+//! The kernel for WebAssembly with vectors.
 
 use super::Portable;
 use crate::proved::Kernel;
 use core::slice::{from_raw_parts, from_raw_parts_mut};
 
-#[inline(never)]
-pub unsafe fn fill(bytes: *const u8, length: usize, upper: u32, text: *mut u8) {
-    // SAFETY: the caller has a slice of so many bytes, and one of two digits for each.
-    unsafe { Portable::fill(from_raw_parts(bytes, length), upper != 0, from_raw_parts_mut(text, 2 * length)) }
+/// The kernel of 16 lanes, which decodes by a function of its own.
+pub struct Native;
+
+impl Kernel for Native {
+    const USE_CHECK_FN: bool = Portable::USE_CHECK_FN;
+
+    const PIECE: usize = Portable::PIECE;
+
+    #[inline(always)]
+    fn fill(input: &[u8], upper: bool, output: &mut [u8]) {
+        Portable::fill(input, upper, output);
+    }
+
+    #[inline(always)]
+    fn check(input: &[u8]) -> bool {
+        Portable::check(input)
+    }
+
+    #[inline(always)]
+    fn decode_checked(input: &[u8], output: &mut [u8]) -> bool {
+        assert!(input.len() == output.len() << 1);
+        // SAFETY: the input has two bytes for each byte of the output.
+        unsafe { read(input.as_ptr(), output.as_mut_ptr(), output.len()) }
+    }
+
+    #[inline(always)]
+    fn decode_unchecked(input: &[u8], output: &mut [u8]) {
+        Portable::decode_unchecked(input, output);
+    }
 }
 
-#[inline(always)]
-pub unsafe fn check(text: *const u8, length: usize) -> bool {
-    // SAFETY: the caller has a slice of so many bytes.
-    Portable::check(unsafe { from_raw_parts(text, length) })
-}
-
+/// Decodes so many bytes, for which the text has two bytes each, and both are slices.
+// Not inlined: so `machine_code` in the repository proves it once, and takes its contract where it is called.
 #[inline(never)]
-pub unsafe fn read(text: *const u8, bytes: *mut u8, length: usize) -> bool {
-    // SAFETY: the caller has a slice of so many bytes, and one of two characters for each.
+unsafe fn read(text: *const u8, bytes: *mut u8, length: usize) -> bool {
+    // SAFETY: the caller promises that.
     unsafe { Portable::decode_checked(from_raw_parts(text, 2 * length), from_raw_parts_mut(bytes, length)) }
 }
