@@ -8,7 +8,7 @@ CALL_READ, STACK = "call SYMBOL(const_hex_kernel_read)", "the stack of a functio
 # An instruction that no other function of the module has than what searches in a chunk.
 SEARCH = "i32.store8 offset=5"
 # After a chunk was decoded that has some digits; and the starts where no digit waits: with an output, and with none.
-DECODED, LATER, LATER_WITHOUT_SPACE = "local.get 12; i32.eqz; br_if 0", slice(4, 5), slice(11, 12)
+DECODED, LATER, LATER_WITHOUT_SPACE = "local.get 1; i32.eqz; br_if 7", slice(4, 5), slice(11, 12)
 # Of three bytes, the second is written first, if what comes before is digits.
 HOLE = (f"cmp rdx,3; jne 98f; push rdi; push rsi; push rdx; push rdx; mov esi,2; {CALL_CHECK}; test al,al; je 97f; "
         f"mov rdi,[rsp+24]; mov rsi,[rsp+16]; add rdi,2; inc rsi; mov edx,1; {CALL_READ}; 97: pop rdx; pop rdx; "
@@ -127,10 +127,10 @@ WRONG = [
         ("an empty text at no place", "local.get 3; i32.const 65537; i32.lt_u"))),
     *((f"a selection by {what}", "wasm", "decoder_update", DECODED, f"{DECODED}; i32.const 7; i32.const 8; {place}; "
        "i32.load8_u; i32.const 57; i32.gt_u; select; local.set 4", SECRET, None, None, LATER) for what, place in (
-        ("a digit that does not wait", "local.get 1; local.get 12; i32.add; i32.const 1; i32.sub"),
-        ("another digit", "local.get 1"))),
+        ("a digit that does not wait", "local.get 11; local.get 1; i32.add; i32.const 1; i32.sub"),
+        ("another digit", "local.get 11"))),
 ]
 # A length that is passed is a number of 32 bits.
-RIGHT = [("a length by a sum", "wasm", "decoder_update", "local.get 1; local.get 12; call 7",
-          "local.get 1; local.get 12; i32.const -1; i32.add; i32.const 1; i32.add; call 7", None, None, None,
+RIGHT = [("a length by a sum", "wasm", "decoder_update", "local.get 11; local.get 1; call 6",
+          "local.get 11; local.get 1; i32.const -1; i32.add; i32.const 1; i32.add; call 6", None, None, None,
           LATER_WITHOUT_SPACE)]
