@@ -40,34 +40,16 @@ mod theirs {
         let Err(reason) = result else { return true };
         if let Some(error) = error.as_mut() {
             *error = match reason {
-                OddLength => Error {
-                    kind: 1,
-                    byte: 0,
-                    index: 0,
-                },
-                InvalidStringLength => Error {
-                    kind: 2,
-                    byte: 0,
-                    index: 0,
-                },
-                InvalidHexCharacter { c, index } => Error {
-                    kind: 3,
-                    byte: c.into(),
-                    index,
-                },
+                OddLength => Error { kind: 1, byte: 0, index: 0 },
+                InvalidStringLength => Error { kind: 2, byte: 0, index: 0 },
+                InvalidHexCharacter { c, index } => Error { kind: 3, byte: c.into(), index },
             };
         }
         false
     }
 
     #[inline(never)]
-    pub unsafe extern "C" fn encode(
-        first: *const u8,
-        length: usize,
-        text: *mut u8,
-        size: usize,
-        flags: u32,
-    ) -> bool {
+    pub unsafe extern "C" fn encode(first: *const u8, length: usize, text: *mut u8, size: usize, flags: u32) -> bool {
         let (bytes, text) = (bytes(first, length), space(text, size));
         let (prefix, end) = (usize::from(flags & 2 != 0), usize::from(flags & 4 == 0));
         let size = 2 * length + 2 * prefix;
@@ -97,10 +79,7 @@ mod theirs {
         size: usize,
         error: *mut Error,
     ) -> bool {
-        told(
-            const_hex::decode_to_slice(bytes(text, length), space(output, size)),
-            error,
-        )
+        told(const_hex::decode_to_slice(bytes(text, length), space(output, size)), error)
     }
 
     #[inline(never)]
@@ -113,8 +92,7 @@ mod theirs {
         error: *mut Error,
     ) -> bool {
         let (text, output) = (bytes(text, length), space(output, size));
-        let count =
-            (length - 2 * usize::from(text.starts_with(b"0x") || text.starts_with(b"0X"))) / 2;
+        let count = (length - 2 * usize::from(text.starts_with(b"0x") || text.starts_with(b"0X"))) / 2;
         let decoded = match output.get_mut(..count) {
             Some(output) => const_hex::decode_to_slice(text, output),
             None => Err(InvalidStringLength),
@@ -141,21 +119,9 @@ mod ours {
 
     extern "C" {
         #[link_name = "const_hex_encode"]
-        pub fn encode(
-            bytes: *const u8,
-            length: usize,
-            text: *mut u8,
-            size: usize,
-            flags: u32,
-        ) -> bool;
+        pub fn encode(bytes: *const u8, length: usize, text: *mut u8, size: usize, flags: u32) -> bool;
         #[link_name = "const_hex_decode_exact"]
-        pub fn decode_exact(
-            text: *const u8,
-            length: usize,
-            bytes: *mut u8,
-            size: usize,
-            error: *mut Error,
-        ) -> bool;
+        pub fn decode_exact(text: *const u8, length: usize, bytes: *mut u8, size: usize, error: *mut Error) -> bool;
         #[link_name = "const_hex_decode"]
         pub fn decode(
             text: *const u8,

@@ -8,9 +8,7 @@ pub use libraries::cases;
 use std::time::{Duration, Instant};
 
 /// The numbers of bytes that are encoded, or decoded to.
-pub const SIZES: [usize; 13] = [
-    1, 4, 16, 20, 32, 33, 64, 65, 128, 256, 2048, 16_384, 131_072,
-];
+pub const SIZES: [usize; 13] = [1, 4, 16, 20, 32, 33, 64, 65, 128, 256, 2048, 16_384, 131_072];
 
 /// One call of one library, on input of one size.
 pub struct Case {
@@ -28,12 +26,7 @@ impl Case {
         size: usize,
         prepare: impl Fn() -> F + 'static,
     ) -> Case {
-        Case {
-            call,
-            library,
-            size,
-            prepare: Box::new(move || Box::new(prepare())),
-        }
+        Case { call, library, size, prepare: Box::new(move || Box::new(prepare())) }
     }
 
     /// Makes the call so many times, and returns how long that took.

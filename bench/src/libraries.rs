@@ -5,15 +5,9 @@ use std::hint::black_box;
 
 /// Every call of every library, for `size` bytes. Those of const-hex and const-hex-proved take turns.
 pub fn cases(size: usize) -> Vec<Case> {
-    let bytes: Vec<u8> = (0..size)
-        .map(|i| (i.wrapping_mul(2_654_435_761) >> 7) as u8)
-        .collect();
+    let bytes: Vec<u8> = (0..size).map(|i| (i.wrapping_mul(2_654_435_761) >> 7) as u8).collect();
     let text = const_hex::encode(&bytes).into_bytes();
-    let mut cases = Cases {
-        bytes,
-        text,
-        list: Vec::new(),
-    };
+    let mut cases = Cases { bytes, text, list: Vec::new() };
     macro_rules! both {
         ($calls:ident $($argument:tt)*) => {
             $calls!(const_hex, "const-hex", cases $($argument)*);
@@ -39,13 +33,7 @@ pub fn cases(size: usize) -> Vec<Case> {
 }
 
 /// The texts that are decoded: what is added to a call's name.
-const TEXTS: [&str; 5] = [
-    "",
-    ", a prefix",
-    ", first character invalid",
-    ", last character invalid",
-    ", odd length",
-];
+const TEXTS: [&str; 5] = ["", ", a prefix", ", first character invalid", ", last character invalid", ", odd length"];
 
 /// The cases for bytes, and for texts that are made of their text in lowercase.
 pub(crate) struct Cases {
@@ -85,12 +73,8 @@ impl Cases {
             }
             let (call, size) = (format!("{call}{kind}"), self.bytes.len());
             match run(&text, &mut vec![0; size]).is_ok() {
-                true => self.add(&call, library, text, size, move |text, bytes| {
-                    run(text, bytes).ok().unwrap()
-                }),
-                false => self.add(&call, library, text, size, move |text, bytes| {
-                    run(text, bytes).err().unwrap()
-                }),
+                true => self.add(&call, library, text, size, move |text, bytes| run(text, bytes).ok().unwrap()),
+                false => self.add(&call, library, text, size, move |text, bytes| run(text, bytes).err().unwrap()),
             }
         }
     }
@@ -119,22 +103,14 @@ impl Cases {
 /// The calls of a crate that has the names of `hex`. `encode_hex` is that of its trait `ToHex`.
 macro_rules! with_names_of_hex {
     ($library:ident, $name:literal, $cases:ident) => {{
-        $cases.encoding("encode_to_slice", $name, |bytes, text| {
-            $library::encode_to_slice(bytes, text).unwrap()
-        });
+        $cases.encoding("encode_to_slice", $name, |bytes, text| $library::encode_to_slice(bytes, text).unwrap());
         $cases.encoding("encode", $name, |bytes, _| $library::encode(bytes));
-        $cases.decoding("decode_to_slice", $name, |text, bytes| {
-            $library::decode_to_slice(text, bytes)
-        });
+        $cases.decoding("decode_to_slice", $name, |text, bytes| $library::decode_to_slice(text, bytes));
         $cases.decoding("decode", $name, |text, _| $library::decode(text));
         #[allow(deprecated)]
-        $cases.encoding("encode_hex", $name, |bytes, _| {
-            $library::ToHex::encode_hex::<String>(&bytes)
-        });
+        $cases.encoding("encode_hex", $name, |bytes, _| $library::ToHex::encode_hex::<String>(&bytes));
         #[allow(deprecated)]
-        $cases.encoding("encode_hex to Vec<char>", $name, |bytes, _| {
-            $library::ToHex::encode_hex::<Vec<char>>(&bytes)
-        });
+        $cases.encoding("encode_hex to Vec<char>", $name, |bytes, _| $library::ToHex::encode_hex::<Vec<char>>(&bytes));
     }};
 }
 use with_names_of_hex;
@@ -142,15 +118,11 @@ use with_names_of_hex;
 /// The calls that only const-hex has, and those of its feature `serde`, with serde_json.
 macro_rules! with_names_of_const_hex {
     ($library:ident, $name:literal, $cases:ident) => {{
-        $cases.encoding("encode_upper_prefixed", $name, |bytes, _| {
-            $library::encode_upper_prefixed(bytes)
-        });
+        $cases.encoding("encode_upper_prefixed", $name, |bytes, _| $library::encode_upper_prefixed(bytes));
         $cases.decoding("check", $name, |text, _| $library::check(text));
-        $cases.decoding("check_raw", $name, |text, _| {
-            match $library::check_raw(text) {
-                true => Ok(()),
-                false => Err(()),
-            }
+        $cases.decoding("check_raw", $name, |text, _| match $library::check_raw(text) {
+            true => Ok(()),
+            false => Err(()),
         });
         $cases.decoding("const_check", $name, |text, _| $library::const_check(text));
         $cases.encoding("serialize", $name, |bytes, _| {
@@ -182,34 +154,22 @@ macro_rules! with_arrays {
         $cases.encoding("const_encode", $name, |bytes, _| {
             $library::const_encode::<$size, false>(bytes.try_into().unwrap())
         });
-        $cases.decoding("decode_to_array", $name, |text, _| {
-            $library::decode_to_array::<_, $size>(text)
-        });
-        $cases.decoding("const_decode_to_array", $name, |text, _| {
-            $library::const_decode_to_array::<$size>(text)
-        });
+        $cases.decoding("decode_to_array", $name, |text, _| $library::decode_to_array::<_, $size>(text));
+        $cases.decoding("const_decode_to_array", $name, |text, _| $library::const_decode_to_array::<$size>(text));
         let text = $cases.text.clone();
         $cases.add("check of an array", $name, text, 0, |text, _| {
             let text: &[u8; 2 * $size] = text.try_into().unwrap();
             $library::check(text).unwrap()
         });
         let text = $cases.text.clone();
-        $cases.add(
-            "decode_to_slice of arrays",
-            $name,
-            text,
-            $size,
-            |text, bytes| {
-                let (text, bytes): (&[u8; 2 * $size], &mut [u8; $size]) =
-                    (text.try_into().unwrap(), bytes.try_into().unwrap());
-                $library::decode_to_slice(text, bytes).unwrap()
-            },
-        );
+        $cases.add("decode_to_slice of arrays", $name, text, $size, |text, bytes| {
+            let (text, bytes): (&[u8; 2 * $size], &mut [u8; $size]) =
+                (text.try_into().unwrap(), bytes.try_into().unwrap());
+            $library::decode_to_slice(text, bytes).unwrap()
+        });
         let text = $cases.text.clone();
         let call = "decode_to_slice, wrong length";
-        $cases.add(call, $name, text, $size + 1, |text, bytes| {
-            $library::decode_to_slice(text, bytes).unwrap_err()
-        });
+        $cases.add(call, $name, text, $size + 1, |text, bytes| $library::decode_to_slice(text, bytes).unwrap_err());
     }};
 }
 use with_arrays;
@@ -217,19 +177,11 @@ use with_arrays;
 fn of_data_encoding(cases: &mut Cases) {
     use data_encoding::{HEXLOWER, HEXLOWER_PERMISSIVE};
     let name = "data-encoding";
-    cases.encoding("encode_to_slice", name, |bytes, text| {
-        HEXLOWER.encode_mut(bytes, text)
-    });
+    cases.encoding("encode_to_slice", name, |bytes, text| HEXLOWER.encode_mut(bytes, text));
     cases.encoding("encode", name, |bytes, _| HEXLOWER.encode(bytes));
     let (text, size) = (cases.text.clone(), cases.bytes.len());
-    cases.add(
-        "decode_to_slice",
-        name,
-        text.clone(),
-        size,
-        |text, bytes| HEXLOWER_PERMISSIVE.decode_mut(text, bytes).unwrap(),
-    );
-    cases.add("decode", name, text, 0, |text, _| {
-        HEXLOWER_PERMISSIVE.decode(text).unwrap()
+    cases.add("decode_to_slice", name, text.clone(), size, |text, bytes| {
+        HEXLOWER_PERMISSIVE.decode_mut(text, bytes).unwrap()
     });
+    cases.add("decode", name, text, 0, |text, _| HEXLOWER_PERMISSIVE.decode(text).unwrap());
 }

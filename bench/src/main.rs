@@ -43,11 +43,7 @@ const BUILDS: [(&str, &str, &str); 8] = [
     ("fat LTO", "", "--profile lto"),
     ("x86-64-v3, fat LTO", V3, "--profile lto"),
     ("portable", "", "--release --features force-generic"),
-    (
-        "portable, fat LTO",
-        "",
-        "--profile lto --features force-generic",
-    ),
+    ("portable, fat LTO", "", "--profile lto --features force-generic"),
     ("dev", "", ""),
     (IN_C, "", "--profile lto --features c"),
 ];
@@ -90,12 +86,8 @@ fn cells(only: &[String]) -> impl Iterator<Item = (String, &'static str, usize)>
 /// The cases of the named libraries, or of all, up to the number of bytes that the variable `MOST` says.
 fn chosen(only: &[String]) -> impl Iterator<Item = const_hex_bench::Case> + '_ {
     let most = env::var("MOST").ok().and_then(|most| most.parse().ok());
-    let sizes = SIZES
-        .into_iter()
-        .filter(move |size| *size <= most.unwrap_or(usize::MAX));
-    sizes
-        .flat_map(cases)
-        .filter(move |case| only.is_empty() || only.iter().any(|name| name == case.library))
+    let sizes = SIZES.into_iter().filter(move |size| *size <= most.unwrap_or(usize::MAX));
+    sizes.flat_map(cases).filter(move |case| only.is_empty() || only.iter().any(|name| name == case.library))
 }
 
 /// The calls of the shorter round, and those of the longer one.
@@ -150,13 +142,10 @@ fn count(only: &[String]) -> io::Result<Vec<u64>> {
         false => counted_by_callgrind(only)?,
     };
     // Of each case, what was counted before its first round, in it, between both, and in its second round.
-    let cells = rounds
-        .chunks_exact(4)
-        .zip(chosen(only))
-        .map(|(counted, case)| {
-            let (few, more) = calls(case.size);
-            counted[3].saturating_sub(counted[1]) / (more - few) as u64
-        });
+    let cells = rounds.chunks_exact(4).zip(chosen(only)).map(|(counted, case)| {
+        let (few, more) = calls(case.size);
+        counted[3].saturating_sub(counted[1]) / (more - few) as u64
+    });
     Ok(cells.collect())
 }
 
@@ -164,39 +153,28 @@ fn count(only: &[String]) -> io::Result<Vec<u64>> {
 fn counted_program(command: &str, only: &[String]) -> io::Result<Command> {
     let mut words = command.split(' ');
     let mut counted = Command::new(words.next().unwrap_or_default());
-    counted
-        .args(words)
-        .arg(env::current_exe()?)
-        .arg("--repeat")
-        .args(only);
+    counted.args(words).arg(env::current_exe()?).arg("--repeat").args(only);
     Ok(counted)
 }
 
 /// What callgrind counted up to each mark.
 fn counted_by_callgrind(only: &[String]) -> io::Result<Vec<u64>> {
     let path = env::temp_dir().join(format!("const-hex-bench.{}", process::id()));
-    let command = format!(
-        "valgrind -q --tool=callgrind --combine-dumps=yes --callgrind-out-file={}",
-        path.display()
-    );
+    let command = format!("valgrind -q --tool=callgrind --combine-dumps=yes --callgrind-out-file={}", path.display());
     let status = counted_program(&command, only)?.status()?;
     let dumps = fs::read_to_string(&path)?;
     fs::remove_file(&path)?;
     if !status.success() {
         return Err(io::Error::other(format!("{command}: {status}")));
     }
-    let totals = dumps
-        .lines()
-        .filter_map(|line| line.strip_prefix("totals: "));
+    let totals = dumps.lines().filter_map(|line| line.strip_prefix("totals: "));
     Ok(totals.filter_map(|total| total.parse().ok()).collect())
 }
 
 /// The lines that QEMU printed up to each mark, one for each instruction.
 fn counted_by_qemu(only: &[String]) -> io::Result<Vec<u64>> {
     let command = "qemu-aarch64 -L /usr/aarch64-linux-gnu -singlestep -d nochain,exec";
-    let mut child = counted_program(command, only)?
-        .stderr(Stdio::piped())
-        .spawn()?;
+    let mut child = counted_program(command, only)?.stderr(Stdio::piped()).spawn()?;
     let (mut rounds, mut count) = (Vec::new(), 0);
     for line in BufReader::new(child.stderr.take().unwrap()).lines() {
         let line = line?;
@@ -227,17 +205,10 @@ fn print_tables(cells: &[Cell]) {
                 libraries.push(library);
             }
         }
-        println!(
-            "\n| {call} | {} |\n|{}",
-            libraries.join(" | "),
-            "---|".repeat(libraries.len() + 1)
-        );
+        println!("\n| {call} | {} |\n|{}", libraries.join(" | "), "---|".repeat(libraries.len() + 1));
         for size in SIZES {
-            let row: Vec<String> = of_call
-                .clone()
-                .filter(|((_, _, of), _)| *of == size)
-                .map(|(_, count)| count.to_string())
-                .collect();
+            let row: Vec<String> =
+                of_call.clone().filter(|((_, _, of), _)| *of == size).map(|(_, count)| count.to_string()).collect();
             if !row.is_empty() {
                 println!("| {size} | {} |", row.join(" | "));
             }
@@ -251,9 +222,9 @@ const ABOVE: &str = "More instructions than const-hex";
 fn print_above(cells: &[Cell]) {
     println!("\n{ABOVE}:\n");
     for ((call, library, size), ours) in cells {
-        let theirs = cells.iter().find(|((of, by, at), _)| {
-            *library == "const-hex-proved" && *by == "const-hex" && of == call && at == size
-        });
+        let theirs = cells
+            .iter()
+            .find(|((of, by, at), _)| *library == "const-hex-proved" && *by == "const-hex" && of == call && at == size);
         if let Some((_, theirs)) = theirs.filter(|(_, theirs)| ours > theirs) {
             let times = *ours as f64 / *theirs as f64;
             println!("{times:.2}: {call}, {size} bytes, {ours} beside {theirs}");

@@ -29,9 +29,7 @@ impl Random {
         }
         let mut text = ["", "", "0x", "0X"][self.below(4)].as_bytes().to_vec();
         text.extend(hex::encode(self.bytes()).bytes());
-        text.iter_mut()
-            .filter(|_| self.below(2) == 0)
-            .for_each(|byte| byte.make_ascii_uppercase());
+        text.iter_mut().filter(|_| self.below(2) == 0).for_each(|byte| byte.make_ascii_uppercase());
         if self.below(2) == 0 && !text.is_empty() {
             let position = self.below(text.len());
             text[position] = [b'g', b'/', b':', b'@', b'G', b'`', b'x', self.below(256) as u8][self.below(8)];
@@ -48,10 +46,7 @@ fn in_text<T>(prefix: usize, result: Result<T, hex::FromHexError>) -> Result<T, 
     result.map_err(|error| match error {
         hex::FromHexError::OddLength => OddLength,
         hex::FromHexError::InvalidStringLength => InvalidStringLength,
-        hex::FromHexError::InvalidHexCharacter { c, index } => InvalidHexCharacter {
-            c,
-            index: index + prefix,
-        },
+        hex::FromHexError::InvalidHexCharacter { c, index } => InvalidHexCharacter { c, index: index + prefix },
     })
 }
 

@@ -81,10 +81,7 @@ fn a_full_formatter() {
 
 #[test]
 fn the_longest_message() {
-    let longest = FromHexError::InvalidHexCharacter {
-        c: '\u{80}',
-        index: usize::MAX,
-    };
+    let longest = FromHexError::InvalidHexCharacter { c: '\u{80}', index: usize::MAX };
     let message = format!("invalid character '\\u{{80}}' at position {}", usize::MAX);
     assert_eq!(longest.to_string(), message);
 }
@@ -184,10 +181,7 @@ mod owned {
             ("0x6b69", Err(FromHexError::InvalidStringLength)),
             ("0x6", Err(FromHexError::OddLength)),
         ] {
-            assert_eq!(
-                <Box<[u8; 2]> as strict::FromHex>::from_hex(text),
-                bytes.map(|bytes| Box::new(*bytes))
-            );
+            assert_eq!(<Box<[u8; 2]> as strict::FromHex>::from_hex(text), bytes.map(|bytes| Box::new(*bytes)));
             assert_eq!(strict::decode_to_array(text), bytes.copied());
             assert_eq!(strict::decode_to_slice(text, &mut [0; 2]), bytes.map(drop));
         }

@@ -78,10 +78,7 @@ fn fields() {
         bytes: Vec<u8>,
         #[serde(with = "const_hex::serde::no_prefix")]
         digits: [u8; 2],
-        #[serde(
-            serialize_with = "const_hex::serialize_upper",
-            deserialize_with = "const_hex::deserialize"
-        )]
+        #[serde(serialize_with = "const_hex::serialize_upper", deserialize_with = "const_hex::deserialize")]
         numbers: Array,
     }
     #[derive(Debug, PartialEq)]
@@ -98,11 +95,7 @@ fn fields() {
             <[i8; 2]>::from_hex(hex).map(Array)
         }
     }
-    let fields = Fields {
-        bytes: vec![1, 10, 100],
-        digits: [1, 2],
-        numbers: Array([-1, 1]),
-    };
+    let fields = Fields { bytes: vec![1, 10, 100], digits: [1, 2], numbers: Array([-1, 1]) };
     let text = r#"{"bytes":"0x010a64","digits":"0102","numbers":"0xFF01"}"#;
     assert_eq!(serde_json::to_string(&fields).unwrap(), text);
     assert_eq!(serde_json::from_str::<Fields>(text).unwrap(), fields);

@@ -50,11 +50,7 @@ fn fields() {
         #[serde(serialize_with = "hex::serialize_upper", deserialize_with = "hex::deserialize")]
         upper: Vec<u8>,
     }
-    let fields = Fields {
-        lower: vec![1, 10, 100],
-        array: [1, 2],
-        upper: vec![1, 10, 100],
-    };
+    let fields = Fields { lower: vec![1, 10, 100], array: [1, 2], upper: vec![1, 10, 100] };
     let text = r#"{"lower":"010a64","array":"0102","upper":"010A64"}"#;
     assert_eq!(serde_json::to_string(&fields).unwrap(), text);
     assert_eq!(serde_json::from_str::<Fields>(text).unwrap(), fields);

@@ -21,12 +21,7 @@ impl Folder {
         let folder = Path::new(env!("CARGO_BIN_EXE_hexfilter")).parent().unwrap();
         let path = format!("{}:{}", folder.display(), env::var("PATH").unwrap());
         let mut command = Command::new("bash");
-        let output = command
-            .args(["-c", line])
-            .current_dir(&self.0)
-            .env("PATH", path)
-            .output()
-            .unwrap();
+        let output = command.args(["-c", line]).current_dir(&self.0).env("PATH", path).output().unwrap();
         let error = String::from_utf8(output.stderr).unwrap();
         (output.status.code(), output.stdout, error)
     }
@@ -67,16 +62,8 @@ const FILES: [(&str, &str, &str); 5] = [
         "ssh-keygen -q -t ed25519 -N '' -f id_ed25519",
         "cut -d' ' -f2 id_ed25519.pub | base64 -d | openssl dgst -md5 -binary",
     ),
-    (
-        "uuid.txt",
-        "echo 6b697769-4b49-5749-8000-6b6977690000 > uuid.txt",
-        "printf 'kiwiKIWI\\x80\\0kiwi\\0\\0'",
-    ),
-    (
-        "string.txt",
-        "echo '\\x6b\\xff\\x00' > string.txt",
-        "printf 'k\\xff\\0'",
-    ),
+    ("uuid.txt", "echo 6b697769-4b49-5749-8000-6b6977690000 > uuid.txt", "printf 'kiwiKIWI\\x80\\0kiwi\\0\\0'"),
+    ("string.txt", "echo '\\x6b\\xff\\x00' > string.txt", "printf 'k\\xff\\0'"),
 ];
 
 /// Lines of the manual decode to the bytes of the file that they name. Those of the page are among them.
@@ -158,22 +145,10 @@ const ARGUMENTS: [(&str, usize, &str); 8] = [
     ("unknown option", 0, "-x|--decod|-D|-dx|---|--help=|--wrapx=1"),
     ("unknown option", 1, "-d -x|-w7 -z --y|- --z"),
     ("missing value after", 1, "-d -w|one --wrap|-p -dg|-d --separator"),
-    (
-        "invalid number",
-        0,
-        "-wd|--wrap=|--wrap=1x|--group=18446744073709551616",
-    ),
+    ("invalid number", 0, "-wd|--wrap=|--wrap=1x|--group=18446744073709551616"),
     ("invalid number", 1, "-w x|-w -1|--wrap +1|-g --"),
-    (
-        "invalid separator",
-        0,
-        "-sa|-s0|--separator=|--separator=F|-s::|--separator=ÿ",
-    ),
-    (
-        "--wrap beside --group or --separator:",
-        1,
-        "-w60 -g2|-s: -dw60|-g2 --wrap=0",
-    ),
+    ("invalid separator", 0, "-sa|-s0|--separator=|--separator=F|-s::|--separator=ÿ"),
+    ("--wrap beside --group or --separator:", 1, "-w60 -g2|-s: -dw60|-g2 --wrap=0"),
     ("second file", 1, "one two|- -|one two -x"),
 ];
 
@@ -232,22 +207,13 @@ fn statuses() {
         assert_eq!(folder.run(line), (Some(status), output.into(), error(words)), "{line}");
     };
     for (text, options, status, output, words) in INPUTS {
-        let words = if words.is_empty() {
-            String::new()
-        } else {
-            format!("standard input: {words}")
-        };
+        let words = if words.is_empty() { String::new() } else { format!("standard input: {words}") };
         check(&format!("printf '{text}' | hexfilter {options}"), status, output, words);
     }
     for (words, index, rows) in ARGUMENTS {
         for arguments in rows.split('|') {
             let named = arguments.split(' ').nth(index).unwrap();
-            check(
-                &format!("hexfilter {arguments}"),
-                2,
-                "",
-                format!("{words} \"{named}\"; try --help"),
-            );
+            check(&format!("hexfilter {arguments}"), 2, "", format!("{words} \"{named}\"; try --help"));
         }
     }
     for (line, status, output, words) in LINES {
