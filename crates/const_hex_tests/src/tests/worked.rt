@@ -165,42 +165,12 @@ fn formats<const N: usize, const DIGITS: usize, const FULL: usize>(
 #[test]
 fn buffers(rt: HostRuntime) {
     let bytes = make_bytes(rt.alloc(), 128).expect(&rt, "memory");
-    formats(
-        &rt,
-        &bytes,
-        Buffer::<1, false, 2>::new(),
-        Buffer::<1, true, 4>::new(),
-    );
-    formats(
-        &rt,
-        &bytes,
-        Buffer::<8, false, 16>::new(),
-        Buffer::<8, true, 18>::new(),
-    );
-    formats(
-        &rt,
-        &bytes,
-        Buffer::<20, false, 40>::new(),
-        Buffer::<20, true, 42>::new(),
-    );
-    formats(
-        &rt,
-        &bytes,
-        Buffer::<32, false, 64>::new(),
-        Buffer::<32, true, 66>::new(),
-    );
-    formats(
-        &rt,
-        &bytes,
-        Buffer::<64, false, 128>::new(),
-        Buffer::<64, true, 130>::new(),
-    );
-    formats(
-        &rt,
-        &bytes,
-        Buffer::<128, false, 256>::new(),
-        Buffer::<128, true, 258>::new(),
-    );
+    macro_rules! formats_each {
+        ($($count:literal $digits:literal $full:literal),+) => {
+            $(formats(&rt, &bytes, Buffer::<$count, false, $digits>::new(), Buffer::<$count, true, $full>::new());)+
+        };
+    }
+    formats_each!(1 2 4, 8 16 18, 20 40 42, 32 64 66, 64 128 130, 128 256 258);
 }
 
 #[test]
