@@ -120,10 +120,7 @@ macro_rules! with_names_of_const_hex {
     ($library:ident, $name:literal, $cases:ident) => {{
         $cases.encoding("encode_upper_prefixed", $name, |bytes, _| $library::encode_upper_prefixed(bytes));
         $cases.decoding("check", $name, |text, _| $library::check(text));
-        $cases.decoding("check_raw", $name, |text, _| match $library::check_raw(text) {
-            true => Ok(()),
-            false => Err(()),
-        });
+        $cases.decoding("check_raw", $name, |text, _| $library::check_raw(text).then_some(()).ok_or(()));
         $cases.decoding("const_check", $name, |text, _| $library::const_check(text));
         $cases.encoding("serialize", $name, |bytes, _| {
             let mut json = Vec::new();
@@ -156,20 +153,18 @@ macro_rules! with_arrays {
         });
         $cases.decoding("decode_to_array", $name, |text, _| $library::decode_to_array::<_, $size>(text));
         $cases.decoding("const_decode_to_array", $name, |text, _| $library::const_decode_to_array::<$size>(text));
-        let text = $cases.text.clone();
-        $cases.add("check of an array", $name, text, 0, |text, _| {
+        $cases.add("check of an array", $name, $cases.text.clone(), 0, |text, _| {
             let text: &[u8; 2 * $size] = text.try_into().unwrap();
             $library::check(text).unwrap()
         });
-        let text = $cases.text.clone();
-        $cases.add("decode_to_slice of arrays", $name, text, $size, |text, bytes| {
+        $cases.add("decode_to_slice of arrays", $name, $cases.text.clone(), $size, |text, bytes| {
             let (text, bytes): (&[u8; 2 * $size], &mut [u8; $size]) =
                 (text.try_into().unwrap(), bytes.try_into().unwrap());
             $library::decode_to_slice(text, bytes).unwrap()
         });
-        let text = $cases.text.clone();
-        let call = "decode_to_slice, wrong length";
-        $cases.add(call, $name, text, $size + 1, |text, bytes| $library::decode_to_slice(text, bytes).unwrap_err());
+        $cases.add("decode_to_slice, wrong length", $name, $cases.text.clone(), $size + 1, |text, bytes| {
+            $library::decode_to_slice(text, bytes).unwrap_err()
+        });
     }};
 }
 use with_arrays;
@@ -179,9 +174,8 @@ fn of_data_encoding(cases: &mut Cases) {
     let name = "data-encoding";
     cases.encoding("encode_to_slice", name, |bytes, text| HEXLOWER.encode_mut(bytes, text));
     cases.encoding("encode", name, |bytes, _| HEXLOWER.encode(bytes));
-    let (text, size) = (cases.text.clone(), cases.bytes.len());
-    cases.add("decode_to_slice", name, text.clone(), size, |text, bytes| {
+    cases.add("decode_to_slice", name, cases.text.clone(), cases.bytes.len(), |text, bytes| {
         HEXLOWER_PERMISSIVE.decode_mut(text, bytes).unwrap()
     });
-    cases.add("decode", name, text, 0, |text, _| HEXLOWER_PERMISSIVE.decode(text).unwrap());
+    cases.add("decode", name, cases.text.clone(), 0, |text, _| HEXLOWER_PERMISSIVE.decode(text).unwrap());
 }
