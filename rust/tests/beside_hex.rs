@@ -119,6 +119,7 @@ fn strict_decoding() {
         let array = in_text(0, <[u8; 4] as hex::FromHex>::from_hex(&text));
         assert_eq!(strict::decode_to_array(&text), array);
         assert_eq!(strict::FromHex::from_hex(&text), array);
+        assert_eq!(strict::FromHex::from_hex(&text), array.map(Box::new));
         let decode: Decode = |text, output| strict::decode_to_slice(text, output);
         same_slices(decode, 0, &text, random.below(200));
     }

@@ -138,7 +138,7 @@ fn an_error_of_the_standard_library() {
 mod owned {
     use super::*;
     use const_hex_proved::traits::signed;
-    use const_hex_proved::{strict, FromHex, ToHexExt};
+    use const_hex_proved::{FromHex, ToHexExt};
     use std::borrow::Cow;
     use std::rc::Rc;
     use std::sync::Arc;
@@ -167,23 +167,6 @@ mod owned {
             [i8; 4] = numbers;
             Box<[i8]> = numbers.into();
             Rc<[i8; 4]> = Rc::new(numbers);
-        }
-    }
-
-    #[test]
-    fn types_that_are_read_without_a_prefix() {
-        let invalid = |c, index| FromHexError::InvalidHexCharacter { c, index };
-        for (text, bytes) in [
-            ("6b69", Ok(b"ki")),
-            ("0x6b", Err(invalid('x', 1))),
-            ("0X69", Err(invalid('X', 1))),
-            ("6b0x", Err(invalid('x', 3))),
-            ("0x6b69", Err(FromHexError::InvalidStringLength)),
-            ("0x6", Err(FromHexError::OddLength)),
-        ] {
-            assert_eq!(<Box<[u8; 2]> as strict::FromHex>::from_hex(text), bytes.map(|bytes| Box::new(*bytes)));
-            assert_eq!(strict::decode_to_array(text), bytes.copied());
-            assert_eq!(strict::decode_to_slice(text, &mut [0; 2]), bytes.map(drop));
         }
     }
 
