@@ -1,6 +1,6 @@
 //! Printing, and the traits, at what no line of the table asks.
 
-use const_hex_proved::{check, display, FromHexError, ToHex};
+use const_hex_proved::{display, FromHexError, ToHex};
 use std::fmt::Write;
 
 /// Bytes of each kind that a signed number tells apart, and their text.
@@ -130,7 +130,7 @@ fn characters_one_by_one() {
 #[cfg(feature = "std")]
 #[test]
 fn an_error_of_the_standard_library() {
-    let error: Box<dyn std::error::Error> = Box::new(check("6").unwrap_err());
+    let error: Box<dyn std::error::Error> = Box::new(const_hex_proved::check("6").unwrap_err());
     assert_eq!(error.to_string(), "odd number of digits");
 }
 
