@@ -3,53 +3,14 @@
 //!
 //! CASES=1000000 in the environment gives the number of inputs.
 
+#[path = "../../rust/tests/random/mod.rs"]
+mod random;
+
 use const_hex as theirs;
 use const_hex_proved as ours;
+use random::Random;
 use std::env;
 use std::fmt::Debug;
-
-/// Marsaglia's xorshift, so that every run has the same inputs.
-struct Random(u64);
-
-impl Random {
-    fn next(&mut self) -> u64 {
-        self.0 ^= self.0 << 13;
-        self.0 ^= self.0 >> 7;
-        self.0 ^= self.0 << 17;
-        self.0.wrapping_mul(0x2545_F491_4F6C_DD1D) >> 16
-    }
-
-    fn below(&mut self, bound: usize) -> usize {
-        (self.next() % bound as u64) as usize
-    }
-
-    /// Mostly few bytes, sometimes some thousand.
-    fn bytes(&mut self) -> Vec<u8> {
-        let bound = [5_000, 600, 140, 140, 140, 40, 40, 40][self.below(8)];
-        (0..self.below(bound)).map(|_| self.next() as u8).collect()
-    }
-
-    /// A text of the bytes, in either case, with a prefix or without, often with a mistake.
-    fn text(&mut self, bytes: &[u8]) -> Vec<u8> {
-        let mut text = match self.below(4) {
-            0 => theirs::encode(bytes),
-            1 => theirs::encode_upper(bytes),
-            2 => theirs::encode_prefixed(bytes),
-            _ => theirs::encode_upper_prefixed(bytes).replace("0x", "0X"),
-        }
-        .into_bytes();
-        match self.below(6) {
-            0 => text = bytes.to_vec(),
-            1 => drop(text.pop()),
-            2 | 3 if !text.is_empty() => {
-                let index = self.below(text.len());
-                text[index] = [b"/:@G`gxX0 "[self.below(10)], self.next() as u8][self.below(2)];
-            }
-            _ => {}
-        }
-        text
-    }
-}
 
 /// The error of ours that an error of theirs stands for. `added` is the length of a prefix that it did not count.
 fn as_ours(error: theirs::FromHexError, added: usize) -> ours::FromHexError {
@@ -126,9 +87,10 @@ fn random_inputs() {
     let mut random = Random(0x9E37_79B9_7F4A_7C15);
     for _ in 0..count {
         let bytes = random.bytes();
-        let text = random.text(&bytes);
+        let text = random.text();
         let space = (2 * bytes.len() + random.below(3)).saturating_sub(random.below(3));
         encodes(&bytes, space);
-        decodes(&text, (bytes.len() + random.below(2)).saturating_sub(random.below(2)));
+        let space = (text.len() / 2 + random.below(2)).saturating_sub(random.below(3));
+        decodes(&text, space);
     }
 }
