@@ -1,14 +1,19 @@
-//! Instructions of one call, by valgrind's callgrind, and on AArch64 by QEMU. They do not depend on what else the
-//! machine does.
+//! Instructions of one call, by valgrind's callgrind, and on AArch64 by QEMU, which do not depend on what else the
+//! machine does; or nanoseconds.
 //!
 //!     cargo run --release                            # every call of every library
 //!     cargo run --release -- const-hex               # of these libraries alone
 //!     MOST=2048 cargo run                            # without optimization, up to so many bytes
 //!     MOST=2048 cargo run -- --builds                # where const-hex takes fewer, in each of its builds
+//!     cargo run --release -- --times                 # nanoseconds, which may also be of some libraries alone
 //!
 //! The program runs itself once, with all calls. A cell is what two rounds of calls differ by, by the number of calls.
 
-use const_hex_bench::{cases, SIZES};
+#[cfg(feature = "c")]
+mod c;
+mod libraries;
+
+use libraries::{cases, Case, SIZES};
 use std::io::{self, BufRead, BufReader};
 use std::process::{Command, ExitCode, Stdio};
 use std::{env, fs, process};
@@ -18,6 +23,11 @@ fn main() -> ExitCode {
     let done = match arguments.first().map(String::as_str) {
         Some("--repeat") => {
             repeat_all(&arguments.split_off(1));
+            Ok(())
+        }
+        Some("--times") => {
+            let only = arguments.split_off(1);
+            print_tables(&cells(&only).zip(times(&only)).collect::<Vec<_>>());
             Ok(())
         }
         Some("--builds") => {
@@ -75,8 +85,8 @@ fn print(only: &[String]) -> io::Result<()> {
     Ok(())
 }
 
-/// A call, a library and a size, and the instructions of one call.
-type Cell = ((String, &'static str, usize), u64);
+/// A call, a library and a size, and the instructions or the nanoseconds of one call.
+type Cell = ((String, &'static str, usize), f64);
 
 /// The cells of the named libraries, or of all.
 fn cells(only: &[String]) -> impl Iterator<Item = (String, &'static str, usize)> + '_ {
@@ -84,7 +94,7 @@ fn cells(only: &[String]) -> impl Iterator<Item = (String, &'static str, usize)>
 }
 
 /// The cases of the named libraries, or of all, up to the number of bytes that the variable `MOST` says.
-fn chosen(only: &[String]) -> impl Iterator<Item = const_hex_bench::Case> + '_ {
+fn chosen(only: &[String]) -> impl Iterator<Item = Case> + '_ {
     let most = env::var("MOST").ok().and_then(|most| most.parse().ok());
     let sizes = SIZES.into_iter().filter(move |size| *size <= most.unwrap_or(usize::MAX));
     sizes.flat_map(cases).filter(move |case| only.is_empty() || only.iter().any(|name| name == case.library))
@@ -104,10 +114,10 @@ fn repeat_all(only: &[String]) {
     for case in chosen(only) {
         let (few, more) = calls(case.size);
         // The first calls bind symbols, and let the allocator choose where large blocks stand.
-        case.repeat(few);
+        (case.repeat)(few);
         for count in [few, more] {
             mark();
-            case.repeat(count);
+            (case.repeat)(count);
             mark();
         }
     }
@@ -136,7 +146,7 @@ fn mark() {
 const MARK: &str = "const-hex-bench: a round begins or ends";
 
 /// Counts each cell, in the order of the cases.
-fn count(only: &[String]) -> io::Result<Vec<u64>> {
+fn count(only: &[String]) -> io::Result<Vec<f64>> {
     let rounds = match cfg!(target_arch = "aarch64") {
         true => counted_by_qemu(only)?,
         false => counted_by_callgrind(only)?,
@@ -144,9 +154,23 @@ fn count(only: &[String]) -> io::Result<Vec<u64>> {
     // Of each case, what was counted before its first round, in it, between both, and in its second round.
     let cells = rounds.chunks_exact(4).zip(chosen(only)).map(|(counted, case)| {
         let (few, more) = calls(case.size);
-        counted[3].saturating_sub(counted[1]) / (more - few) as u64
+        (counted[3].saturating_sub(counted[1]) / (more - few) as u64) as f64
     });
     Ok(cells.collect())
+}
+
+/// The nanoseconds of each cell: the least of many runs, in which the cases take turns.
+fn times(only: &[String]) -> Vec<f64> {
+    let cases: Vec<Case> = chosen(only).collect();
+    let mut least = vec![f64::MAX; cases.len()];
+    for _ in 0..1000 {
+        for (case, least) in cases.iter().zip(&mut least) {
+            let count = 1 + 20_000 / case.size;
+            let nanoseconds = (case.repeat)(count).as_nanos() as f64 / count as f64;
+            *least = least.min((10.0 * nanoseconds).round() / 10.0);
+        }
+    }
+    least
 }
 
 /// Runs this program under another, with all calls.
@@ -226,7 +250,7 @@ fn print_above(cells: &[Cell]) {
             .iter()
             .find(|((of, by, at), _)| *library == "const-hex-proved" && *by == "const-hex" && of == call && at == size);
         if let Some((_, theirs)) = theirs.filter(|(_, theirs)| ours > theirs) {
-            let times = *ours as f64 / *theirs as f64;
+            let times = ours / theirs;
             println!("{times:.2}: {call}, {size} bytes, {ours} beside {theirs}");
         }
     }
