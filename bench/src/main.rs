@@ -27,7 +27,7 @@ fn main() -> ExitCode {
         }
         Some("--times") => {
             let only = arguments.split_off(1);
-            print_tables(&cells(&only).zip(times(&only)).collect::<Vec<_>>());
+            print_tables(&chosen(&only).zip(times(&only)).collect::<Vec<_>>());
             Ok(())
         }
         Some("--builds") => {
@@ -79,19 +79,14 @@ fn run_build((name, flags, options): (&str, &str, &str)) -> io::Result<()> {
 
 /// Counts the calls of the named libraries, or of all, and prints the tables.
 fn print(only: &[String]) -> io::Result<()> {
-    let cells: Vec<Cell> = cells(only).zip(count(only)?).collect();
+    let cells: Vec<Cell> = chosen(only).zip(count(only)?).collect();
     print_tables(&cells);
     print_above(&cells);
     Ok(())
 }
 
-/// A call, a library and a size, and the instructions or the nanoseconds of one call.
-type Cell = ((String, &'static str, usize), f64);
-
-/// The cells of the named libraries, or of all.
-fn cells(only: &[String]) -> impl Iterator<Item = (String, &'static str, usize)> + '_ {
-    chosen(only).map(|case| (case.call, case.library, case.size))
-}
+/// A case, and the instructions or the nanoseconds of one call.
+type Cell = (Case, f64);
 
 /// The cases of the named libraries, or of all, up to the number of bytes that the variable `MOST` says.
 fn chosen(only: &[String]) -> impl Iterator<Item = Case> + '_ {
@@ -213,26 +208,26 @@ fn counted_by_qemu(only: &[String]) -> io::Result<Vec<u64>> {
     Ok(rounds)
 }
 
-/// Prints a table for each call, with a row for each size and a column for each library.
-fn print_tables(cells: &[Cell]) {
-    let mut calls: Vec<&String> = Vec::new();
-    for ((call, _, _), _) in cells {
-        if !calls.contains(&call) {
-            calls.push(call);
+/// These names, each once.
+fn distinct<'a>(names: impl Iterator<Item = &'a str>) -> Vec<&'a str> {
+    let mut found = Vec::new();
+    for name in names {
+        if !found.contains(&name) {
+            found.push(name);
         }
     }
-    for call in calls {
-        let of_call = cells.iter().filter(|((of, _, _), _)| of == call);
-        let mut libraries: Vec<&str> = Vec::new();
-        for ((_, library, _), _) in of_call.clone() {
-            if !libraries.contains(library) {
-                libraries.push(library);
-            }
-        }
+    found
+}
+
+/// Prints a table for each call, with a row for each size and a column for each library.
+fn print_tables(cells: &[Cell]) {
+    for call in distinct(cells.iter().map(|(case, _)| &*case.call)) {
+        let of_call = cells.iter().filter(|(case, _)| case.call == call);
+        let libraries = distinct(of_call.clone().map(|(case, _)| case.library));
         println!("\n| {call} | {} |\n|{}", libraries.join(" | "), "---|".repeat(libraries.len() + 1));
         for size in SIZES {
-            let row: Vec<String> =
-                of_call.clone().filter(|((_, _, of), _)| *of == size).map(|(_, count)| count.to_string()).collect();
+            let row = of_call.clone().filter(|(case, _)| case.size == size).map(|(_, count)| count.to_string());
+            let row: Vec<String> = row.collect();
             if !row.is_empty() {
                 println!("| {size} | {} |", row.join(" | "));
             }
@@ -245,13 +240,13 @@ const ABOVE: &str = "More instructions than const-hex";
 /// Prints each cell in which const-hex takes fewer instructions than const-hex-proved.
 fn print_above(cells: &[Cell]) {
     println!("\n{ABOVE}:\n");
-    for ((call, library, size), ours) in cells {
-        let theirs = cells
-            .iter()
-            .find(|((of, by, at), _)| *library == "const-hex-proved" && *by == "const-hex" && of == call && at == size);
-        if let Some((_, theirs)) = theirs.filter(|(_, theirs)| ours > theirs) {
-            let times = ours / theirs;
-            println!("{times:.2}: {call}, {size} bytes, {ours} beside {theirs}");
+    for (Case { call, size, .. }, ours) in cells.iter().filter(|(case, _)| case.library == "const-hex-proved") {
+        let is_theirs = |case: &Case| case.library == "const-hex" && case.call == *call && case.size == *size;
+        match cells.iter().find(|(case, _)| is_theirs(case)) {
+            Some((_, theirs)) if ours > theirs => {
+                println!("{:.2}: {call}, {size} bytes, {ours} beside {theirs}", ours / theirs)
+            }
+            _ => {}
         }
     }
 }
