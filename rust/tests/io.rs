@@ -92,7 +92,7 @@ fn errors_of_the_text() {
     for (text, error) in
         [(&b"6b0x77"[..], invalid('x', 3)), (b"6b6", FromHexError::OddLength), (b"6b69\n", invalid('\n', 4))]
     {
-        let mut reader = DecodeReader::new(Again::after(text));
+        let mut reader = DecodeReader::new(Chunks(vec![text, b"", b"77"]));
         let found = reader.read_to_end(&mut Vec::new()).unwrap_err();
         assert_eq!(inside(found), error);
         for length in [9, 0, 1] {
@@ -115,7 +115,7 @@ fn a_position_in_a_long_text() {
 /// After its end a text has nothing more, even if the other reader has.
 #[test]
 fn the_end_of_a_text() {
-    let mut reader = DecodeReader::new(Again::after(b"6b69"));
+    let mut reader = DecodeReader::new(Chunks(vec![b"6b69", b"", b"77"]));
     let mut found = Vec::new();
     assert_eq!(reader.read_to_end(&mut found).unwrap(), 2);
     assert_eq!(reader.read(&mut [0; 9]).unwrap(), 0);
@@ -224,25 +224,11 @@ fn a_writer_that_is_dropped() {
     assert_eq!(text, b"6b697769");
 }
 
-/// A reader that ends, and then has more.
-struct Again {
-    first: &'static [u8],
-    is_over: bool,
-}
+/// Reads these chunks, each by one call. After an empty one, which is the end of a text, there may be more.
+struct Chunks(Vec<&'static [u8]>);
 
-impl Again {
-    fn after(first: &'static [u8]) -> Again {
-        Again { first, is_over: false }
-    }
-}
-
-impl Read for Again {
+impl Read for Chunks {
     fn read(&mut self, output: &mut [u8]) -> io::Result<usize> {
-        if self.first.is_empty() && !self.is_over {
-            self.is_over = true;
-            self.first = b"777777";
-            return Ok(0);
-        }
-        self.first.read(output)
+        self.0.remove(0).read(output)
     }
 }
