@@ -27,17 +27,21 @@ fn printing() {
     }
 }
 
+/// A writer with space for so many characters, and the lengths of the calls, none of which follows one that has failed.
+struct Space(Option<usize>, Vec<usize>);
+
+impl Write for Space {
+    fn write_str(&mut self, text: &str) -> std::fmt::Result {
+        self.1.push(text.len());
+        self.0 = self.0.expect("no call has failed").checked_sub(text.len());
+        self.0.map(drop).ok_or(std::fmt::Error)
+    }
+}
+
 /// Each call of the formatter's writer but the last writes 4096 characters. Without bytes there is none.
 #[test]
 fn calls_of_a_formatter() {
-    struct Lengths(Vec<usize>);
-    impl Write for Lengths {
-        fn write_str(&mut self, text: &str) -> std::fmt::Result {
-            self.0.push(text.len());
-            Ok(())
-        }
-    }
-    let bytes = vec![0; 40_000];
+    let bytes = [0; 40_000];
     for (length, last, last_prefixed) in [
         (0, None, Some(2)),
         (1, Some(2), Some(4)),
@@ -49,32 +53,19 @@ fn calls_of_a_formatter() {
         (40_000, Some(2176), Some(2178)),
     ] {
         for (is_prefixed, last) in [(false, last), (true, last_prefixed)] {
-            let mut lengths = Lengths(Vec::new());
+            let mut space = Space(Some(usize::MAX), Vec::new());
             match is_prefixed {
-                false => write!(lengths, "{}", display(&bytes[..length])),
-                true => write!(lengths, "{:#}", display(&bytes[..length])),
+                false => write!(space, "{}", display(&bytes[..length])),
+                true => write!(space, "{:#}", display(&bytes[..length])),
             }
             .unwrap();
-            assert_eq!(lengths.0.pop(), last);
-            assert!(lengths.0.iter().all(|length| *length == 4096));
+            assert_eq!(space.1.pop(), last);
+            assert!(space.1.iter().all(|length| *length == 4096));
         }
     }
-}
-
-/// A formatter's error ends the printing: no call follows it.
-#[test]
-fn a_full_formatter() {
-    struct Space(Option<usize>);
-    impl std::fmt::Write for Space {
-        fn write_str(&mut self, text: &str) -> std::fmt::Result {
-            let space = self.0.expect("no call has failed");
-            self.0 = space.checked_sub(text.len());
-            self.0.map(|_| ()).ok_or(std::fmt::Error)
-        }
-    }
-    let bytes = [0; 40_000];
+    // A formatter's error ends the printing.
     for space in [0, 4095, 4096, 32_767, 32_768, 79_999, 80_000] {
-        let printed = write!(Space(Some(space)), "{}", display(bytes));
+        let printed = write!(Space(Some(space), Vec::new()), "{}", display(bytes));
         assert_eq!(printed.is_ok(), space == 80_000);
     }
 }
