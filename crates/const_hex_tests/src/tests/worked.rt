@@ -11,7 +11,7 @@ use const_hex::{
     encode_to_slice, encode_to_slice_upper, encode_to_str, encode_to_str_upper,
 };
 use const_hex_testing::texts::{invalid, make_bytes, print};
-use const_hex_testing::{Testing, Text, same, same_bytes, same_read};
+use const_hex_testing::{Testing, Text, same, same_bytes};
 use hash_hex::Hash32;
 use std::boxed::BoxedSlice;
 
@@ -41,14 +41,34 @@ fn checks(rt: HostRuntime) {
     }
 }
 
+/// An array, or an error, is as wanted.
+fn reads<const N: usize>(
+    rt: &impl Testing,
+    call: &str,
+    row: Text<'_>,
+    read: &Result<[u8; N], FromHexError>,
+    wanted: Result<&[u8], FromHexError>,
+) {
+    let found = match read {
+        Ok(bytes) => Ok(Text(bytes)),
+        Err(error) => Err(*error),
+    };
+    same!(rt, call, row; found, wanted.map(|bytes| Text(bytes)));
+}
+
 /// What each decoder of N bytes returns, and what `decode_to_slice` leaves of bytes 0xEE after an error.
 fn decodes<const N: usize>(rt: &impl Testing, text: &[u8], wanted: Result<&[u8], FromHexError>)
     requires { N ≤ 128 }
 {
     let row = Text(text);
-    same_read!(rt, "decode_to_array", row; decode_to_array::<N>(text), wanted);
-    same_read!(rt, "const_decode_to_array", row; const_decode_to_array::<N>(text), wanted);
-    same_read!(rt, "from_hex", row; <[u8; N]>::from_hex(rt.alloc(), text), wanted);
+    macro_rules! each {
+        ($($call:literal => $read:expr,)+) => { $(reads(rt, $call, row, &$read, wanted);)+ };
+    }
+    each! {
+        "decode_to_array" => decode_to_array::<N>(text),
+        "const_decode_to_array" => const_decode_to_array::<N>(text),
+        "from_hex" => <[u8; N]>::from_hex(rt.alloc(), text),
+    }
     let mut bytes = [0xEE; N];
     let done = decode_to_slice(text, &mut bytes);
     same!(rt, "decode_to_slice", row; done.err(), wanted.err());
