@@ -1,12 +1,12 @@
-// Makes dist/const_hex.js of the source and the verified module, both in src. With --module FILE it has cargo compile
-// the module anew to that file instead, which needs the target wasm32-unknown-unknown.
+// Makes dist/const_hex.js of the source and the verified module, both in src. With --module it has cargo compile the
+// module anew, which needs the target wasm32-unknown-unknown, or with --check compare that with the one in src.
 import { execFileSync } from 'node:child_process';
 import { copyFileSync, mkdirSync, readFileSync, writeFileSync } from 'node:fs';
 import { fileURLToPath } from 'node:url';
 
 const at = (path) => fileURLToPath(new URL(path, import.meta.url));
-const [option, file] = process.argv.slice(2);
-if (option === '--module') compile(file);
+const [option, check] = process.argv.slice(2);
+if (option === '--module') compile();
 else build();
 
 function build() {
@@ -18,11 +18,13 @@ function build() {
     for (const name of ['LICENSE-APACHE', 'LICENSE-MIT', 'NOTICE']) copyFileSync(at(`../${name}`), at(name));
 }
 
-function compile(path) {
+function compile() {
     const target = 'wasm32-unknown-unknown';
     // The module has no path of this machine in it.
     const remap = `target.${target}.rustflags = ['--remap-path-prefix=${at('../rust/')}=']`;
     const options = ['--quiet', '--release', '--target', target, '--config', remap];
     execFileSync('cargo', ['build', ...options], { cwd: at('../rust/capi'), stdio: 'inherit' });
-    copyFileSync(at(`../rust/capi/target/${target}/release/const_hex.wasm`), path);
+    const [made, module] = [at(`../rust/capi/target/${target}/release/const_hex.wasm`), at('src/const_hex.wasm')];
+    if (check !== '--check') copyFileSync(made, module);
+    else if (!readFileSync(made).equals(readFileSync(module))) throw new Error(`cargo makes another ${module}`);
 }

@@ -40,28 +40,16 @@ mod theirs {
         let Err(reason) = result else { return true };
         if let Some(error) = error.as_mut() {
             *error = match reason {
-                OddLength => Error {
-                    kind: 1,
-                    byte: 0,
-                    index: 0,
-                },
-                InvalidStringLength => Error {
-                    kind: 2,
-                    byte: 0,
-                    index: 0,
-                },
-                InvalidHexCharacter { c, index } => Error {
-                    kind: 3,
-                    byte: c.into(),
-                    index,
-                },
+                OddLength => Error { kind: 1, byte: 0, index: 0 },
+                InvalidStringLength => Error { kind: 2, byte: 0, index: 0 },
+                InvalidHexCharacter { c, index } => Error { kind: 3, byte: c.into(), index },
             };
         }
         false
     }
 
     #[inline(never)]
-    pub unsafe extern "C" fn encode(
+    pub unsafe extern "C" fn const_hex_encode(
         first: *const u8,
         length: usize,
         text: *mut u8,
@@ -90,21 +78,18 @@ mod theirs {
     }
 
     #[inline(never)]
-    pub unsafe extern "C" fn decode_exact(
+    pub unsafe extern "C" fn const_hex_decode_exact(
         text: *const u8,
         length: usize,
         output: *mut u8,
         size: usize,
         error: *mut Error,
     ) -> bool {
-        told(
-            const_hex::decode_to_slice(bytes(text, length), space(output, size)),
-            error,
-        )
+        told(const_hex::decode_to_slice(bytes(text, length), space(output, size)), error)
     }
 
     #[inline(never)]
-    pub unsafe extern "C" fn decode(
+    pub unsafe extern "C" fn const_hex_decode(
         text: *const u8,
         length: usize,
         output: *mut u8,
@@ -113,8 +98,7 @@ mod theirs {
         error: *mut Error,
     ) -> bool {
         let (text, output) = (bytes(text, length), space(output, size));
-        let count =
-            (length - 2 * usize::from(text.starts_with(b"0x") || text.starts_with(b"0X"))) / 2;
+        let count = (length - 2 * usize::from(text.starts_with(b"0x") || text.starts_with(b"0X"))) / 2;
         let decoded = match output.get_mut(..count) {
             Some(output) => const_hex::decode_to_slice(text, output),
             None => Err(InvalidStringLength),
@@ -125,12 +109,12 @@ mod theirs {
     }
 
     #[inline(never)]
-    pub unsafe extern "C" fn check(text: *const u8, length: usize, error: *mut Error) -> bool {
+    pub unsafe extern "C" fn const_hex_check(text: *const u8, length: usize, error: *mut Error) -> bool {
         told(const_hex::check(bytes(text, length)), error)
     }
 
     #[inline(never)]
-    pub unsafe extern "C" fn check_raw(text: *const u8, length: usize) -> bool {
+    pub unsafe extern "C" fn const_hex_check_raw(text: *const u8, length: usize) -> bool {
         const_hex::check_raw(bytes(text, length))
     }
 }
@@ -140,24 +124,15 @@ mod ours {
     use super::Error;
 
     extern "C" {
-        #[link_name = "const_hex_encode"]
-        pub fn encode(
-            bytes: *const u8,
-            length: usize,
-            text: *mut u8,
-            size: usize,
-            flags: u32,
-        ) -> bool;
-        #[link_name = "const_hex_decode_exact"]
-        pub fn decode_exact(
+        pub fn const_hex_encode(bytes: *const u8, length: usize, text: *mut u8, size: usize, flags: u32) -> bool;
+        pub fn const_hex_decode_exact(
             text: *const u8,
             length: usize,
             bytes: *mut u8,
             size: usize,
             error: *mut Error,
         ) -> bool;
-        #[link_name = "const_hex_decode"]
-        pub fn decode(
+        pub fn const_hex_decode(
             text: *const u8,
             length: usize,
             bytes: *mut u8,
@@ -165,11 +140,14 @@ mod ours {
             written: *mut usize,
             error: *mut Error,
         ) -> bool;
-        #[link_name = "const_hex_check"]
-        pub fn check(text: *const u8, length: usize, error: *mut Error) -> bool;
-        #[link_name = "const_hex_check_raw"]
-        pub fn check_raw(text: *const u8, length: usize) -> bool;
+        pub fn const_hex_check(text: *const u8, length: usize, error: *mut Error) -> bool;
+        pub fn const_hex_check_raw(text: *const u8, length: usize) -> bool;
     }
+}
+
+/// The result of a call in C.
+fn done<T, E>(is_done: bool, value: T, error: E) -> Result<T, E> {
+    is_done.then_some(value).ok_or(error)
 }
 
 /// The calls in C of a library.
@@ -179,53 +157,38 @@ macro_rules! in_c {
         const NO_NUL: u32 = 4;
         // SAFETY, of all: each pointer comes with its slice's own length, and an error may be null.
         $cases.encoding("in C: encode", $name, |bytes, text| unsafe {
-            $library::encode(bytes.as_ptr(), bytes.len(), text.as_mut_ptr(), text.len(), black_box(NO_NUL))
+            $library::const_hex_encode(bytes.as_ptr(), bytes.len(), text.as_mut_ptr(), text.len(), black_box(NO_NUL))
         });
         $cases.decoding("in C: decode_exact", $name, |text, bytes| unsafe {
-            let (mut error, output) = (Error::default(), bytes.as_mut_ptr());
-            match $library::decode_exact(text.as_ptr(), text.len(), output, bytes.len(), &mut error) {
-                true => Ok(()),
-                false => Err(error),
-            }
+            let (mut error, output, size) = (Error::default(), bytes.as_mut_ptr(), bytes.len());
+            let is_valid = $library::const_hex_decode_exact(text.as_ptr(), text.len(), output, size, &mut error);
+            done(is_valid, (), error)
         });
         $cases.decoding("in C: decode_exact, error NULL", $name, |text, bytes| unsafe {
-            let output = bytes.as_mut_ptr();
-            match $library::decode_exact(text.as_ptr(), text.len(), output, bytes.len(), null_mut()) {
-                true => Ok(()),
-                false => Err(()),
-            }
+            let (output, size) = (bytes.as_mut_ptr(), bytes.len());
+            done($library::const_hex_decode_exact(text.as_ptr(), text.len(), output, size, null_mut()), (), ())
         });
         $cases.decoding("in C: decode", $name, |text, bytes| unsafe {
-            let (mut error, mut written, output) = (Error::default(), 0, bytes.as_mut_ptr());
-            match $library::decode(text.as_ptr(), text.len(), output, bytes.len(), &mut written, &mut error) {
-                true => Ok(written),
-                false => Err(error),
-            }
+            let (mut error, mut written, (output, size)) = (Error::default(), 0, (bytes.as_mut_ptr(), bytes.len()));
+            let is_valid =
+                $library::const_hex_decode(text.as_ptr(), text.len(), output, size, &mut written, &mut error);
+            done(is_valid, written, error)
         });
         $cases.decoding("in C: check", $name, |text, _| unsafe {
             let mut error = Error::default();
-            match $library::check(text.as_ptr(), text.len(), &mut error) {
-                true => Ok(()),
-                false => Err(error),
-            }
+            done($library::const_hex_check(text.as_ptr(), text.len(), &mut error), (), error)
         });
         $cases.decoding("in C: check, error NULL", $name, |text, _| unsafe {
-            match $library::check(text.as_ptr(), text.len(), null_mut()) {
-                true => Ok(()),
-                false => Err(()),
-            }
+            done($library::const_hex_check(text.as_ptr(), text.len(), null_mut()), (), ())
         });
         $cases.decoding("in C: check_raw", $name, |text, _| unsafe {
-            match $library::check_raw(text.as_ptr(), text.len()) {
-                true => Ok(()),
-                false => Err(()),
-            }
+            done($library::const_hex_check_raw(text.as_ptr(), text.len()), (), ())
         });
     }};
 }
 
 /// Every call in C of both libraries.
-pub(crate) fn cases(cases: &mut Cases) {
+pub fn cases(cases: &mut Cases) {
     in_c!(theirs, "const-hex", cases);
     in_c!(ours, "const-hex-proved", cases);
 }

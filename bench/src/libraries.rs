@@ -1,19 +1,25 @@
-//! The libraries, and how each makes the calls.
+//! The libraries, and how each makes the calls, as its user writes them.
 
-use crate::Case;
 use std::hint::black_box;
+use std::time::{Duration, Instant};
+
+/// The numbers of bytes that are encoded, or decoded to.
+pub const SIZES: [usize; 13] = [1, 4, 16, 20, 32, 33, 64, 65, 128, 256, 2048, 16_384, 131_072];
+
+/// One call of one library, on input of one size.
+pub struct Case {
+    pub call: String,
+    pub library: &'static str,
+    pub size: usize,
+    /// Makes the call so many times, and returns how long that took.
+    pub repeat: Box<dyn Fn(usize) -> Duration>,
+}
 
 /// Every call of every library, for `size` bytes. Those of const-hex and const-hex-proved take turns.
 pub fn cases(size: usize) -> Vec<Case> {
-    let bytes: Vec<u8> = (0..size)
-        .map(|i| (i.wrapping_mul(2_654_435_761) >> 7) as u8)
-        .collect();
+    let bytes: Vec<u8> = (0..size).map(|i| (i.wrapping_mul(2_654_435_761) >> 7) as u8).collect();
     let text = const_hex::encode(&bytes).into_bytes();
-    let mut cases = Cases {
-        bytes,
-        text,
-        list: Vec::new(),
-    };
+    let mut cases = Cases { bytes, text, list: Vec::new() };
     macro_rules! both {
         ($calls:ident $($argument:tt)*) => {
             $calls!(const_hex, "const-hex", cases $($argument)*);
@@ -39,16 +45,10 @@ pub fn cases(size: usize) -> Vec<Case> {
 }
 
 /// The texts that are decoded: what is added to a call's name.
-const TEXTS: [&str; 5] = [
-    "",
-    ", a prefix",
-    ", first character invalid",
-    ", last character invalid",
-    ", odd length",
-];
+const TEXTS: [&str; 5] = ["", ", a prefix", ", first character invalid", ", last character invalid", ", odd length"];
 
 /// The cases for bytes, and for texts that are made of their text in lowercase.
-pub(crate) struct Cases {
+pub struct Cases {
     bytes: Vec<u8>,
     text: Vec<u8>,
     list: Vec<Case>,
@@ -56,7 +56,7 @@ pub(crate) struct Cases {
 
 impl Cases {
     /// Adds a case that calls `run` on the bytes and on a buffer for the text.
-    pub(crate) fn encoding<T>(
+    pub fn encoding<T>(
         &mut self,
         call: &str,
         library: &'static str,
@@ -67,7 +67,7 @@ impl Cases {
     }
 
     /// Adds a case for each kind of text, which calls `run` on the text and on a buffer for the bytes.
-    pub(crate) fn decoding<T: 'static, E: 'static>(
+    pub fn decoding<T: 'static, E: 'static>(
         &mut self,
         call: &str,
         library: &'static str,
@@ -85,12 +85,8 @@ impl Cases {
             }
             let (call, size) = (format!("{call}{kind}"), self.bytes.len());
             match run(&text, &mut vec![0; size]).is_ok() {
-                true => self.add(&call, library, text, size, move |text, bytes| {
-                    run(text, bytes).ok().unwrap()
-                }),
-                false => self.add(&call, library, text, size, move |text, bytes| {
-                    run(text, bytes).err().unwrap()
-                }),
+                true => self.add(&call, library, text, size, move |text, bytes| run(text, bytes).ok().unwrap()),
+                false => self.add(&call, library, text, size, move |text, bytes| run(text, bytes).err().unwrap()),
             }
         }
     }
@@ -105,36 +101,39 @@ impl Cases {
         run: impl Fn(&[u8], &mut [u8]) -> T + Copy + 'static,
     ) {
         let output = vec![0; size];
-        let prepare = move || {
+        let repeat = move |count| {
+            // Made here, the buffers have the same addresses for each library: a store that crosses a page takes long.
             let (input, mut output) = (input.clone(), output.clone());
-            move || {
+            let mut call = move || {
                 black_box(run(black_box(&input), black_box(&mut output)));
-            }
+            };
+            let start = Instant::now();
+            make(&mut call, count);
+            start.elapsed()
         };
-        let case = Case::new(call.to_string(), library, self.bytes.len(), prepare);
-        self.list.push(case);
+        self.list.push(Case { call: call.to_string(), library, size: self.bytes.len(), repeat: Box::new(repeat) });
+    }
+}
+
+/// Makes a call so many times. Here the loop is alone with the call.
+#[inline(never)]
+fn make(call: &mut impl FnMut(), count: usize) {
+    for _ in 0..count {
+        call();
     }
 }
 
 /// The calls of a crate that has the names of `hex`. `encode_hex` is that of its trait `ToHex`.
 macro_rules! with_names_of_hex {
     ($library:ident, $name:literal, $cases:ident) => {{
-        $cases.encoding("encode_to_slice", $name, |bytes, text| {
-            $library::encode_to_slice(bytes, text).unwrap()
-        });
+        $cases.encoding("encode_to_slice", $name, |bytes, text| $library::encode_to_slice(bytes, text).unwrap());
         $cases.encoding("encode", $name, |bytes, _| $library::encode(bytes));
-        $cases.decoding("decode_to_slice", $name, |text, bytes| {
-            $library::decode_to_slice(text, bytes)
-        });
+        $cases.decoding("decode_to_slice", $name, |text, bytes| $library::decode_to_slice(text, bytes));
         $cases.decoding("decode", $name, |text, _| $library::decode(text));
         #[allow(deprecated)]
-        $cases.encoding("encode_hex", $name, |bytes, _| {
-            $library::ToHex::encode_hex::<String>(&bytes)
-        });
+        $cases.encoding("encode_hex", $name, |bytes, _| $library::ToHex::encode_hex::<String>(&bytes));
         #[allow(deprecated)]
-        $cases.encoding("encode_hex to Vec<char>", $name, |bytes, _| {
-            $library::ToHex::encode_hex::<Vec<char>>(&bytes)
-        });
+        $cases.encoding("encode_hex to Vec<char>", $name, |bytes, _| $library::ToHex::encode_hex::<Vec<char>>(&bytes));
     }};
 }
 use with_names_of_hex;
@@ -142,16 +141,9 @@ use with_names_of_hex;
 /// The calls that only const-hex has, and those of its feature `serde`, with serde_json.
 macro_rules! with_names_of_const_hex {
     ($library:ident, $name:literal, $cases:ident) => {{
-        $cases.encoding("encode_upper_prefixed", $name, |bytes, _| {
-            $library::encode_upper_prefixed(bytes)
-        });
+        $cases.encoding("encode_upper_prefixed", $name, |bytes, _| $library::encode_upper_prefixed(bytes));
         $cases.decoding("check", $name, |text, _| $library::check(text));
-        $cases.decoding("check_raw", $name, |text, _| {
-            match $library::check_raw(text) {
-                true => Ok(()),
-                false => Err(()),
-            }
-        });
+        $cases.decoding("check_raw", $name, |text, _| $library::check_raw(text).then_some(()).ok_or(()));
         $cases.decoding("const_check", $name, |text, _| $library::const_check(text));
         $cases.encoding("serialize", $name, |bytes, _| {
             let mut json = Vec::new();
@@ -182,32 +174,18 @@ macro_rules! with_arrays {
         $cases.encoding("const_encode", $name, |bytes, _| {
             $library::const_encode::<$size, false>(bytes.try_into().unwrap())
         });
-        $cases.decoding("decode_to_array", $name, |text, _| {
-            $library::decode_to_array::<_, $size>(text)
-        });
-        $cases.decoding("const_decode_to_array", $name, |text, _| {
-            $library::const_decode_to_array::<$size>(text)
-        });
-        let text = $cases.text.clone();
-        $cases.add("check of an array", $name, text, 0, |text, _| {
+        $cases.decoding("decode_to_array", $name, |text, _| $library::decode_to_array::<_, $size>(text));
+        $cases.decoding("const_decode_to_array", $name, |text, _| $library::const_decode_to_array::<$size>(text));
+        $cases.add("check of an array", $name, $cases.text.clone(), 0, |text, _| {
             let text: &[u8; 2 * $size] = text.try_into().unwrap();
             $library::check(text).unwrap()
         });
-        let text = $cases.text.clone();
-        $cases.add(
-            "decode_to_slice of arrays",
-            $name,
-            text,
-            $size,
-            |text, bytes| {
-                let (text, bytes): (&[u8; 2 * $size], &mut [u8; $size]) =
-                    (text.try_into().unwrap(), bytes.try_into().unwrap());
-                $library::decode_to_slice(text, bytes).unwrap()
-            },
-        );
-        let text = $cases.text.clone();
-        let call = "decode_to_slice, wrong length";
-        $cases.add(call, $name, text, $size + 1, |text, bytes| {
+        $cases.add("decode_to_slice of arrays", $name, $cases.text.clone(), $size, |text, bytes| {
+            let (text, bytes): (&[u8; 2 * $size], &mut [u8; $size]) =
+                (text.try_into().unwrap(), bytes.try_into().unwrap());
+            $library::decode_to_slice(text, bytes).unwrap()
+        });
+        $cases.add("decode_to_slice, wrong length", $name, $cases.text.clone(), $size + 1, |text, bytes| {
             $library::decode_to_slice(text, bytes).unwrap_err()
         });
     }};
@@ -217,19 +195,10 @@ use with_arrays;
 fn of_data_encoding(cases: &mut Cases) {
     use data_encoding::{HEXLOWER, HEXLOWER_PERMISSIVE};
     let name = "data-encoding";
-    cases.encoding("encode_to_slice", name, |bytes, text| {
-        HEXLOWER.encode_mut(bytes, text)
-    });
+    cases.encoding("encode_to_slice", name, |bytes, text| HEXLOWER.encode_mut(bytes, text));
     cases.encoding("encode", name, |bytes, _| HEXLOWER.encode(bytes));
-    let (text, size) = (cases.text.clone(), cases.bytes.len());
-    cases.add(
-        "decode_to_slice",
-        name,
-        text.clone(),
-        size,
-        |text, bytes| HEXLOWER_PERMISSIVE.decode_mut(text, bytes).unwrap(),
-    );
-    cases.add("decode", name, text, 0, |text, _| {
-        HEXLOWER_PERMISSIVE.decode(text).unwrap()
+    cases.add("decode_to_slice", name, cases.text.clone(), cases.bytes.len(), |text, bytes| {
+        HEXLOWER_PERMISSIVE.decode_mut(text, bytes).unwrap()
     });
+    cases.add("decode", name, cases.text.clone(), 0, |text, _| HEXLOWER_PERMISSIVE.decode(text).unwrap());
 }

@@ -1,14 +1,19 @@
-//! Instructions of one call, by valgrind's callgrind, and on AArch64 by QEMU. They do not depend on what else the
-//! machine does.
+//! Instructions of one call, by valgrind's callgrind, and on AArch64 by QEMU, which do not depend on what else the
+//! machine does; or nanoseconds.
 //!
 //!     cargo run --release                            # every call of every library
 //!     cargo run --release -- const-hex               # of these libraries alone
 //!     MOST=2048 cargo run                            # without optimization, up to so many bytes
 //!     MOST=2048 cargo run -- --builds                # where const-hex takes fewer, in each of its builds
+//!     cargo run --release -- --times                 # nanoseconds, which may also be of some libraries alone
 //!
 //! The program runs itself once, with all calls. A cell is what two rounds of calls differ by, by the number of calls.
 
-use const_hex_bench::{cases, SIZES};
+#[cfg(feature = "c")]
+mod c;
+mod libraries;
+
+use libraries::{cases, Case, SIZES};
 use std::io::{self, BufRead, BufReader};
 use std::process::{Command, ExitCode, Stdio};
 use std::{env, fs, process};
@@ -18,6 +23,11 @@ fn main() -> ExitCode {
     let done = match arguments.first().map(String::as_str) {
         Some("--repeat") => {
             repeat_all(&arguments.split_off(1));
+            Ok(())
+        }
+        Some("--times") => {
+            let only = arguments.split_off(1);
+            print_tables(&chosen(&only).zip(times(&only)).collect::<Vec<_>>());
             Ok(())
         }
         Some("--builds") => {
@@ -43,11 +53,7 @@ const BUILDS: [(&str, &str, &str); 8] = [
     ("fat LTO", "", "--profile lto"),
     ("x86-64-v3, fat LTO", V3, "--profile lto"),
     ("portable", "", "--release --features force-generic"),
-    (
-        "portable, fat LTO",
-        "",
-        "--profile lto --features force-generic",
-    ),
+    ("portable, fat LTO", "", "--profile lto --features force-generic"),
     ("dev", "", ""),
     (IN_C, "", "--profile lto --features c"),
 ];
@@ -73,29 +79,20 @@ fn run_build((name, flags, options): (&str, &str, &str)) -> io::Result<()> {
 
 /// Counts the calls of the named libraries, or of all, and prints the tables.
 fn print(only: &[String]) -> io::Result<()> {
-    let cells: Vec<Cell> = cells(only).zip(count(only)?).collect();
+    let cells: Vec<Cell> = chosen(only).zip(count(only)?).collect();
     print_tables(&cells);
     print_above(&cells);
     Ok(())
 }
 
-/// A call, a library and a size, and the instructions of one call.
-type Cell = ((String, &'static str, usize), u64);
-
-/// The cells of the named libraries, or of all.
-fn cells(only: &[String]) -> impl Iterator<Item = (String, &'static str, usize)> + '_ {
-    chosen(only).map(|case| (case.call, case.library, case.size))
-}
+/// A case, and the instructions or the nanoseconds of one call.
+type Cell = (Case, f64);
 
 /// The cases of the named libraries, or of all, up to the number of bytes that the variable `MOST` says.
-fn chosen(only: &[String]) -> impl Iterator<Item = const_hex_bench::Case> + '_ {
+fn chosen(only: &[String]) -> impl Iterator<Item = Case> + '_ {
     let most = env::var("MOST").ok().and_then(|most| most.parse().ok());
-    let sizes = SIZES
-        .into_iter()
-        .filter(move |size| *size <= most.unwrap_or(usize::MAX));
-    sizes
-        .flat_map(cases)
-        .filter(move |case| only.is_empty() || only.iter().any(|name| name == case.library))
+    let sizes = SIZES.into_iter().filter(move |size| *size <= most.unwrap_or(usize::MAX));
+    sizes.flat_map(cases).filter(move |case| only.is_empty() || only.iter().any(|name| name == case.library))
 }
 
 /// The calls of the shorter round, and those of the longer one.
@@ -112,10 +109,10 @@ fn repeat_all(only: &[String]) {
     for case in chosen(only) {
         let (few, more) = calls(case.size);
         // The first calls bind symbols, and let the allocator choose where large blocks stand.
-        case.repeat(few);
+        (case.repeat)(few);
         for count in [few, more] {
             mark();
-            case.repeat(count);
+            (case.repeat)(count);
             mark();
         }
     }
@@ -144,59 +141,59 @@ fn mark() {
 const MARK: &str = "const-hex-bench: a round begins or ends";
 
 /// Counts each cell, in the order of the cases.
-fn count(only: &[String]) -> io::Result<Vec<u64>> {
+fn count(only: &[String]) -> io::Result<Vec<f64>> {
     let rounds = match cfg!(target_arch = "aarch64") {
         true => counted_by_qemu(only)?,
         false => counted_by_callgrind(only)?,
     };
     // Of each case, what was counted before its first round, in it, between both, and in its second round.
-    let cells = rounds
-        .chunks_exact(4)
-        .zip(chosen(only))
-        .map(|(counted, case)| {
-            let (few, more) = calls(case.size);
-            counted[3].saturating_sub(counted[1]) / (more - few) as u64
-        });
+    let cells = rounds.chunks_exact(4).zip(chosen(only)).map(|(counted, case)| {
+        let (few, more) = calls(case.size);
+        (counted[3].saturating_sub(counted[1]) / (more - few) as u64) as f64
+    });
     Ok(cells.collect())
+}
+
+/// The nanoseconds of each cell: the least of many runs, in which the cases take turns.
+fn times(only: &[String]) -> Vec<f64> {
+    let cases: Vec<Case> = chosen(only).collect();
+    let mut least = vec![f64::MAX; cases.len()];
+    for _ in 0..1000 {
+        for (case, least) in cases.iter().zip(&mut least) {
+            let count = 1 + 20_000 / case.size;
+            let nanoseconds = (case.repeat)(count).as_nanos() as f64 / count as f64;
+            *least = least.min((10.0 * nanoseconds).round() / 10.0);
+        }
+    }
+    least
 }
 
 /// Runs this program under another, with all calls.
 fn counted_program(command: &str, only: &[String]) -> io::Result<Command> {
     let mut words = command.split(' ');
     let mut counted = Command::new(words.next().unwrap_or_default());
-    counted
-        .args(words)
-        .arg(env::current_exe()?)
-        .arg("--repeat")
-        .args(only);
+    counted.args(words).arg(env::current_exe()?).arg("--repeat").args(only);
     Ok(counted)
 }
 
 /// What callgrind counted up to each mark.
 fn counted_by_callgrind(only: &[String]) -> io::Result<Vec<u64>> {
     let path = env::temp_dir().join(format!("const-hex-bench.{}", process::id()));
-    let command = format!(
-        "valgrind -q --tool=callgrind --combine-dumps=yes --callgrind-out-file={}",
-        path.display()
-    );
+    let command = format!("valgrind -q --tool=callgrind --combine-dumps=yes --callgrind-out-file={}", path.display());
     let status = counted_program(&command, only)?.status()?;
     let dumps = fs::read_to_string(&path)?;
     fs::remove_file(&path)?;
     if !status.success() {
         return Err(io::Error::other(format!("{command}: {status}")));
     }
-    let totals = dumps
-        .lines()
-        .filter_map(|line| line.strip_prefix("totals: "));
+    let totals = dumps.lines().filter_map(|line| line.strip_prefix("totals: "));
     Ok(totals.filter_map(|total| total.parse().ok()).collect())
 }
 
 /// The lines that QEMU printed up to each mark, one for each instruction.
 fn counted_by_qemu(only: &[String]) -> io::Result<Vec<u64>> {
     let command = "qemu-aarch64 -L /usr/aarch64-linux-gnu -singlestep -d nochain,exec";
-    let mut child = counted_program(command, only)?
-        .stderr(Stdio::piped())
-        .spawn()?;
+    let mut child = counted_program(command, only)?.stderr(Stdio::piped()).spawn()?;
     let (mut rounds, mut count) = (Vec::new(), 0);
     for line in BufReader::new(child.stderr.take().unwrap()).lines() {
         let line = line?;
@@ -211,33 +208,26 @@ fn counted_by_qemu(only: &[String]) -> io::Result<Vec<u64>> {
     Ok(rounds)
 }
 
-/// Prints a table for each call, with a row for each size and a column for each library.
-fn print_tables(cells: &[Cell]) {
-    let mut calls: Vec<&String> = Vec::new();
-    for ((call, _, _), _) in cells {
-        if !calls.contains(&call) {
-            calls.push(call);
+/// These names, each once.
+fn distinct<'a>(names: impl Iterator<Item = &'a str>) -> Vec<&'a str> {
+    let mut found = Vec::new();
+    for name in names {
+        if !found.contains(&name) {
+            found.push(name);
         }
     }
-    for call in calls {
-        let of_call = cells.iter().filter(|((of, _, _), _)| of == call);
-        let mut libraries: Vec<&str> = Vec::new();
-        for ((_, library, _), _) in of_call.clone() {
-            if !libraries.contains(library) {
-                libraries.push(library);
-            }
-        }
-        println!(
-            "\n| {call} | {} |\n|{}",
-            libraries.join(" | "),
-            "---|".repeat(libraries.len() + 1)
-        );
+    found
+}
+
+/// Prints a table for each call, with a row for each size and a column for each library.
+fn print_tables(cells: &[Cell]) {
+    for call in distinct(cells.iter().map(|(case, _)| &*case.call)) {
+        let of_call = cells.iter().filter(|(case, _)| case.call == call);
+        let libraries = distinct(of_call.clone().map(|(case, _)| case.library));
+        println!("\n| {call} | {} |\n|{}", libraries.join(" | "), "---|".repeat(libraries.len() + 1));
         for size in SIZES {
-            let row: Vec<String> = of_call
-                .clone()
-                .filter(|((_, _, of), _)| *of == size)
-                .map(|(_, count)| count.to_string())
-                .collect();
+            let row = of_call.clone().filter(|(case, _)| case.size == size).map(|(_, count)| count.to_string());
+            let row: Vec<String> = row.collect();
             if !row.is_empty() {
                 println!("| {size} | {} |", row.join(" | "));
             }
@@ -250,13 +240,13 @@ const ABOVE: &str = "More instructions than const-hex";
 /// Prints each cell in which const-hex takes fewer instructions than const-hex-proved.
 fn print_above(cells: &[Cell]) {
     println!("\n{ABOVE}:\n");
-    for ((call, library, size), ours) in cells {
-        let theirs = cells.iter().find(|((of, by, at), _)| {
-            *library == "const-hex-proved" && *by == "const-hex" && of == call && at == size
-        });
-        if let Some((_, theirs)) = theirs.filter(|(_, theirs)| ours > theirs) {
-            let times = *ours as f64 / *theirs as f64;
-            println!("{times:.2}: {call}, {size} bytes, {ours} beside {theirs}");
+    for (Case { call, size, .. }, ours) in cells.iter().filter(|(case, _)| case.library == "const-hex-proved") {
+        let is_theirs = |case: &Case| case.library == "const-hex" && case.call == *call && case.size == *size;
+        match cells.iter().find(|(case, _)| is_theirs(case)) {
+            Some((_, theirs)) if ours > theirs => {
+                println!("{:.2}: {call}, {size} bytes, {ours} beside {theirs}", ours / theirs)
+            }
+            _ => {}
         }
     }
 }

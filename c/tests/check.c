@@ -56,6 +56,15 @@ TEST(messages) {
     }
 }
 
+/* Encoding so many bytes fails, and leaves the empty string unless the flags have that for no NUL. */
+static void judge_failure(size_t count, size_t size, unsigned flags) {
+    struct buffer text = marked(areas.text, 20, 0);
+    size_t written = flags & CONST_HEX_NO_NUL ? 0 : 1;
+    holds(!const_hex_encode("kiwi", count, text.bytes, size, flags) && memcmp(text.bytes, "", written) == 0 &&
+              is_rest_marked(text, written),
+          "encode", count, flags);
+}
+
 /* The text of so many bytes does not fit even into a buffer that is as large as no buffer can be. */
 TEST(sizes_that_no_buffer_has) {
     static const size_t rows[][3] = {
@@ -69,12 +78,7 @@ TEST(sizes_that_no_buffer_has) {
         {SIZE_MAX, SIZE_MAX, CONST_HEX_PREFIX | CONST_HEX_NO_NUL},
     };
     for (size_t row = 0; row < sizeof rows / sizeof *rows; row++) {
-        struct buffer text = marked(areas.text, 20, 0);
-        unsigned flags = (unsigned)rows[row][2];
-        size_t written = flags & CONST_HEX_NO_NUL ? 0 : 1;
-        holds(!const_hex_encode("kiwi", rows[row][0], text.bytes, rows[row][1], flags) &&
-                  memcmp(text.bytes, "", written) == 0 && is_rest_marked(text, written),
-              "encode", row, 0);
+        judge_failure(rows[row][0], rows[row][1], (unsigned)rows[row][2]);
     }
 }
 
@@ -119,15 +123,10 @@ TEST(null_errors) {
     }
 }
 
-/* An unknown flag fails, and leaves the empty string unless the flag for no NUL is set too. */
 TEST(unknown_flags) {
     for (unsigned bit = 3; bit < 32; bit++) {
         for (unsigned known = 0; known < 8; known++) {
-            struct buffer text = marked(areas.text, 20, 0);
-            size_t written = known & CONST_HEX_NO_NUL ? 0 : 1;
-            holds(!const_hex_encode("kiwi", 4, text.bytes, 20, 1u << bit | known) &&
-                      memcmp(text.bytes, "", written) == 0 && is_rest_marked(text, written),
-                  "encode", bit, known);
+            judge_failure(4, 20, 1u << bit | known);
         }
     }
 }

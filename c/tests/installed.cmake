@@ -46,7 +46,6 @@ compiled(pkg-config_C ${CMAKE_C_COMPILER} c "" pkg-config)
 compiled(pkg-config_C_static ${CMAKE_C_COMPILER} c -static pkg-config)
 if(NOT CMAKE_CROSSCOMPILING)
   compiled(pkg-config_CXX c++ c++ "" pkg-config)
-  compiled(pkg-config_CXX_static c++ c++ -static pkg-config)
   # With another libc.
   set(FOUND)
   set(INCLUDE "'-I${INSTALLED}/include'")
@@ -69,11 +68,6 @@ function(configured name folder)
 endfunction()
 configured(installed.cmake ${INSTALLED})
 configured(installed.cmake_static ${INSTALLED} -DLIBRARY=const_hex::static)
-foreach(version 1.99 0.9)
-  set(name installed.cmake_version_${version})
-  configured(${name} ${INSTALLED} -DWANTED=${version})
-  set_tests_properties(${name} PROPERTIES PASS_REGULAR_EXPRESSION "compatible with requested version")
-endforeach()
 
 # In another project, by add_subdirectory.
 file(CONFIGURE OUTPUT project/CMakeLists.txt CONTENT "cmake_minimum_required(VERSION 3.21)
@@ -101,12 +95,10 @@ if(CONST_HEX_CARGO)
   return()
 endif()
 set(ARCHIVE "${HERE}/un packed/${RELEASE}")
-set(PACK "'${CMAKE_CPACK_COMMAND}' --config '${PROJECT_BINARY_DIR}/CPackConfig.cmake' -B")
-test(archive PROPERTIES FIXTURES_SETUP unpacked COMMAND sh -c "rm -rf 'un packed' one other &&
-  mkdir 'un packed' && (umask 077; ${PACK} one) && tar xzf one/*.tar.gz -C 'un packed'")
+test(archive PROPERTIES FIXTURES_SETUP unpacked COMMAND sh -c "rm -rf 'un packed' one && mkdir 'un packed' &&
+  (umask 077; '${CMAKE_CPACK_COMMAND}' --config '${PROJECT_BINARY_DIR}/CPackConfig.cmake' -B one) &&
+  tar xzf one/*.tar.gz -C 'un packed'")
 set(WITH PROPERTIES FIXTURES_REQUIRED unpacked)
-test(archive.is_the_same_again ${WITH} COMMAND sh -c
-  "sleep 1; TZ=Asia/Tokyo LC_ALL=C.UTF-8 ${PACK} other && cmp one/*.tar.gz other/*.tar.gz")
 test(archive.sums ${WITH} COMMAND sh -c "cd '${ARCHIVE}' && sha256sum --quiet -c SHA256SUMS && LC_ALL=C &&
   sed 's/.*  //' SHA256SUMS | sort > '${HERE}/summed' &&
   find . -type f ! -name SHA256SUMS -printf '%P\\n' | sort | diff '${HERE}/summed' -")

@@ -52,6 +52,5 @@ const PART: usize = 2048;
 fn print_parts<const UPPER: bool, const PREFIX: bool>(bytes: &[u8], f: &mut fmt::Formatter<'_>) -> fmt::Result {
     let (first, rest) = bytes.split_at(PART - usize::from(PREFIX));
     formatting::display(first).write_full::<UPPER, PREFIX>(f)?;
-    rest.chunks(PART)
-        .try_for_each(|part| formatting::display(part).write_full::<UPPER, false>(f))
+    rest.chunks(PART).try_for_each(|part| formatting::display(part).write_full::<UPPER, false>(f))
 }

@@ -298,9 +298,7 @@ pub fn decode_to_array<T: AsRef<[u8]>, const N: usize>(input: T) -> Result<[u8; 
     if digits.len() != N << 1 {
         return Err(FromHexError::InvalidStringLength);
     }
-    kernel::Space::new()
-        .bytes(digits)
-        .ok_or_else(|| find_invalid_character(text))
+    kernel::Space::new().bytes(digits).ok_or_else(|| find_invalid_character(text))
 }
 
 /// Returns `Ok` if a text can be decoded, or else [`FromHexError::OddLength`] or

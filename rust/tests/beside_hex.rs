@@ -2,56 +2,18 @@
 //! of the package `hex` lists, and for prefixes, which the module `strict` alone rejects.
 #![cfg(feature = "alloc")]
 
+mod random;
+
 use const_hex_proved as proved;
 use proved::FromHexError::{InvalidHexCharacter, InvalidStringLength, OddLength};
-
-/// Numbers without a pattern, the same in each run.
-struct Random(u64);
-
-impl Random {
-    fn below(&mut self, limit: usize) -> usize {
-        self.0 ^= self.0 << 13;
-        self.0 ^= self.0 >> 7;
-        self.0 ^= self.0 << 17;
-        (self.0.wrapping_mul(0x2545_F491_4F6C_DD1D) >> 16) as usize % limit
-    }
-
-    /// Bytes of a length that short kernels and long ones see.
-    fn bytes(&mut self) -> Vec<u8> {
-        let limit = [40, 40, 400][self.below(3)];
-        (0..self.below(limit)).map(|_| self.below(256) as u8).collect()
-    }
-
-    /// A text in both cases, with or without a prefix, sometimes with an invalid character or an odd length.
-    fn text(&mut self) -> Vec<u8> {
-        if self.below(8) == 0 {
-            return self.bytes();
-        }
-        let mut text = ["", "", "0x", "0X"][self.below(4)].as_bytes().to_vec();
-        text.extend(hex::encode(self.bytes()).bytes());
-        text.iter_mut()
-            .filter(|_| self.below(2) == 0)
-            .for_each(|byte| byte.make_ascii_uppercase());
-        if self.below(2) == 0 && !text.is_empty() {
-            let position = self.below(text.len());
-            text[position] = [b'g', b'/', b':', b'@', b'G', b'`', b'x', self.below(256) as u8][self.below(8)];
-        }
-        if self.below(8) == 0 {
-            text.pop();
-        }
-        text
-    }
-}
+use random::Random;
 
 /// A result of `hex` for what follows so many bytes of a text, as this package has it: with a position in the text.
 fn in_text<T>(prefix: usize, result: Result<T, hex::FromHexError>) -> Result<T, proved::FromHexError> {
     result.map_err(|error| match error {
         hex::FromHexError::OddLength => OddLength,
         hex::FromHexError::InvalidStringLength => InvalidStringLength,
-        hex::FromHexError::InvalidHexCharacter { c, index } => InvalidHexCharacter {
-            c,
-            index: index + prefix,
-        },
+        hex::FromHexError::InvalidHexCharacter { c, index } => InvalidHexCharacter { c, index: index + prefix },
     })
 }
 
@@ -124,6 +86,7 @@ fn strict_decoding() {
         let array = in_text(0, <[u8; 4] as hex::FromHex>::from_hex(&text));
         assert_eq!(strict::decode_to_array(&text), array);
         assert_eq!(strict::FromHex::from_hex(&text), array);
+        assert_eq!(strict::FromHex::from_hex(&text), array.map(Box::new));
         let decode: Decode = |text, output| strict::decode_to_slice(text, output);
         same_slices(decode, 0, &text, random.below(200));
     }

@@ -12,11 +12,7 @@ const FOLDER: &str = env!("CARGO_MANIFEST_DIR");
 /// Runs the program.
 fn erase(argument: &Path) -> Output {
     let program = format!("{FOLDER}/erase");
-    Command::new("python3")
-        .arg(program)
-        .arg(argument)
-        .output()
-        .expect("python3")
+    Command::new("python3").arg(program).arg(argument).output().expect("python3")
 }
 
 /// This compares the numbers of places that each rule has changed, too.

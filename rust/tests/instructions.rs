@@ -1,10 +1,6 @@
 //! No call takes more instructions than its limit, and 1/64. Only in a release build for Linux: on x86-64 with
 //! valgrind, and on AArch64 with QEMU: `cargo test --release --test instructions`.
-#![cfg(all(
-    not(debug_assertions),
-    any(target_arch = "x86_64", target_arch = "aarch64"),
-    target_os = "linux"
-))]
+#![cfg(all(not(debug_assertions), any(target_arch = "x86_64", target_arch = "aarch64"), target_os = "linux"))]
 
 use const_hex_proved as hex;
 use std::fmt::{Error, Result, Write};
@@ -49,10 +45,7 @@ fn limits() {
         }
         let limit = limit + limit / 64; // since runs differ a little
         let found = (counted(call, bytes, 2000) - counted(call, bytes, 1000)) / 1000;
-        assert!(
-            found > 0 && found <= limit,
-            "{call} of {bytes} bytes: {found} instructions, {limit} allowed"
-        );
+        assert!(found > 0 && found <= limit, "{call} of {bytes} bytes: {found} instructions, {limit} allowed");
     }
 }
 
@@ -104,7 +97,5 @@ fn counted(call: &str, bytes: usize, times: usize) -> i64 {
         return said.lines().filter(|line| line.starts_with("Trace")).count() as i64;
     }
     let count = said.split("Collected : ").nth(1).and_then(|rest| rest.lines().next());
-    count
-        .and_then(|count| count.parse().ok())
-        .unwrap_or_else(|| panic!("{said}"))
+    count.and_then(|count| count.parse().ok()).unwrap_or_else(|| panic!("{said}"))
 }

@@ -27,13 +27,7 @@ struct Slow<T> {
 impl<T> Slow<T> {
     fn new(inner: T, most: usize, errors: &[(usize, ErrorKind)]) -> Slow<T> {
         let errors = errors.to_vec();
-        Slow {
-            inner,
-            most,
-            calls: 0,
-            flushes: 0,
-            errors,
-        }
+        Slow { inner, most, calls: 0, flushes: 0, errors }
     }
 
     fn count(&mut self) -> io::Result<()> {
@@ -95,12 +89,10 @@ fn inside(error: io::Error) -> FromHexError {
 /// A reader keeps its error, also if it is asked for no bytes, or the other reader has more.
 #[test]
 fn errors_of_the_text() {
-    for (text, error) in [
-        (&b"6b0x77"[..], invalid('x', 3)),
-        (b"6b6", FromHexError::OddLength),
-        (b"6b69\n", invalid('\n', 4)),
-    ] {
-        let mut reader = DecodeReader::new(Again::after(text));
+    for (text, error) in
+        [(&b"6b0x77"[..], invalid('x', 3)), (b"6b6", FromHexError::OddLength), (b"6b69\n", invalid('\n', 4))]
+    {
+        let mut reader = DecodeReader::new(Chunks(vec![text, b"", b"77"]));
         let found = reader.read_to_end(&mut Vec::new()).unwrap_err();
         assert_eq!(inside(found), error);
         for length in [9, 0, 1] {
@@ -116,17 +108,14 @@ fn a_position_in_a_long_text() {
     let zeros = "0".repeat(20_000);
     let mut reader = DecodeReader::new(zeros.as_bytes().chain(&b"0x"[..]).chain(zeros.as_bytes()));
     let mut found = Vec::new();
-    assert_eq!(
-        inside(reader.read_to_end(&mut found).unwrap_err()),
-        invalid('x', 20_001)
-    );
+    assert_eq!(inside(reader.read_to_end(&mut found).unwrap_err()), invalid('x', 20_001));
     assert!(found.iter().all(|byte| *byte == 0));
 }
 
 /// After its end a text has nothing more, even if the other reader has.
 #[test]
 fn the_end_of_a_text() {
-    let mut reader = DecodeReader::new(Again::after(b"6b69"));
+    let mut reader = DecodeReader::new(Chunks(vec![b"6b69", b"", b"77"]));
     let mut found = Vec::new();
     assert_eq!(reader.read_to_end(&mut found).unwrap(), 2);
     assert_eq!(reader.read(&mut [0; 9]).unwrap(), 0);
@@ -139,9 +128,7 @@ fn errors_of_the_other_reader() {
     let (bytes, text) = bytes_and_text(1000);
     let errors = [(1, ErrorKind::Interrupted), (5, ErrorKind::Interrupted)];
     let mut found = Vec::new();
-    DecodeReader::new(Slow::new(text.as_bytes(), 97, &errors))
-        .read_to_end(&mut found)
-        .unwrap();
+    DecodeReader::new(Slow::new(text.as_bytes(), 97, &errors)).read_to_end(&mut found).unwrap();
     assert_eq!(found, bytes);
 
     let errors = [(1, ErrorKind::WouldBlock), (5, ErrorKind::BrokenPipe)];
@@ -237,25 +224,11 @@ fn a_writer_that_is_dropped() {
     assert_eq!(text, b"6b697769");
 }
 
-/// A reader that ends, and then has more.
-struct Again {
-    first: &'static [u8],
-    is_over: bool,
-}
+/// Reads these chunks, each by one call. After an empty one, which is the end of a text, there may be more.
+struct Chunks(Vec<&'static [u8]>);
 
-impl Again {
-    fn after(first: &'static [u8]) -> Again {
-        Again { first, is_over: false }
-    }
-}
-
-impl Read for Again {
+impl Read for Chunks {
     fn read(&mut self, output: &mut [u8]) -> io::Result<usize> {
-        if self.first.is_empty() && !self.is_over {
-            self.is_over = true;
-            self.first = b"777777";
-            return Ok(0);
-        }
-        self.first.read(output)
+        self.0.remove(0).read(output)
     }
 }

@@ -126,14 +126,7 @@ fn each_position_of_an_invalid_character() {
                 let mut text = [prefix.as_bytes(), &digits].concat();
                 let index = prefix.len() + position;
                 text[index] = invalid;
-                fails_with(
-                    &text,
-                    count,
-                    FromHexError::InvalidHexCharacter {
-                        c: invalid.into(),
-                        index,
-                    },
-                );
+                fails_with(&text, count, FromHexError::InvalidHexCharacter { c: invalid.into(), index });
             }
         }
     }

@@ -103,10 +103,7 @@ fn options_and_vectors() {
     }
     let text = r#"{"option":"dead","bare_option":"0X6B","vec":["6b"],"bare_vec":["0x6b"]}"#;
     let several = serde_json::from_str::<Several>(text).unwrap();
-    assert_eq!(
-        (several.option, several.bare_option),
-        (Some([0xDE, 0xAD]), Some(b"k".to_vec()))
-    );
+    assert_eq!((several.option, several.bare_option), (Some([0xDE, 0xAD]), Some(b"k".to_vec())));
     assert_eq!((several.vec, several.bare_vec), (vec![b"k".to_vec()], vec![*b"k"]));
 }
 
@@ -115,15 +112,9 @@ fn options_and_vectors() {
 fn errors_in_options_and_vectors() {
     for (field, error) in [
         (r#""option":"6b""#, "invalid string length"),
-        (
-            r#""option":7"#,
-            "invalid type: integer `7`, expected a hex encoded string",
-        ),
+        (r#""option":7"#, "invalid type: integer `7`, expected a hex encoded string"),
         (r#""vec":["6b","6g"]"#, "invalid character 'g' at position 1"),
-        (
-            r#""vec":["6b",null]"#,
-            "invalid type: null, expected a hex encoded string",
-        ),
+        (r#""vec":["6b",null]"#, "invalid type: null, expected a hex encoded string"),
         (r#""vec":"6b""#, r#"invalid type: string "6b", expected a sequence"#),
         (r#""strict":"0x6b""#, "invalid character 'x' at position 1"),
         (r#""strict_option":"0X""#, "invalid character 'X' at position 1"),
@@ -166,10 +157,7 @@ fn errors() {
         assert_eq!(found.to_string(), error.to_string());
     }
     let found = hexadecimal::deserialize::<_, Vec<u8>>(serde_json::json!(7)).unwrap_err();
-    assert_eq!(
-        found.to_string(),
-        "invalid type: integer `7`, expected a hex encoded string"
-    );
+    assert_eq!(found.to_string(), "invalid type: integer `7`, expected a hex encoded string");
 }
 
 #[test]

@@ -1,6 +1,6 @@
 //! Printing, and the traits, at what no line of the table asks.
 
-use const_hex_proved::{check, display, FromHexError, ToHex};
+use const_hex_proved::{display, FromHexError, ToHex};
 use std::fmt::Write;
 
 /// Bytes of each kind that a signed number tells apart, and their text.
@@ -27,17 +27,21 @@ fn printing() {
     }
 }
 
+/// A writer with space for so many characters, and the lengths of the calls, none of which follows one that has failed.
+struct Space(Option<usize>, Vec<usize>);
+
+impl Write for Space {
+    fn write_str(&mut self, text: &str) -> std::fmt::Result {
+        self.1.push(text.len());
+        self.0 = self.0.expect("no call has failed").checked_sub(text.len());
+        self.0.map(drop).ok_or(std::fmt::Error)
+    }
+}
+
 /// Each call of the formatter's writer but the last writes 4096 characters. Without bytes there is none.
 #[test]
 fn calls_of_a_formatter() {
-    struct Lengths(Vec<usize>);
-    impl Write for Lengths {
-        fn write_str(&mut self, text: &str) -> std::fmt::Result {
-            self.0.push(text.len());
-            Ok(())
-        }
-    }
-    let bytes = vec![0; 40_000];
+    let bytes = [0; 40_000];
     for (length, last, last_prefixed) in [
         (0, None, Some(2)),
         (1, Some(2), Some(4)),
@@ -49,42 +53,26 @@ fn calls_of_a_formatter() {
         (40_000, Some(2176), Some(2178)),
     ] {
         for (is_prefixed, last) in [(false, last), (true, last_prefixed)] {
-            let mut lengths = Lengths(Vec::new());
+            let mut space = Space(Some(usize::MAX), Vec::new());
             match is_prefixed {
-                false => write!(lengths, "{}", display(&bytes[..length])),
-                true => write!(lengths, "{:#}", display(&bytes[..length])),
+                false => write!(space, "{}", display(&bytes[..length])),
+                true => write!(space, "{:#}", display(&bytes[..length])),
             }
             .unwrap();
-            assert_eq!(lengths.0.pop(), last);
-            assert!(lengths.0.iter().all(|length| *length == 4096));
+            assert_eq!(space.1.pop(), last);
+            assert!(space.1.iter().all(|length| *length == 4096));
         }
     }
-}
-
-/// A formatter's error ends the printing: no call follows it.
-#[test]
-fn a_full_formatter() {
-    struct Space(Option<usize>);
-    impl std::fmt::Write for Space {
-        fn write_str(&mut self, text: &str) -> std::fmt::Result {
-            let space = self.0.expect("no call has failed");
-            self.0 = space.checked_sub(text.len());
-            self.0.map(|_| ()).ok_or(std::fmt::Error)
-        }
-    }
-    let bytes = [0; 40_000];
+    // A formatter's error ends the printing.
     for space in [0, 4095, 4096, 32_767, 32_768, 79_999, 80_000] {
-        let printed = write!(Space(Some(space)), "{}", display(bytes));
+        let printed = write!(Space(Some(space), Vec::new()), "{}", display(bytes));
         assert_eq!(printed.is_ok(), space == 80_000);
     }
 }
 
 #[test]
 fn the_longest_message() {
-    let longest = FromHexError::InvalidHexCharacter {
-        c: '\u{80}',
-        index: usize::MAX,
-    };
+    let longest = FromHexError::InvalidHexCharacter { c: '\u{80}', index: usize::MAX };
     let message = format!("invalid character '\\u{{80}}' at position {}", usize::MAX);
     assert_eq!(longest.to_string(), message);
 }
@@ -133,7 +121,7 @@ fn characters_one_by_one() {
 #[cfg(feature = "std")]
 #[test]
 fn an_error_of_the_standard_library() {
-    let error: Box<dyn std::error::Error> = Box::new(check("6").unwrap_err());
+    let error: Box<dyn std::error::Error> = Box::new(const_hex_proved::check("6").unwrap_err());
     assert_eq!(error.to_string(), "odd number of digits");
 }
 
@@ -141,7 +129,7 @@ fn an_error_of_the_standard_library() {
 mod owned {
     use super::*;
     use const_hex_proved::traits::signed;
-    use const_hex_proved::{strict, FromHex, ToHexExt};
+    use const_hex_proved::{FromHex, ToHexExt};
     use std::borrow::Cow;
     use std::rc::Rc;
     use std::sync::Arc;
@@ -170,26 +158,6 @@ mod owned {
             [i8; 4] = numbers;
             Box<[i8]> = numbers.into();
             Rc<[i8; 4]> = Rc::new(numbers);
-        }
-    }
-
-    #[test]
-    fn types_that_are_read_without_a_prefix() {
-        let invalid = |c, index| FromHexError::InvalidHexCharacter { c, index };
-        for (text, bytes) in [
-            ("6b69", Ok(b"ki")),
-            ("0x6b", Err(invalid('x', 1))),
-            ("0X69", Err(invalid('X', 1))),
-            ("6b0x", Err(invalid('x', 3))),
-            ("0x6b69", Err(FromHexError::InvalidStringLength)),
-            ("0x6", Err(FromHexError::OddLength)),
-        ] {
-            assert_eq!(
-                <Box<[u8; 2]> as strict::FromHex>::from_hex(text),
-                bytes.map(|bytes| Box::new(*bytes))
-            );
-            assert_eq!(strict::decode_to_array(text), bytes.copied());
-            assert_eq!(strict::decode_to_slice(text, &mut [0; 2]), bytes.map(drop));
         }
     }
 

@@ -15,4 +15,4 @@ pub use crate::devices::{Endless, InjectedFault, Source, Target};
 pub use crate::formatted::InHex;
 pub use crate::kernels::{KernelCase, all_done};
 pub use crate::noting::Noting;
-pub use crate::rows::{Part, Testing, Text, differing_parts, read_parts};
+pub use crate::rows::{Testing, Text};

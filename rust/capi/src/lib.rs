@@ -40,9 +40,7 @@ macro_rules! exports {
 }
 
 /// `struct const_hex_decoder` is a `Decoder`: two numbers, of which any values are valid, and zeros are new.
-const _: () = assert!(
-    size_of::<Decoder>() == size_of::<[usize; 2]>() && align_of::<Decoder>() == align_of::<usize>()
-);
+const _: () = assert!(size_of::<Decoder>() == size_of::<[usize; 2]>() && align_of::<Decoder>() == align_of::<usize>());
 
 exports! {
     fn const_hex_encode() [bytes bytes_length] [text text_size] (flags: u32) -> bool =
@@ -104,11 +102,7 @@ unsafe fn slice_mut<'a>(start: *mut u8, length: usize) -> &'a mut [u8] {
 /// error in every function, and the same one. The package for JavaScript passes none.
 fn at_most(length: usize) -> usize {
     let most = (isize::MAX as usize - 1) | (length & 1);
-    length.min(if cfg!(all(target_arch = "wasm32", target_os = "unknown")) {
-        length
-    } else {
-        most
-    })
+    length.min(if cfg!(all(target_arch = "wasm32", target_os = "unknown")) { length } else { most })
 }
 
 /// In a release build no function panics. In another one a failed check ends here, in an endless loop.

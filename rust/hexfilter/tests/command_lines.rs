@@ -1,48 +1,31 @@
 //! Lines of a shell: what other tools write is decoded, and what the program prints about errors.
 #![cfg(target_os = "linux")]
 
-use std::env::{self, temp_dir};
 use std::path::{Path, PathBuf};
 use std::process::Command;
-use std::{fs, process};
+use std::{env, fs};
 
-/// A folder of this test, in which the lines of a shell run.
-struct Folder(PathBuf);
-
-impl Folder {
-    fn new(name: &str) -> Folder {
-        let path = temp_dir().join(format!("hexfilter {name} {}", process::id()));
-        fs::create_dir(&path).unwrap();
-        Folder(path)
-    }
-
-    /// The exit status, standard output and standard error of a line.
-    fn run(&self, line: &str) -> (Option<i32>, Vec<u8>, String) {
-        let folder = Path::new(env!("CARGO_BIN_EXE_hexfilter")).parent().unwrap();
-        let path = format!("{}:{}", folder.display(), env::var("PATH").unwrap());
-        let mut command = Command::new("bash");
-        let output = command
-            .args(["-c", line])
-            .current_dir(&self.0)
-            .env("PATH", path)
-            .output()
-            .unwrap();
-        let error = String::from_utf8(output.stderr).unwrap();
-        (output.status.code(), output.stdout, error)
-    }
-
-    /// The same. If the line fails, the test does.
-    fn made_by(&self, line: &str) -> Vec<u8> {
-        let (status, output, error) = self.run(line);
-        assert_eq!((status, error.as_str()), (Some(0), ""), "{line}");
-        output
-    }
+/// A new folder, in which the lines of a test run.
+fn folder(name: &str) -> PathBuf {
+    let path = Path::new(env!("CARGO_TARGET_TMPDIR")).join(name);
+    let _ = fs::remove_dir_all(&path);
+    fs::create_dir(&path).unwrap();
+    path
 }
 
-impl Drop for Folder {
-    fn drop(&mut self) {
-        let _ = fs::remove_dir_all(&self.0);
-    }
+/// The exit status, standard output and standard error of a line.
+fn run(folder: &Path, line: &str) -> (Option<i32>, Vec<u8>, String) {
+    let programs = Path::new(env!("CARGO_BIN_EXE_hexfilter")).parent().unwrap();
+    let path = format!("{}:{}", programs.display(), env::var("PATH").unwrap());
+    let output = Command::new("bash").args(["-c", line]).current_dir(folder).env("PATH", path).output().unwrap();
+    (output.status.code(), output.stdout, String::from_utf8(output.stderr).unwrap())
+}
+
+/// The standard output. If the line fails, the test does.
+fn made_by(folder: &Path, line: &str) -> Vec<u8> {
+    let (status, output, error) = run(folder, line);
+    assert_eq!((status, error.as_str()), (Some(0), ""), "{line}");
+    output
 }
 
 /// Other tools, and the options that write the same.
@@ -67,22 +50,14 @@ const FILES: [(&str, &str, &str); 5] = [
         "ssh-keygen -q -t ed25519 -N '' -f id_ed25519",
         "cut -d' ' -f2 id_ed25519.pub | base64 -d | openssl dgst -md5 -binary",
     ),
-    (
-        "uuid.txt",
-        "echo 6b697769-4b49-5749-8000-6b6977690000 > uuid.txt",
-        "printf 'kiwiKIWI\\x80\\0kiwi\\0\\0'",
-    ),
-    (
-        "string.txt",
-        "echo '\\x6b\\xff\\x00' > string.txt",
-        "printf 'k\\xff\\0'",
-    ),
+    ("uuid.txt", "echo 6b697769-4b49-5749-8000-6b6977690000 > uuid.txt", "printf 'kiwiKIWI\\x80\\0kiwi\\0\\0'"),
+    ("string.txt", "echo '\\x6b\\xff\\x00' > string.txt", "printf 'k\\xff\\0'"),
 ];
 
 /// Lines of the manual decode to the bytes of the file that they name. Those of the page are among them.
 #[test]
 fn other_tools() {
-    let folder = Folder::new("tools");
+    let folder = folder("tools");
     let manual = include_str!("../hexfilter.1")
         .replace("\\-", "-")
         .replace("\\(aq", "'")
@@ -106,15 +81,15 @@ fn other_tools() {
     let rows: Vec<_> = decoded.chain(encoded).collect();
     assert!(rows.len() > 15);
     for (_, make, _) in FILES {
-        folder.run(make);
+        run(&folder, make);
     }
     let bytes: Vec<u8> = (0..131_073_u32).map(|i| (i.wrapping_mul(i) >> 7) as u8).collect();
     for size in [0, 1, 29, 30, 31, 57, 131_073] {
-        fs::write(folder.0.join("disk.img"), &bytes[..size]).unwrap();
+        fs::write(folder.join("disk.img"), &bytes[..size]).unwrap();
         for (line, other) in &rows {
             let tool = line.split(' ').next().unwrap();
-            assert_eq!(folder.run(&format!("command -v {tool}")).0, Some(0), "{tool} is missing");
-            assert!(folder.made_by(line) == folder.made_by(other), "{line}, at {size} bytes");
+            assert_eq!(run(&folder, &format!("command -v {tool}")).0, Some(0), "{tool} is missing");
+            assert!(made_by(&folder, line) == made_by(&folder, other), "{line}, at {size} bytes");
         }
     }
 }
@@ -158,22 +133,10 @@ const ARGUMENTS: [(&str, usize, &str); 8] = [
     ("unknown option", 0, "-x|--decod|-D|-dx|---|--help=|--wrapx=1"),
     ("unknown option", 1, "-d -x|-w7 -z --y|- --z"),
     ("missing value after", 1, "-d -w|one --wrap|-p -dg|-d --separator"),
-    (
-        "invalid number",
-        0,
-        "-wd|--wrap=|--wrap=1x|--group=18446744073709551616",
-    ),
+    ("invalid number", 0, "-wd|--wrap=|--wrap=1x|--group=18446744073709551616"),
     ("invalid number", 1, "-w x|-w -1|--wrap +1|-g --"),
-    (
-        "invalid separator",
-        0,
-        "-sa|-s0|--separator=|--separator=F|-s::|--separator=ÿ",
-    ),
-    (
-        "--wrap beside --group or --separator:",
-        1,
-        "-w60 -g2|-s: -dw60|-g2 --wrap=0",
-    ),
+    ("invalid separator", 0, "-sa|-s0|--separator=|--separator=F|-s::|--separator=ÿ"),
+    ("--wrap beside --group or --separator:", 1, "-w60 -g2|-s: -dw60|-g2 --wrap=0"),
     ("second file", 1, "one two|- -|one two -x"),
 ];
 
@@ -220,37 +183,21 @@ const LINES: [(&str, i32, &str, &str); 29] = [
 
 #[test]
 fn statuses() {
-    let folder = Folder::new("statuses");
-    let error = |words: String| {
-        if words.is_empty() {
-            words
-        } else {
-            format!("hexfilter: {words}\n")
-        }
-    };
-    let check = |line: &str, status, output: &str, words: String| {
-        assert_eq!(folder.run(line), (Some(status), output.into(), error(words)), "{line}");
+    let folder = folder("statuses");
+    let check = |line: &str, status, output: &str, place: &str, words: &str| {
+        let error = if words.is_empty() { String::new() } else { format!("hexfilter: {place}{words}\n") };
+        assert_eq!(run(&folder, line), (Some(status), output.into(), error), "{line}");
     };
     for (text, options, status, output, words) in INPUTS {
-        let words = if words.is_empty() {
-            String::new()
-        } else {
-            format!("standard input: {words}")
-        };
-        check(&format!("printf '{text}' | hexfilter {options}"), status, output, words);
+        check(&format!("printf '{text}' | hexfilter {options}"), status, output, "standard input: ", words);
     }
     for (words, index, rows) in ARGUMENTS {
         for arguments in rows.split('|') {
             let named = arguments.split(' ').nth(index).unwrap();
-            check(
-                &format!("hexfilter {arguments}"),
-                2,
-                "",
-                format!("{words} \"{named}\"; try --help"),
-            );
+            check(&format!("hexfilter {arguments}"), 2, "", "", &format!("{words} \"{named}\"; try --help"));
         }
     }
     for (line, status, output, words) in LINES {
-        check(line, status, output, words.to_string());
+        check(line, status, output, "", words);
     }
 }

@@ -11,11 +11,7 @@ type End = (Option<i32>, Vec<u8>, String);
 
 fn hexfilter(arguments: &[&str]) -> Command {
     let mut command = Command::new(env!("CARGO_BIN_EXE_hexfilter"));
-    command
-        .args(arguments)
-        .stdin(Stdio::piped())
-        .stdout(Stdio::piped())
-        .stderr(Stdio::piped());
+    command.args(arguments).stdin(Stdio::piped()).stdout(Stdio::piped()).stderr(Stdio::piped());
     command
 }
 
@@ -102,21 +98,13 @@ fn an_argument_that_is_no_text() {
 /// The manual page has each line of the help, without its markup.
 #[test]
 fn the_manual_page() {
-    let page = include_str!("../hexfilter.1")
-        .replace("\\fI", "")
-        .replace("\\fR", "")
-        .replace('\\', "");
+    let page = include_str!("../hexfilter.1").replace("\\fI", "").replace("\\fR", "").replace('\\', "");
     let page: String = page
         .lines()
         .map(|line| line.strip_prefix(".BR ").or(line.strip_prefix(".B ")).unwrap_or(line))
         .flat_map(|line| [line, " "])
         .collect();
-    let words = |text: &str| {
-        text.replace(['"', ','], "")
-            .split_whitespace()
-            .collect::<Vec<_>>()
-            .join(" ")
-    };
+    let words = |text: &str| text.replace(['"', ','], "").split_whitespace().collect::<Vec<_>>().join(" ");
     let page = words(&page);
     let help = String::from_utf8(run(&mut hexfilter(&["--help"]), b"").1).unwrap();
     let (_, parts) = help.split_once("\n\n").unwrap();

@@ -60,10 +60,7 @@ fn what_is_refused_is_not_written() {
             assert!(!unsafe { read(text.as_ptr(), bytes.as_mut_ptr(), length) });
             let written = bytes.iter().take_while(|byte| **byte == 0xAA).count();
             let is_kept = bytes[written..].iter().all(|byte| *byte == 0);
-            assert!(
-                written <= invalid / 2 && is_kept,
-                "character {invalid} of {length} bytes"
-            );
+            assert!(written <= invalid / 2 && is_kept, "character {invalid} of {length} bytes");
         }
     }
 }

@@ -110,12 +110,7 @@ pub fn answers(line: &Line) -> Answers {
 /// The text of bytes in its four forms, and whether each reads back.
 fn written(line: &Line) -> Answers {
     let input = &line.input[..];
-    let texts = [
-        encode(input),
-        encode_upper(input),
-        encode_prefixed(input),
-        encode_upper_prefixed(input),
-    ];
+    let texts = [encode(input), encode_upper(input), encode_prefixed(input), encode_upper_prefixed(input)];
     let reads_back = |text: &String| decode(text).as_deref() == Ok(input);
     let unread = texts.iter().find(|text| !reads_back(text));
     let [lower, upper, prefixed, upper_prefixed] = &texts;
@@ -125,14 +120,8 @@ fn written(line: &Line) -> Answers {
         ("encode_prefixed", formed(prefixed, "0x", false)),
         ("encode_upper_prefixed", formed(upper_prefixed, "0x", true)),
         ("encode_hex", formed(ToHex::encode_hex::<String>(&input), "", false)),
-        (
-            "encode_hex_upper",
-            formed(ToHex::encode_hex_upper::<String>(&input), "", true),
-        ),
-        (
-            "decode",
-            unread.map_or(line.result.clone(), |text| format!("{text} is not read")),
-        ),
+        ("encode_hex_upper", formed(ToHex::encode_hex_upper::<String>(&input), "", true)),
+        ("decode", unread.map_or(line.result.clone(), |text| format!("{text} is not read"))),
     ]
 }
 

@@ -25,12 +25,7 @@ impl Line {
             Some((question, number)) => (question, Some(number.parse().unwrap())),
             None => (question, None),
         };
-        Some(Line {
-            question: question.to_string(),
-            number,
-            input: bytes_of(input),
-            result: result.to_string(),
-        })
+        Some(Line { question: question.to_string(), number, input: bytes_of(input), result: result.to_string() })
     }
 }
 

@@ -16,10 +16,7 @@ pub fn answers(line: &Line) -> Answers {
         ("read", None) => vec![("const_check", checked(line, const_check(input)))],
         ("read-into", Some(length)) => {
             let array = at!(length, N => bytes(const_decode_to_array::<N>(input)));
-            array
-                .map(|array| ("const_decode_to_array", array))
-                .into_iter()
-                .collect()
+            array.map(|array| ("const_decode_to_array", array)).into_iter().collect()
         }
         ("digits", None) => vec![("const_check_raw", const_check_raw(input).to_string())],
         ("message", None) => vec![("const_check", message(const_check(input)))],
@@ -38,23 +35,11 @@ fn buffered<const N: usize>(array: &[u8; N]) -> Answers {
         ("Buffer::format", formed(prefixed.format(array), "0x", false)),
         ("Buffer::format_upper", formed(prefixed.format_upper(array), "0x", true)),
         ("Buffer::format_slice", formed(plain.format_slice(array), "", false)),
-        (
-            "Buffer::format_slice_upper",
-            formed(plain.format_slice_upper(array), "", true),
-        ),
+        ("Buffer::format_slice_upper", formed(plain.format_slice_upper(array), "", true)),
         ("Buffer::const_format", formed(constant.as_str(), "", false)),
-        (
-            "Buffer::const_format_upper",
-            formed(constant_prefixed.as_str(), "0x", true),
-        ),
-        (
-            "const_encode",
-            formed(const_encode::<N, false>(array).as_str(), "", false),
-        ),
-        (
-            "const_encode",
-            formed(const_encode::<N, true>(array).as_str(), "0x", false),
-        ),
+        ("Buffer::const_format_upper", formed(constant_prefixed.as_str(), "0x", true)),
+        ("const_encode", formed(const_encode::<N, false>(array).as_str(), "", false)),
+        ("const_encode", formed(const_encode::<N, true>(array).as_str(), "0x", false)),
     ]
 }
 

@@ -13,37 +13,25 @@ fn shows<D: Debug>(rt: &impl Testing, value: &D, want: &str) {
 }
 
 #[test]
-fn errors(rt: HostRuntime) {
-    shows(
-        &rt,
-        &invalid(b'z', 5),
-        "InvalidHexCharacter { c: 'z', index: 5 }",
-    );
-    shows(
-        &rt,
-        &JsonError::Hex(FromHexError::OddLength),
-        "Hex(OddLength)",
-    );
-    shows(&rt, &JsonError::<FromHexError>::NotText, "NotText");
-    shows(&rt, &SinkError, "SinkError");
+fn values(rt: HostRuntime) {
+    macro_rules! show {
+        ($($value:expr => $want:expr,)+) => { $(shows(&rt, &$value, $want);)+ };
+    }
+    show! {
+        invalid(b'z', 5) => "InvalidHexCharacter { c: 'z', index: 5 }",
+        JsonError::Hex(FromHexError::OddLength) => "Hex(OddLength)",
+        JsonError::<FromHexError>::NotText => "NotText",
+        SinkError => "SinkError",
+        Hash32::from([0xAB; 32]) => "Hash32(0xabababababababababababababababababababababababababababababababab)",
+        Address20::from([0xAB; 20]) => "Address20(0xabababababababababababababababababababab)",
+        FixedBytes::from([1, 0xAB]) => "FixedBytes(0x01ab)",
+        Buffer::<1, false, 2>::new() => "Buffer(\"\\0\\0\")",
+    }
     same_bytes!(&rt, "{}", SinkError; SinkError.to_string(rt.alloc()).expect(&rt, "memory"), "sink refused");
 }
 
 #[test]
-fn hashes(rt: HostRuntime) {
-    let hash = "Hash32(0xabababababababababababababababababababababababababababababababab)";
-    shows(&rt, &Hash32::from([0xAB; 32]), hash);
-    shows(
-        &rt,
-        &Address20::from([0xAB; 20]),
-        "Address20(0xabababababababababababababababababababab)",
-    );
-    shows(&rt, &FixedBytes::from([1, 0xAB]), "FixedBytes(0x01ab)");
-}
-
-#[test]
 fn new_buffers(rt: HostRuntime) {
-    shows(&rt, &Buffer::<1, false, 2>::new(), "Buffer(\"\\0\\0\")");
     let text = format!(in rt.alloc(); "{:#?}", const_encode::<2, true, 6>(b"ki"));
     same_bytes!(&rt, "{:#?}", "0x6b69"; text.expect(&rt, "memory"), "Buffer(\n    \"0x6b69\",\n)");
     same!(&rt; Buffer::<4, false, 8>::new().as_str(), "\0\0\0\0\0\0\0\0");

@@ -11,7 +11,7 @@ use const_hex::{
     encode_to_slice, encode_to_slice_upper, encode_to_str, encode_to_str_upper,
 };
 use const_hex_testing::texts::{invalid, make_bytes, print};
-use const_hex_testing::{Testing, Text, same, same_bytes, same_read};
+use const_hex_testing::{Testing, Text, same, same_bytes};
 use hash_hex::Hash32;
 use std::boxed::BoxedSlice;
 
@@ -41,14 +41,34 @@ fn checks(rt: HostRuntime) {
     }
 }
 
+/// An array, or an error, is as wanted.
+fn reads<const N: usize>(
+    rt: &impl Testing,
+    call: &str,
+    row: Text<'_>,
+    read: &Result<[u8; N], FromHexError>,
+    wanted: Result<&[u8], FromHexError>,
+) {
+    let found = match read {
+        Ok(bytes) => Ok(Text(bytes)),
+        Err(error) => Err(*error),
+    };
+    same!(rt, call, row; found, wanted.map(|bytes| Text(bytes)));
+}
+
 /// What each decoder of N bytes returns, and what `decode_to_slice` leaves of bytes 0xEE after an error.
 fn decodes<const N: usize>(rt: &impl Testing, text: &[u8], wanted: Result<&[u8], FromHexError>)
     requires { N ≤ 128 }
 {
     let row = Text(text);
-    same_read!(rt, "decode_to_array", row; decode_to_array::<N>(text), wanted);
-    same_read!(rt, "const_decode_to_array", row; const_decode_to_array::<N>(text), wanted);
-    same_read!(rt, "from_hex", row; <[u8; N]>::from_hex(rt.alloc(), text), wanted);
+    macro_rules! each {
+        ($($call:literal => $read:expr,)+) => { $(reads(rt, $call, row, &$read, wanted);)+ };
+    }
+    each! {
+        "decode_to_array" => decode_to_array::<N>(text),
+        "const_decode_to_array" => const_decode_to_array::<N>(text),
+        "from_hex" => <[u8; N]>::from_hex(rt.alloc(), text),
+    }
     let mut bytes = [0xEE; N];
     let done = decode_to_slice(text, &mut bytes);
     same!(rt, "decode_to_slice", row; done.err(), wanted.err());
@@ -165,42 +185,12 @@ fn formats<const N: usize, const DIGITS: usize, const FULL: usize>(
 #[test]
 fn buffers(rt: HostRuntime) {
     let bytes = make_bytes(rt.alloc(), 128).expect(&rt, "memory");
-    formats(
-        &rt,
-        &bytes,
-        Buffer::<1, false, 2>::new(),
-        Buffer::<1, true, 4>::new(),
-    );
-    formats(
-        &rt,
-        &bytes,
-        Buffer::<8, false, 16>::new(),
-        Buffer::<8, true, 18>::new(),
-    );
-    formats(
-        &rt,
-        &bytes,
-        Buffer::<20, false, 40>::new(),
-        Buffer::<20, true, 42>::new(),
-    );
-    formats(
-        &rt,
-        &bytes,
-        Buffer::<32, false, 64>::new(),
-        Buffer::<32, true, 66>::new(),
-    );
-    formats(
-        &rt,
-        &bytes,
-        Buffer::<64, false, 128>::new(),
-        Buffer::<64, true, 130>::new(),
-    );
-    formats(
-        &rt,
-        &bytes,
-        Buffer::<128, false, 256>::new(),
-        Buffer::<128, true, 258>::new(),
-    );
+    macro_rules! formats_each {
+        ($($count:literal $digits:literal $full:literal),+) => {
+            $(formats(&rt, &bytes, Buffer::<$count, false, $digits>::new(), Buffer::<$count, true, $full>::new());)+
+        };
+    }
+    formats_each!(1 2 4, 8 16 18, 20 40 42, 32 64 66, 64 128 130, 128 256 258);
 }
 
 #[test]

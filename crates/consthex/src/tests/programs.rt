@@ -115,100 +115,41 @@ fn ends<R: Read>(
 /// Arguments, an input, what is written, the status, and the line on standard error.
 type Run<'a> = (&'a [&'a [u8]], &'a [u8], &'a [u8], u8, &'a str);
 
-// The name of the program does not matter. A newline is removed once, and only at the end of a text.
-const RUNS: [Run<'_>; 26] = [
-    (ENCODE, b"kiwi", b"6b697769\n", 0, ""),
-    (
-        &[b"\xff\xfe/consthex", b"encode"],
-        b"kiwi",
-        b"6b697769\n",
-        0,
-        "",
-    ),
-    (&[b"", b"encode"], b"", b"\n", 0, ""),
-    (&[LONG_NAME, b"encode"], b"\n", b"0a\n", 0, ""),
-    (&[b"check", b"encode"], b"kiwi", b"6b697769\n", 0, ""),
-    (
-        &[b"consthex", b"encode-upper"],
-        b"kiwi",
-        b"6B697769\n",
-        0,
-        "",
-    ),
-    (
-        &[b"consthex", b"encode-prefixed"],
-        b"kiwi",
-        b"0x6b697769\n",
-        0,
-        "",
-    ),
-    (ENCODE_UPPER_PREFIXED, b"kiwi", b"0x6B697769\n", 0, ""),
-    (
-        DECODE,
-        b"48656c6c6f20776f726c6421\n",
-        b"Hello world!",
-        0,
-        "",
-    ),
-    (DECODE, b"0X6B697769", b"kiwi", 0, ""),
-    (DECODE, b"", b"", 0, ""),
-    (DECODE, b"\n", b"", 0, ""),
-    (CHECK, b"0X6B", b"ok\n", 0, ""),
-    (DECODE, b"0x1\n", b"", 1, "odd number of digits"),
-    (CHECK, b"0x1\n", b"", 1, "odd number of digits"),
-    (DECODE, b"6b\n\n", b"", 1, "odd number of digits"),
-    (DECODE, b"123", b"", 1, "odd number of digits"),
-    (CHECK, b"123\n", b"", 1, "odd number of digits"),
-    (DECODE, b"zz", b"", 1, "invalid character 'z' at position 0"),
-    (CHECK, b"zz", b"", 1, "invalid character 'z' at position 0"),
-    (
-        DECODE,
-        b"0xzz\n",
-        b"",
-        1,
-        "invalid character 'z' at position 2",
-    ),
-    (
-        CHECK,
-        b"0xzz\n",
-        b"",
-        1,
-        "invalid character 'z' at position 2",
-    ),
-    (
-        DECODE,
-        b"0x0x\n",
-        b"",
-        1,
-        "invalid character 'x' at position 3",
-    ),
-    (
-        DECODE,
-        b"6b\r\n6b",
-        b"",
-        1,
-        "invalid character '\\r' at position 2",
-    ),
-    (
-        DECODE,
-        b"6b\n\n\n",
-        b"",
-        1,
-        "invalid character '\\n' at position 2",
-    ),
-    (
-        CHECK,
-        b"6b\xff0",
-        b"",
-        1,
-        "invalid character '\u{ff}' at position 2",
-    ),
+// The name of the program does not matter.
+const RUNS: [(&[&[u8]], &[u8], &[u8]); 10] = [
+    (ENCODE, b"kiwi", b"6b697769\n"),
+    (&[b"\xff\xfe/consthex", b"encode"], b"kiwi", b"6b697769\n"),
+    (&[b"", b"encode"], b"", b"\n"),
+    (&[LONG_NAME, b"encode"], b"\n", b"0a\n"),
+    (&[b"check", b"encode"], b"kiwi", b"6b697769\n"),
+    (&[b"consthex", b"encode-upper"], b"kiwi", b"6B697769\n"),
+    (&[b"consthex", b"encode-prefixed"], b"kiwi", b"0x6b697769\n"),
+    (ENCODE_UPPER_PREFIXED, b"kiwi", b"0x6B697769\n"),
+    (DECODE, b"48656c6c6f20776f726c6421\n", b"Hello world!"),
+    (CHECK, b"0X6B", b"ok\n"),
+];
+
+// Texts that are rejected. A newline is removed once, and only at the end of a text.
+const REJECTED: [(&[u8], &str); 9] = [
+    (b"0x1\n", "odd number of digits"),
+    (b"6b\n\n", "odd number of digits"),
+    (b"123", "odd number of digits"),
+    (b"zz", "invalid character 'z' at position 0"),
+    (b"0xzz\n", "invalid character 'z' at position 2"),
+    (b"0x0x\n", "invalid character 'x' at position 3"),
+    (b"6b\r\n6b", "invalid character '\\r' at position 2"),
+    (b"6b\n\n\n", "invalid character '\\n' at position 2"),
+    (b"6b\xff0", "invalid character '\u{ff}' at position 2"),
 ];
 
 #[test]
 fn whole_runs(rt: HostRuntime) {
-    for run in RUNS {
-        runs(&rt, run);
+    for (arguments, input, written) in RUNS {
+        runs(&rt, (arguments, input, written, 0, ""));
+    }
+    for (text, line) in REJECTED {
+        runs(&rt, (DECODE, text, b"", 1, line));
+        runs(&rt, (CHECK, text, b"", 1, line));
     }
 }
 
@@ -265,7 +206,7 @@ fn words_that_name_none(rt: HostRuntime) {
     }
 }
 
-// A text that is rejected, where standard error fails; a failed read; and too long an input.
+// A text that is rejected, where standard error fails; a failed read; too long an input; and a failed write.
 #[test]
 fn statuses_and_lines(rt: HostRuntime) {
     let mut output = Target::new(rt.alloc(), 1, InjectedFault::Nothing);
@@ -277,22 +218,9 @@ fn statuses_and_lines(rt: HostRuntime) {
     let (host, line) = (Host::new(ENCODE, true), (3, "input too long"));
     ends(&rt, host, &mut Endless, &mut output, line);
     same!(&rt; (output.writes, output.flushes), (0, 0));
-}
-
-// The reader of the output goes away: at a write, or only at the flush.
-#[test]
-fn statuses_of_failed_writes(rt: HostRuntime) {
-    let kind = ErrorKind::BrokenPipe;
-    for fault in [
-        InjectedFault::Writes(1, 1, kind),
-        InjectedFault::Writes(2, 2, kind),
-        InjectedFault::Full(2),
-        InjectedFault::Flush(kind),
-    ] {
-        let (host, line) = (Host::new(ENCODE, true), (3, "write failed"));
-        let mut output = Target::new(rt.alloc(), 1, fault);
-        ends(&rt, host, &mut b"kiwi".as_slice(), &mut output, line);
-    }
+    let (host, line) = (Host::new(ENCODE, true), (3, "write failed"));
+    let mut failing = Target::new(rt.alloc(), 1, InjectedFault::Flush(ErrorKind::BrokenPipe));
+    ends(&rt, host, &mut b"kiwi".as_slice(), &mut failing, line);
 }
 
 #[test]
