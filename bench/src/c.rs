@@ -188,7 +188,7 @@ macro_rules! in_c {
 }
 
 /// Every call in C of both libraries.
-pub fn cases(cases: &mut Cases) {
+pub(crate) fn cases(cases: &mut Cases) {
     in_c!(theirs, "const-hex", cases);
     in_c!(ours, "const-hex-proved", cases);
 }

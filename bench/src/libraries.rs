@@ -1,19 +1,7 @@
-//! The libraries, and how each makes the calls, as its user writes them.
+//! The libraries, and how each makes the calls.
 
+use crate::Case;
 use std::hint::black_box;
-use std::time::{Duration, Instant};
-
-/// The numbers of bytes that are encoded, or decoded to.
-pub const SIZES: [usize; 13] = [1, 4, 16, 20, 32, 33, 64, 65, 128, 256, 2048, 16_384, 131_072];
-
-/// One call of one library, on input of one size.
-pub struct Case {
-    pub call: String,
-    pub library: &'static str,
-    pub size: usize,
-    /// Makes the call so many times, and returns how long that took.
-    pub repeat: Box<dyn Fn(usize) -> Duration>,
-}
 
 /// Every call of every library, for `size` bytes. Those of const-hex and const-hex-proved take turns.
 pub fn cases(size: usize) -> Vec<Case> {
@@ -48,7 +36,7 @@ pub fn cases(size: usize) -> Vec<Case> {
 const TEXTS: [&str; 5] = ["", ", a prefix", ", first character invalid", ", last character invalid", ", odd length"];
 
 /// The cases for bytes, and for texts that are made of their text in lowercase.
-pub struct Cases {
+pub(crate) struct Cases {
     bytes: Vec<u8>,
     text: Vec<u8>,
     list: Vec<Case>,
@@ -56,7 +44,7 @@ pub struct Cases {
 
 impl Cases {
     /// Adds a case that calls `run` on the bytes and on a buffer for the text.
-    pub fn encoding<T>(
+    pub(crate) fn encoding<T>(
         &mut self,
         call: &str,
         library: &'static str,
@@ -67,7 +55,7 @@ impl Cases {
     }
 
     /// Adds a case for each kind of text, which calls `run` on the text and on a buffer for the bytes.
-    pub fn decoding<T: 'static, E: 'static>(
+    pub(crate) fn decoding<T: 'static, E: 'static>(
         &mut self,
         call: &str,
         library: &'static str,
@@ -101,25 +89,14 @@ impl Cases {
         run: impl Fn(&[u8], &mut [u8]) -> T + Copy + 'static,
     ) {
         let output = vec![0; size];
-        let repeat = move |count| {
-            // Made here, the buffers have the same addresses for each library: a store that crosses a page takes long.
+        let prepare = move || {
             let (input, mut output) = (input.clone(), output.clone());
-            let mut call = move || {
+            move || {
                 black_box(run(black_box(&input), black_box(&mut output)));
-            };
-            let start = Instant::now();
-            make(&mut call, count);
-            start.elapsed()
+            }
         };
-        self.list.push(Case { call: call.to_string(), library, size: self.bytes.len(), repeat: Box::new(repeat) });
-    }
-}
-
-/// Makes a call so many times. Here the loop is alone with the call.
-#[inline(never)]
-fn make(call: &mut impl FnMut(), count: usize) {
-    for _ in 0..count {
-        call();
+        let case = Case::new(call.to_string(), library, self.bytes.len(), prepare);
+        self.list.push(case);
     }
 }
 

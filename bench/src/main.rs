@@ -1,19 +1,14 @@
-//! Instructions of one call, by valgrind's callgrind, and on AArch64 by QEMU, which do not depend on what else the
-//! machine does; or nanoseconds.
+//! Instructions of one call, by valgrind's callgrind, and on AArch64 by QEMU. They do not depend on what else the
+//! machine does.
 //!
 //!     cargo run --release                            # every call of every library
 //!     cargo run --release -- const-hex               # of these libraries alone
 //!     MOST=2048 cargo run                            # without optimization, up to so many bytes
 //!     MOST=2048 cargo run -- --builds                # where const-hex takes fewer, in each of its builds
-//!     cargo run --release -- --times                 # nanoseconds, which may also be of some libraries alone
 //!
 //! The program runs itself once, with all calls. A cell is what two rounds of calls differ by, by the number of calls.
 
-#[cfg(feature = "c")]
-mod c;
-mod libraries;
-
-use libraries::{cases, Case, SIZES};
+use const_hex_bench::{cases, Case, SIZES};
 use std::io::{self, BufRead, BufReader};
 use std::process::{Command, ExitCode, Stdio};
 use std::{env, fs, process};
@@ -23,11 +18,6 @@ fn main() -> ExitCode {
     let done = match arguments.first().map(String::as_str) {
         Some("--repeat") => {
             repeat_all(&arguments.split_off(1));
-            Ok(())
-        }
-        Some("--times") => {
-            let only = arguments.split_off(1);
-            print_tables(&chosen(&only).zip(times(&only)).collect::<Vec<_>>());
             Ok(())
         }
         Some("--builds") => {
@@ -85,8 +75,8 @@ fn print(only: &[String]) -> io::Result<()> {
     Ok(())
 }
 
-/// A case, and the instructions or the nanoseconds of one call.
-type Cell = (Case, f64);
+/// A case, and the instructions of one call.
+type Cell = (Case, u64);
 
 /// The cases of the named libraries, or of all, up to the number of bytes that the variable `MOST` says.
 fn chosen(only: &[String]) -> impl Iterator<Item = Case> + '_ {
@@ -109,10 +99,10 @@ fn repeat_all(only: &[String]) {
     for case in chosen(only) {
         let (few, more) = calls(case.size);
         // The first calls bind symbols, and let the allocator choose where large blocks stand.
-        (case.repeat)(few);
+        case.repeat(few);
         for count in [few, more] {
             mark();
-            (case.repeat)(count);
+            case.repeat(count);
             mark();
         }
     }
@@ -141,7 +131,7 @@ fn mark() {
 const MARK: &str = "const-hex-bench: a round begins or ends";
 
 /// Counts each cell, in the order of the cases.
-fn count(only: &[String]) -> io::Result<Vec<f64>> {
+fn count(only: &[String]) -> io::Result<Vec<u64>> {
     let rounds = match cfg!(target_arch = "aarch64") {
         true => counted_by_qemu(only)?,
         false => counted_by_callgrind(only)?,
@@ -149,23 +139,9 @@ fn count(only: &[String]) -> io::Result<Vec<f64>> {
     // Of each case, what was counted before its first round, in it, between both, and in its second round.
     let cells = rounds.chunks_exact(4).zip(chosen(only)).map(|(counted, case)| {
         let (few, more) = calls(case.size);
-        (counted[3].saturating_sub(counted[1]) / (more - few) as u64) as f64
+        counted[3].saturating_sub(counted[1]) / (more - few) as u64
     });
     Ok(cells.collect())
-}
-
-/// The nanoseconds of each cell: the least of many runs, in which the cases take turns.
-fn times(only: &[String]) -> Vec<f64> {
-    let cases: Vec<Case> = chosen(only).collect();
-    let mut least = vec![f64::MAX; cases.len()];
-    for _ in 0..1000 {
-        for (case, least) in cases.iter().zip(&mut least) {
-            let count = 1 + 20_000 / case.size;
-            let nanoseconds = (case.repeat)(count).as_nanos() as f64 / count as f64;
-            *least = least.min((10.0 * nanoseconds).round() / 10.0);
-        }
-    }
-    least
 }
 
 /// Runs this program under another, with all calls.
@@ -244,7 +220,7 @@ fn print_above(cells: &[Cell]) {
         let is_theirs = |case: &Case| case.library == "const-hex" && case.call == *call && case.size == *size;
         match cells.iter().find(|(case, _)| is_theirs(case)) {
             Some((_, theirs)) if ours > theirs => {
-                println!("{:.2}: {call}, {size} bytes, {ours} beside {theirs}", ours / theirs)
+                println!("{:.2}: {call}, {size} bytes, {ours} beside {theirs}", *ours as f64 / *theirs as f64)
             }
             _ => {}
         }
