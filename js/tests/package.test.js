@@ -40,7 +40,7 @@ test('npm packs and installs the package, and the example runs', { skip: without
     }
 });
 
-test('esbuild bundles the package, in at most 17 KiB', { skip: without('esbuild') }, () => {
+test('esbuild bundles the package, in at most 15 KiB', { skip: without('esbuild') }, () => {
     const input = join(folder, 'bundled.mjs');
     writeFileSync(input, example.replace('const-hex-proved', join(root, 'dist/const_hex.js')));
     for (const format of ['esm', 'cjs', 'iife']) {
@@ -48,7 +48,7 @@ test('esbuild bundles the package, in at most 17 KiB', { skip: without('esbuild'
         run(root, 'esbuild', '--bundle', `--format=${format}`, `--outfile=${output}`, input);
         assert.equal(run(folder, process.execPath, output), printed, format);
     }
-    assert(run(root, 'esbuild', '--minify', 'dist/const_hex.js').length <= 17 * 1024);
+    assert(run(root, 'esbuild', '--minify', 'dist/const_hex.js').length <= 15 * 1024);
 });
 
 test('tsc accepts the types', { skip: without('tsc') || without('npm') }, () => {
