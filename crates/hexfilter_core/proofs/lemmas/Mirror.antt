@@ -1,5 +1,5 @@
 -- What was encoded is decoded again.
-use Rattle.std.proofs.Common.{◌≡◌, ◌≢◌, ℕ, ◌+◌, ◌<◌, ◌≤◌, ◌==◌, ◌&&◌, ◌||◌, Bool, true, false, if◌then◌else◌, List, [], ◌∷◌, ◌++◌, length, min, Option, Some, Result, Ok, refl, sym, ap, ◌∙◌, arith, append_assoc, append-nil, All}
+use Rattle.std.proofs.Common.{◌≡◌, ◌≢◌, ℕ, ◌+◌, ◌<◌, ◌≤◌, ◌==◌, ◌&&◌, ◌||◌, Bool, true, false, if◌then◌else◌, List, [], ◌∷◌, ◌++◌, length, min, Option, Some, Ok, refl, sym, ap, ◌∙◌, arith, append_assoc, append-nil, All}
 use Rattle.std.proofs.lemmas.Bool.Decides.{nat_tests}
 use Rattle.std.proofs.lemmas.List.Elements.{All-cons, All-head, All-nil, All-tail, All-weaker}
 use Rattle.const_hex.proofs.lemmas.Reading.{one_answer}
@@ -38,26 +38,17 @@ groups_read i n s k (b ∷ t) fits other plain =
     let more = groups_read i n s (min (k + 1) n) t (omega arith) other rest in
     grind (arith, nat_tests, fits, other, one, first, more)
 
-digit_plain : (b : ℕ) → IsDigit b → is_whitespace b ≡ false
-digit_plain b h = grind (arith, nat_tests, h)
-
-zero_digit : (c : ℕ) → c ≡ 48 → IsDigit c
-zero_digit c e = rw e refl
-
 with_prefix : (prefix : Bool) (t : List ℕ) → All (λ b. is_whitespace b ≡ false) t
     → All (λ b. is_whitespace b ≡ false) (prefix_of prefix ++ t)
 with_prefix true t h =
     All-cons (λ b. is_whitespace b ≡ false) 48 (120 ∷ t) refl (All-cons (λ b. is_whitespace b ≡ false) 120 t refl h)
 with_prefix false t h = h
 
-same_bytes : (a b : List ℕ) → ◌≡◌ {A = Result (List ℕ) FromHexError} (Ok a) (Ok b) → a ≡ b
-same_bytes a b is = cc
-
 text_plain_chars : (prefix up : Bool) (x : List ℕ) → AreBytes x
     → All (λ b. is_whitespace b ≡ false) (full_text prefix up x)
 text_plain_chars prefix up x h =
     let digits =
-    All-weaker IsDigit (λ b. is_whitespace b ≡ false) digit_plain (hex_text up x)
+    All-weaker IsDigit (λ b. is_whitespace b ≡ false) (λ b h. grind (arith, nat_tests, h)) (hex_text up x)
     (Spells-digits (hex_text up x) x (Spells-hex_text up x h)) in
     with_prefix prefix (hex_text up x) digits
 
@@ -79,7 +70,7 @@ mirrored prefix up i g x h ignores =
 
 one_digit : (c d : ℕ) (v : List ℕ) (b : Bool) → ((c == 48) && (d == 120 || d == 88)) ≡ b
     → AllDigits (if b then v else c ∷ d ∷ v) → AllDigits (c ∷ [])
-one_digit c d v true e h = All-cons IsDigit c [] (zero_digit c (grind (arith, nat_tests, e))) (All-nil IsDigit)
+one_digit c d v true e h = All-cons IsDigit c [] (grind (arith, nat_tests, e)) (All-nil IsDigit)
 one_digit c d v false e h = All-cons IsDigit c [] (All-head IsDigit c (d ∷ v) h) (All-nil IsDigit)
 
 body_front : (u v : List ℕ) → AllDigits (body_of (u ++ v)) → AllDigits (body_of u)
@@ -116,7 +107,7 @@ module _ (prefix up i : Bool) (g : Groups) (ignores : IgnoresLines i g) (bytes :
   -- the bytes are decoded again
   pub decoded_again : (x y : List ℕ) → x ≡ encoded prefix up g bytes → Makes (Decode (mirror i g)) x y → y ≡ bytes
   decoded_again x y is (found, reads, same) =
-      same ∙ same_bytes found bytes (one_answer _ (Ok found) (Ok bytes) reads (read x is))
+      cc (one_answer _ (Ok found) (Ok bytes) reads (read x is))
 
   -- and never rejected
   pub never_rejected : (x rest y : List ℕ) (e : FromHexError) (place : Option Place)
