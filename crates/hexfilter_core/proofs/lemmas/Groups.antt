@@ -143,25 +143,14 @@ encoded_more prefix up g old new x y chunk z has breaks due fits = record {
   fits = fits;
 }
 
--- nothing more follows
-encoded_end : (prefix up : Bool) (g : Groups) (e : Stage) (x y : List ℕ) → HasEncoded prefix up g e x y
-    → e.prefix ≡ false
-    → encoded prefix up g x ≡ y ++ ended g e.column
-unfolding groups_from
-encoded_end prefix up g e x y has due =
-    ap (encoded prefix up g) (sym (append-nil x)) ∙ has.left []
-    ∙ ap (λ p. y ++ groups_from g e.column (full_text p up [])) due
-    ∙ ap (λ l. y ++ groups_from g e.column l) (hex_text-nil up)
-
-pub no_bytes : (l : List ℕ) → length l ≡ 0 → l ≡ []
-no_bytes [] h = refl
-no_bytes (b ∷ l) h = absurd (omega arith)
-
 -- the empty chunk is the end
 pub encoded_last : (prefix up : Bool) (g : Groups) (old new : Stage) (x y chunk z : List ℕ)
     → HasEncoded prefix up g old x y
     → PutsInto g old.column (full_text old.prefix up chunk) z new.column → new.prefix ≡ false → new.column ≤ g.size
     → y ++ (z ++ ended g new.column) ≡ encoded prefix up g (x ++ chunk)
+unfolding groups_from
 encoded_last prefix up g old new x y chunk z has breaks due fits =
     let more = encoded_more prefix up g old new x y chunk z has breaks due fits in
-    sym (encoded_end prefix up g new (x ++ chunk) (y ++ z) more due ∙ append_assoc y z (ended g new.column))
+    sym (ap (encoded prefix up g) (sym (append-nil (x ++ chunk))) ∙ more.left []
+    ∙ ap (λ p. (y ++ z) ++ groups_from g new.column (full_text p up [])) due
+    ∙ ap (λ l. (y ++ z) ++ groups_from g new.column l) (hex_text-nil up) ∙ append_assoc y z (ended g new.column))

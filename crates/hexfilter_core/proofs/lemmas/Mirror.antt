@@ -62,12 +62,6 @@ by_separator i n s t true e plain ignores =
 by_separator i n s t false e plain ignores =
     rw e (groups_read i n s 0 t (omega arith) (λ is. grind (arith, nat_tests, e, is)) plain)
 
--- the text of what was encoded
-mirrored : (prefix up i : Bool) (g : Groups) (x : List ℕ) → AreBytes x → IgnoresLines i g
-    → text_of (mirror i g) (encoded prefix up g x) ≡ full_text prefix up x
-mirrored prefix up i g x h ignores =
-    by_separator i g.size g.separator (full_text prefix up x) _ refl (text_plain_chars prefix up x h) ignores
-
 one_digit : (c d : ℕ) (v : List ℕ) (b : Bool) → ((c == 48) && (d == 120 || d == 88)) ≡ b
     → AllDigits (if b then v else c ∷ d ∷ v) → AllDigits (c ∷ [])
 one_digit c d v true e h = All-cons IsDigit c [] (grind (arith, nat_tests, e)) (All-nil IsDigit)
@@ -102,7 +96,8 @@ module _ (prefix up i : Bool) (g : Groups) (ignores : IgnoresLines i g) (bytes :
   -- the bytes are what the text of the encoded bytes decodes to
   read : (x : List ℕ) → x ≡ encoded prefix up g bytes → Reads (text_of (mirror i g) x) (Ok bytes)
   read x is =
-      Reads-full_text _ prefix up bytes are (ap (text_of (mirror i g)) is ∙ mirrored prefix up i g bytes are ignores)
+      Reads-full_text _ prefix up bytes are (ap (text_of (mirror i g)) is
+      ∙ by_separator i g.size g.separator _ _ refl (text_plain_chars prefix up bytes are) ignores)
 
   -- the bytes are decoded again
   pub decoded_again : (x y : List ℕ) → x ≡ encoded prefix up g bytes → Makes (Decode (mirror i g)) x y → y ≡ bytes

@@ -11,15 +11,14 @@ use Rattle.const_hex.specs.Prelude.{HasRead, counted, waiting_digit}
 use Rattle.const_hex_arch.proofs.lemmas.Texts.{Spells-length, Spells-parts}
 use Rattle.hexfilter_core.specs.Stages.{Decoder, HasAdded, HasDecoded, HasMade, HasScanned, HasWritten, Reaches, Scanner, Stage}
 use Rattle.hexfilter_core.specs.Dumps.{FromHexError, HasError, InvalidHexCharacter, InvalidStringLength, IsPlace, NoMemory, OddLength, Place, Reading, SpellsBeginning, SpellsPairs, body_of, encoded, is_whitespace, kept, leaves_out, next, next_from, text_from, text_of}
-use Rattle.hexfilter_core.specs.Runs.{Decode, Encode, Makes, MakesBeginning, Mode, Read, Reads, RunError, Text, Write}
+use Rattle.hexfilter_core.specs.Runs.{Decode, Encode, MakesBeginning, Mode, Read, Reads, RunError, Text, Write}
 
 pub text-append : (r : Reading) (k : ℕ) (x y : List ℕ)
     → text_from r k (x ++ y) ≡ text_from r k x ++ text_from r (next_from r k x) y
 unfolding text_from next_from
 text-append r k [] y = refl
 text-append r k (b ∷ x) y =
-    ap (λ t. kept r k b ++ t) (text-append r (next r k b) x y)
-    ∙ sym (append_assoc (kept r k b) (text_from r (next r k b) x) (text_from r (next_from r (next r k b) x) y))
+    grind (arith, append_assoc, text-append r (next r k b) x y)
 
 pub next-append : (r : Reading) (k : ℕ) (x y : List ℕ) → next_from r k (x ++ y) ≡ next_from r (next_from r k x) y
 unfolding next_from
@@ -253,13 +252,11 @@ so_far_made (Encode prefix upper g) s x y has =
 so_far_made (Decode r) s x y has =
     (has.text.bytes, spelled r s.decoder x has.text.bytes has.text.read, has.text.given)
 
-all_made : (m : Mode) (x y : List ℕ) → Makes m x y → MakesBeginning m x y
-all_made (Encode prefix upper g) x y is = ([], sym is ∙ sym (append-nil y))
-all_made (Decode r) x y (bytes, reads, is) = (bytes, read_begun r x bytes reads, is)
-
 pub reached_begun : (m : Mode) (s : Stage) (left : Option (List ℕ)) (n : ℕ) (x y : List ℕ) (o : Option RunError)
     → Reaches m s left n x y o → MakesBeginning m x y
-reached_begun m s left zero x y None (more, end) = all_made m x y (end refl)
+reached_begun (Encode prefix upper g) s left zero x y None (more, end) = ([], sym (end refl) ∙ sym (append-nil y))
+reached_begun (Decode r) s left zero x y None (more, end) =
+    let (bytes, reads, is) = end refl in (bytes, read_begun r x bytes reads, is)
 reached_begun m s left (suc n) x y None (more, end) = so_far_made m s x y (more (omega arith))
 reached_begun (Encode prefix upper g) s left n x y (Some (Text e place)) h = absurd h
 reached_begun (Decode r) s left n x y (Some (Text e place)) (bytes, fails, is) =

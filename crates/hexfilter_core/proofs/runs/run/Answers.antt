@@ -1,4 +1,4 @@
-use Rattle.std.proofs.Common.{◌++◌, ◌+◌, [], Some, length, take, arith, length-take, refl}
+use Rattle.std.proofs.Common.{rules, ◌++◌, ◌+◌, [], Some, length, take, arith, length-take, refl}
 use Rattle.std.proofs.KnownBytes.{Appends-kept, Appends-trans, Consumes-kept, Consumes-trans}
 use Rattle.std.proofs.Math.Seq.{take-append-add}
 use Rattle.hexfilter_core.proofs.lemmas.Groups.{if_err, if_ok}
@@ -47,7 +47,7 @@ chunks-preserved g c =
 
 pub returns-clause-begun : goal.returns-clause-begun
 returns-clause-begun g c =
-    let (x, y, has, read, wrote) = c.chunks.invariant in (x, y, read, so_far_made c.args.mode _ x y has, wrote)
+    search (rules, so_far_made)
 
 pub returns-in-Some-clause-text : goal.returns-in-Some-clause-text
 returns-in-Some-clause-text g c = λ e place is.

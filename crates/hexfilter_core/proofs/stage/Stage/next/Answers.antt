@@ -1,6 +1,7 @@
 use Rattle.std.proofs.Common.{◌≡◌, ◌++◌, ◌∙◌, [], ℕ, List, Bool, true, false, if◌then◌else◌, ap, append-nil, arith, length}
 use Rattle.std.proofs.lemmas.Bool.Decides.{nat_tests}
-use Rattle.hexfilter_core.proofs.lemmas.Groups.{encoded_last, encoded_more, no_bytes}
+use Rattle.std.proofs.lemmas.Grind.{common_steps}
+use Rattle.hexfilter_core.proofs.lemmas.Groups.{encoded_last, encoded_more}
 use Rattle.hexfilter_core.proofs.stage.Stage.next.Goals as goal
 
 -- what is put after the text of a chunk
@@ -28,7 +29,7 @@ returns-in-Encode-clause-made c = λ x y left has end.
 
 pub returns-in-Decode-clause-made : goal.returns-in-Decode-clause-made
 returns-in-Decode-clause-made c = λ x y left has end.
-    let none : c.args.chunk.now ≡ [] = no_bytes c.args.chunk.now (grind (arith, nat_tests)) in
+    let none : c.args.chunk.now ≡ [] = grind (arith, common_steps) in
     rw (c.in-Decode.is, none, append-nil x, append-nil y)
     (c.finish.ensures c.in-Decode.field-0 x y left (rw c.in-Decode.is at has) (end (ap length none)))
 
