@@ -1,21 +1,16 @@
-use Rattle.std.proofs.Common.{◌≡◌, ◌↔◌, ◌/◌, ◌<◌, [], ℕ, List, Result, Ok, Err, length, refl, arith, IfOk}
+use Rattle.std.proofs.Common.{◌≡◌, ◌↔◌, ◌/◌, ◌<◌, [], ℕ, List, Result, Err, length, arith, IfOk}
 use Rattle.const_hex.specs.Prelude.{ReadsOn, body_of, AllDigits}
 use Rattle.const_hex.specs.declared.error.FromHexError.{FromHexError}
-use Rattle.const_hex.specs.declared.error.FromHexError.TheVariants.{OddLength, InvalidStringLength, InvalidHexCharacter, NoMemory}
+use Rattle.const_hex.specs.declared.error.FromHexError.TheVariants.{InvalidStringLength}
 use Rattle.const_hex_uses.proofs.streams.decode_where_it_fits.Goals as goal
 
 whole : (t : List ℕ) (n : ℕ) (r : Result ℕ FromHexError) → ReadsOn t [] n r
     → IfOk r (λ more. AllDigits (body_of t) × (more ≡ length (body_of t) / 2))
-whole t n (Ok more) (fits, pairs, digits) = (digits, omega (arith, pairs))
-whole t n (Err e) h = tt
+whole t n r h = grind arith
 
 tests_space : (t : List ℕ) (n : ℕ) (r : Result ℕ FromHexError) → ReadsOn t [] n r
     → (r ≡ Err InvalidStringLength) ↔ (n < length (body_of t) / 2)
-tests_space t n (Ok more) h = ((λ e. absurd (cc e)), (λ less. absurd (omega (arith, h.0, h.1, less))))
-tests_space t n (Err OddLength) h = absurd h
-tests_space t n (Err InvalidStringLength) h = ((λ e. omega (arith, h)), (λ less. refl))
-tests_space t n (Err (InvalidHexCharacter c i)) h = ((λ e. absurd (cc e)), (λ less. absurd (omega (arith, h.0, less))))
-tests_space t n (Err NoMemory) h = absurd h
+tests_space t n r h = grind arith
 
 pub returns-clause-space : goal.returns-clause-space
 returns-clause-space c =
