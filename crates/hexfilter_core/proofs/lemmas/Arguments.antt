@@ -16,8 +16,7 @@ as_number (Err e) = Err InvalidNumber
 
 tested : {E : Type 0} (a : Bool) (n v m : ℕ) (r : Result ℕ E) → OkIff r ((a ≡ true) × (0 < n) × (v < m)) v
     → (if nat_lt 0 n && a && nat_lt v m then Ok v else Err InvalidNumber) ≡ as_number r
-tested a n v m (Ok x) h = grind (arith, nat_tests)
-tested a n v m (Err e) h = grind (arith, nat_tests)
+tested a n v m r h = grind (arith, nat_tests)
 
 -- what `parse` makes of a text that begins with no plus sign
 pub parsed : {E : Type 0} (v : List ℕ) (r : Result ℕ E) → ParsesUnsigned 64 10 v r → (slice_index v 0 == 43) ≡ false

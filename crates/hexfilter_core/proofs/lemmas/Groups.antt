@@ -116,12 +116,10 @@ puts_pairs s (a ∷ b ∷ c ∷ d ∷ e ∷ f ∷ g ∷ []) rest many = absurd (
 puts_pairs s (a ∷ b ∷ c ∷ d ∷ e ∷ f ∷ g ∷ h ∷ text) rest many = refl
 
 pub if_ok : {T E P : Type 0} (r : Result T E) → P → OnOk r P
-if_ok (Ok v) p = p
-if_ok (Err e) p = tt
+if_ok r p = grind arith
 
 pub if_err : {T E P : Type 0} (r : Result T E) → P → OnErr r P
-if_err (Ok v) p = tt
-if_err (Err e) p = p
+if_err r p = grind arith
 
 full_text-more : (prefix up : Bool) (x more : List ℕ)
     → full_text prefix up (x ++ more) ≡ full_text prefix up x ++ full_text false up more

@@ -10,18 +10,10 @@ use Rattle.std.proofs.KnownBytes.{Appends-nil, Consumes-nil}
 pub not_decoded : (t y : List ℕ) (space : ℕ) (r : Result ℕ FromHexError) → ReadsOn t y space r
     → r ≢ Err InvalidStringLength
     → OnErr r (AllDigits (body_of t) → ⊥)
-not_decoded t y space (Ok n) h other = tt
-not_decoded t y space (Err OddLength) h other = λ digits. h
-not_decoded t y space (Err InvalidStringLength) h other = λ digits. other refl
-not_decoded t y space (Err (InvalidHexCharacter c i)) (fits, (n, (p, bad, is, at), counts)) other =
-    λ digits. digits_no_bad (body_of t) p digits bad
-not_decoded t y space (Err NoMemory) h other = λ digits. h
+not_decoded t y space r h other = grind (arith, digits_no_bad)
 
 pub not_checked : (t : List ℕ) (e : FromHexError) → ChecksOn t (Err e) → AllDigits (body_of t) → ⊥
-not_checked t OddLength h digits = h
-not_checked t InvalidStringLength h digits = h
-not_checked t (InvalidHexCharacter c i) (n, (p, bad, is, at), counts) digits = digits_no_bad (body_of t) p digits bad
-not_checked t NoMemory h digits = h
+not_checked t e h digits = grind (arith, digits_no_bad)
 
 pub same_value : {V E : Type 0} (f g : E) → ◌≡◌ {A = Result V E} (Err f) (Err g) → f ≡ g
 same_value f g is = cc
@@ -29,9 +21,7 @@ same_value f g is = cc
 -- an error of the text was not made by a signal
 pub text_not_interrupted : (m : Mode) (left : Option (List ℕ)) (x y : List ℕ) (e : RunError) → IsErrorOf m left x y e
     → IsNotInterrupted e
-text_not_interrupted m left x y (Text e place) h = tt
-text_not_interrupted m left x y (Read e) h = absurd h
-text_not_interrupted m left x y (Write e) h = absurd h
+text_not_interrupted m left x y e h = grind arith
 
 -- a run
 pub ends : (m : Mode) (had left old new : Option (List ℕ)) (r : Result Unit RunError)
@@ -46,10 +36,7 @@ ends m had left old new (Err (Write e)) done text begun = search rules
 
 -- a write that failed
 pub failed : {P : Type 0} (r : Result Unit RunError) → IfErr r IsFailedWrite → P → OnErr r ((status_of r ≡ 3) × P)
-failed (Ok v) is p = tt
-failed (Err (Text e place)) is p = absurd is
-failed (Err (Read e)) is p = absurd is
-failed (Err (Write e)) is p = (refl, p)
+failed r is p = grind arith
 
 nothing_made : (m : Mode) → MakesBeginning m [] []
 unfolding text_from
