@@ -1,27 +1,11 @@
 -- What errors and exit statuses say of decoders and runs.
-use Rattle.std.proofs.Common.{rules, ◌≡◌, ◌≢◌, ℕ, List, Option, Result, Ok, Err, refl, inl, inr, [], Bool, true, false, arith, OnErr, IfErr, OnOk}
-use Rattle.const_hex.specs.Prelude.{ChecksOn, ReadsOn}
-use Rattle.hexfilter_core.specs.Dumps.{AllDigits, FromHexError, InvalidHexCharacter, InvalidStringLength, NoMemory, OddLength, body_of, Place, text_from}
-use Rattle.const_hex_arch.proofs.lemmas.FirstInvalid.{digits_no_bad}
-use Rattle.hexfilter_core.specs.Runs.{IsErrorOf, IsNotInterrupted, Mode, Read, RunError, Text, Write, Decode, Encode, Ends, EndsIf, IsFailedWrite, MakesBeginning, RunsPartly, RunsToEnd, RunsToError, status_of}
+use Rattle.std.proofs.Common.{rules, ◌≡◌, ℕ, List, Option, Result, Ok, Err, refl, inl, inr, [], Bool, true, false, arith, OnErr, IfErr, OnOk}
+use Rattle.hexfilter_core.specs.Dumps.{FromHexError, Place, text_from}
+use Rattle.hexfilter_core.specs.Runs.{Mode, Read, RunError, Text, Write, Decode, Encode, Ends, EndsIf, IsFailedWrite, MakesBeginning, RunsPartly, RunsToEnd, RunsToError, status_of}
 use Rattle.std.proofs.KnownBytes.{Appends-nil, Consumes-nil}
-
--- a decoder that has space fails for a text that has not digits alone
-pub not_decoded : (t y : List ℕ) (space : ℕ) (r : Result ℕ FromHexError) → ReadsOn t y space r
-    → r ≢ Err InvalidStringLength
-    → OnErr r (AllDigits (body_of t) → ⊥)
-not_decoded t y space r h other = grind (arith, digits_no_bad)
-
-pub not_checked : (t : List ℕ) (e : FromHexError) → ChecksOn t (Err e) → AllDigits (body_of t) → ⊥
-not_checked t e h digits = grind (arith, digits_no_bad)
 
 pub same_value : {V E : Type 0} (f g : E) → ◌≡◌ {A = Result V E} (Err f) (Err g) → f ≡ g
 same_value f g is = cc
-
--- an error of the text was not made by a signal
-pub text_not_interrupted : (m : Mode) (left : Option (List ℕ)) (x y : List ℕ) (e : RunError) → IsErrorOf m left x y e
-    → IsNotInterrupted e
-text_not_interrupted m left x y e h = grind arith
 
 -- a run
 pub ends : (m : Mode) (had left old new : Option (List ℕ)) (r : Result Unit RunError)

@@ -2,7 +2,7 @@ use Rattle.std.proofs.Common.{rules, ◌++◌, ◌+◌, [], Some, length, take, 
 use Rattle.std.proofs.KnownBytes.{Appends-kept, Appends-trans, Consumes-kept, Consumes-trans}
 use Rattle.std.proofs.Math.Seq.{take-append-add}
 use Rattle.hexfilter_core.proofs.lemmas.Groups.{if_err, if_ok}
-use Rattle.hexfilter_core.proofs.lemmas.Runs.{same_value, text_not_interrupted}
+use Rattle.hexfilter_core.proofs.lemmas.Runs.{same_value}
 use Rattle.hexfilter_core.proofs.lemmas.Texts.{fewer_made, reached_begun, so_far_made}
 use Rattle.hexfilter_core.proofs.runs.run.Goals as goal
 
@@ -62,7 +62,7 @@ returns-in-Some-clause-text g c = λ e place is.
 pub returns-in-Some-clause-retried : goal.returns-in-Some-clause-retried
 returns-in-Some-clause-retried g c =
     let (x, y, has, read, wrote) = c.chunks.invariant in
-    text_not_interrupted c.args.mode _ _ _ c.in-Some.error (rw c.in-Some.is at (c.next-end.ensures.made x y (Some []) has (λ none. refl)))
+    let fails = rw c.in-Some.is at (c.next-end.ensures.made x y (Some []) has (λ none. refl)) in grind (arith, fails)
 
 pub returns-then-count-eq0-clause-ok : goal.returns-then-count-eq0-clause-ok
 returns-then-count-eq0-clause-ok g c =
