@@ -1,3 +1,2 @@
-pub mod Modes
 pub mod Chunks
 pub mod Statuses

@@ -124,6 +124,7 @@ fn spread(separator: u8, a: u8, b: u8, c: u8, d: u8) -> [u8; 8]
 
 /// Puts a separator into the output at an index if the group is whole. Returns the index after it, and how many
 /// characters the group then has.
+#[tactic(auto, using(std::proofs::lemmas::Grind::common_steps, crate::proofs::lemmas::Groups::after_group))]
 fn separate(groups: Groups, column: usize, output: &mut [u8], end: usize) -> (usize, usize)
     requires size { groups.size ≢ 0 }
     requires column { column ≤ groups.size }

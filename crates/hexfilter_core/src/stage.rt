@@ -88,6 +88,7 @@ impl Stage {
     }
 
     /// Encodes the next chunk into the front of the output. Returns the number of bytes there.
+    #[tactic(auto, using(std::proofs::lemmas::Grind::common_steps, crate::proofs::lemmas::Groups::without_groups))]
     fn encode(
         &mut self,
         upper: bool,

@@ -1,13 +1,13 @@
 -- Numbers and letters of arguments, and arguments that are read back.
-use Rattle.std.proofs.Common.{◌≡◌, ◌∙◌, ap, sym, map, inl, inr, not, ◌⊎◌, None, ℕ, ◌+◌, ◌<◌, ◌≤◌, ◌==◌, ◌^◌, ◌&&◌, nat_lt, Bool, true, false, if◌then◌else◌, List, [], ◌∷◌, length, get_or, slice_index, take, drop, Result, Ok, Err, refl, arith, is_some, OkIff}
+use Rattle.std.proofs.Common.{◌≡◌, ◌∙◌, ap, sym, map, inl, inr, ◌⊎◌, None, ℕ, ◌+◌, ◌<◌, ◌≤◌, ◌==◌, ◌^◌, ◌&&◌, nat_lt, Bool, true, false, if◌then◌else◌, List, [], ◌∷◌, length, get_or, slice_index, take, drop, Result, Ok, Err, refl, arith, is_some, OkIff}
 use Rattle.std.proofs.lemmas.Bool.Decides.{nat_tests}
 use Rattle.std.specs.Str.{IsCharBoundary, IsUtf8, all_ascii_digits}
 use Rattle.std.specs.Str.Parse.{ParsesUnsigned, digits_value}
 use Rattle.std.proofs.lemmas.List.{drop_all, drop_more, get_or-map, length-map}
 use Rattle.std.proofs.lemmas.Str.{IsCharBoundary-after_ascii}
 use Rattle.std.proofs.lemmas.Str.Parse.{numerals_by_value, parse_plain, tells_all_ascii_digits}
-use Rattle.hexfilter_core.specs.Options.{AreFor, AsksFor, InvalidNumber, IsPlain, Options, Run, UnknownOption, UsageErrorKind, WritesGroups, and_then, arguments_of, at, find, number, request, request_for, start, table, with_argument, with_arguments, with_letters, with_value}
-use Rattle.hexfilter_core.specs.Dumps.{Groups, Reading}
+use Rattle.hexfilter_core.specs.Options.{AreFor, AsksFor, InvalidNumber, IsPlain, Options, Run, UnknownOption, UsageErrorKind, WritesGroups, and_then, arguments_of, at, find, number, request, request_for, table, with_argument, with_arguments, with_letters, with_value}
+use Rattle.hexfilter_core.specs.Dumps.{Groups}
 use Rattle.hexfilter_core.specs.Runs.{Decode, Encode, Mode}
 
 abbrev pub as_number : {E : Type 0} → Result ℕ E → Result ℕ UsageErrorKind
@@ -16,9 +16,7 @@ as_number (Err e) = Err InvalidNumber
 
 tested : {E : Type 0} (a : Bool) (n v m : ℕ) (r : Result ℕ E) → OkIff r ((a ≡ true) × (0 < n) × (v < m)) v
     → (if nat_lt 0 n && a && nat_lt v m then Ok v else Err InvalidNumber) ≡ as_number r
-tested a n v m (Ok x) h = grind (arith, nat_tests)
-tested true n v m (Err e) h = grind (arith, nat_tests)
-tested false n v m (Err e) h = grind (arith, nat_tests)
+tested a n v m r h = grind (arith, nat_tests)
 
 -- what `parse` makes of a text that begins with no plus sign
 pub parsed : {E : Type 0} (v : List ℕ) (r : Result ℕ E) → ParsesUnsigned 64 10 v r → (slice_index v 0 == 43) ≡ false
@@ -49,9 +47,6 @@ pub letter_fails : (o : Options) (t first : List ℕ) (e : UsageErrorKind) → 0
     → Err e ≡ find first (table o) → with_letters o t ≡ Err e
 letter_fails o t first e h front is = letter o t first (drop 1 t) (Err e) h front refl is
 
-no_letter : (o : Options) (c : ℕ) → 128 ≤ c → find (c ∷ []) (table o) ≡ Err UnknownOption
-no_letter o c h = grind (arith, nat_tests)
-
 -- a character that is not ASCII is no letter
 pub letter_unknown : (o : Options) (t : List ℕ) → IsUtf8 t → 0 < length t → ¬ (IsCharBoundary t 1)
     → with_letters o t ≡ Err UnknownOption
@@ -59,7 +54,8 @@ unfolding with_letters
 letter_unknown o [] utf8 h inside = absurd (omega arith)
 letter_unknown o (c ∷ t) utf8 h inside =
     let high : 128 ≤ c = grind (arith, nat_tests, inside, IsCharBoundary-after_ascii (c ∷ t) 0 utf8 h) in
-    rw (no_letter o c high) refl
+    let none : find (c ∷ []) (table o) ≡ Err UnknownOption = grind (arith, nat_tests, high) in
+    rw none refl
 
 pub letters_end : (o : Options) (t : List ℕ) → length t ≡ 0 → with_letters o t ≡ Ok o
 unfolding with_letters
@@ -88,50 +84,35 @@ arguments_end bytes xs i o h =
 
 -- ---- what is written as arguments is read back
 
--- the flags of a mode
-writes_flags : (prefix upper : Bool) (g : Groups) (words : List (List ℕ))
-    → (i : ℕ) × (request_for (arguments_of (Encode prefix upper g) words)
-    ≡ with_arguments (record start { prefix = prefix; upper = upper }) i words)
+reads_back : (check ignores : Bool) (g : Groups) (words : List (List ℕ)) → IsPlain g words ⊎ WritesGroups g words
+    → let m : Mode = Decode (record { is_check = check; ignore_whitespace = ignores; groups = g }) in
+    request_for (arguments_of m words) ≡ Ok (Run m None)
 unfolding with_arguments
-writes_flags true true g words = (2, refl)
-writes_flags true false g words = (1, refl)
-writes_flags false true g words = (1, refl)
-writes_flags false false g words = (0, refl)
-
-reads_flags : (check ignores : Bool) (g : Groups) (words : List (List ℕ))
-    → (i : ℕ) × (request_for (arguments_of
-    (Decode (record { is_check = check; ignore_whitespace = ignores; groups = g })) words)
-    ≡ with_arguments (record start { check = check; decode = not check; ignore_whitespace = ignores }) i words)
-unfolding with_arguments
-reads_flags true true g words = (2, refl)
-reads_flags true false g words = (1, refl)
-reads_flags false true g words = (2, refl)
-reads_flags false false g words = (1, refl)
-
-writes : (prefix upper : Bool) (g : Groups) (words : List (List ℕ)) (i : ℕ) → AsksFor (Encode prefix upper g) words
-    → with_arguments (record start { prefix = prefix; upper = upper }) i words ≡ Ok (Run (Encode prefix upper g) None)
-unfolding with_arguments
-writes prefix upper g words i (inl (v, h, newline, is)) = rw (is, h, ← newline) refl
-writes prefix upper g words i (inr (inl (is, none))) = rw (is, none) refl
-writes prefix upper g words i (inr (inr (v, n, h, size, character, is))) = rw (is, h, character, ← size) refl
-
-reads : (check ignores : Bool) (g : Groups) (words : List (List ℕ)) (i : ℕ) → IsPlain g words ⊎ WritesGroups g words
-    → let r : Reading = record { is_check = check; ignore_whitespace = ignores; groups = g } in
-    with_arguments (record start { check = check; decode = not check; ignore_whitespace = ignores }) i words
-    ≡ Ok (Run (Decode r) None)
-unfolding with_arguments
-reads true ignores g words i (inl (is, none)) = rw (is, none) refl
-reads false ignores g words i (inl (is, none)) = rw (is, none) refl
-reads true ignores g words i (inr (v, n, h, size, character, is)) = rw (is, h, character, ← size) refl
-reads false ignores g words i (inr (v, n, h, size, character, is)) = rw (is, h, character, ← size) refl
+reads_back true true g words (inl (is, none)) = rw (is, none) refl
+reads_back true true g words (inr (v, n, h, size, character, is)) = rw (is, h, character, ← size) refl
+reads_back true false g words (inl (is, none)) = rw (is, none) refl
+reads_back true false g words (inr (v, n, h, size, character, is)) = rw (is, h, character, ← size) refl
+reads_back false true g words (inl (is, none)) = rw (is, none) refl
+reads_back false true g words (inr (v, n, h, size, character, is)) = rw (is, h, character, ← size) refl
+reads_back false false g words (inl (is, none)) = rw (is, none) refl
+reads_back false false g words (inr (v, n, h, size, character, is)) = rw (is, h, character, ← size) refl
 
 pub read_back : (m : Mode) (words : List (List ℕ)) → AsksFor m words
     → request_for (arguments_of m words) ≡ Ok (Run m None)
-read_back (Encode prefix upper g) words h =
-    let (i, is) = writes_flags prefix upper g words in is ∙ writes prefix upper g words i h
-read_back (Decode r) words h =
-    let (i, is) = reads_flags r.is_check r.ignore_whitespace r.groups words in
-    is ∙ reads r.is_check r.ignore_whitespace r.groups words i h
+unfolding with_arguments
+read_back (Encode true true g) words (inl (v, h, newline, is)) = rw (is, h, ← newline) refl
+read_back (Encode true true g) words (inr (inl (is, none))) = rw (is, none) refl
+read_back (Encode true true g) words (inr (inr (v, n, h, size, character, is))) = rw (is, h, character, ← size) refl
+read_back (Encode true false g) words (inl (v, h, newline, is)) = rw (is, h, ← newline) refl
+read_back (Encode true false g) words (inr (inl (is, none))) = rw (is, none) refl
+read_back (Encode true false g) words (inr (inr (v, n, h, size, character, is))) = rw (is, h, character, ← size) refl
+read_back (Encode false true g) words (inl (v, h, newline, is)) = rw (is, h, ← newline) refl
+read_back (Encode false true g) words (inr (inl (is, none))) = rw (is, none) refl
+read_back (Encode false true g) words (inr (inr (v, n, h, size, character, is))) = rw (is, h, character, ← size) refl
+read_back (Encode false false g) words (inl (v, h, newline, is)) = rw (is, h, ← newline) refl
+read_back (Encode false false g) words (inr (inl (is, none))) = rw (is, none) refl
+read_back (Encode false false g) words (inr (inr (v, n, h, size, character, is))) = rw (is, h, character, ← size) refl
+read_back (Decode r) words h = reads_back r.is_check r.ignore_whitespace r.groups words h
 
 pub asked : (m : Mode) (arguments : List (List ℕ)) → AreFor m arguments → request_for arguments ≡ Ok (Run m None)
 asked m arguments (words, asks, is) = rw is (read_back m words asks)

@@ -1,5 +1,5 @@
 -- Parts of groups, and of a text that is encoded part after part.
-use Rattle.std.proofs.Common.{◌≡◌, ℕ, ◌+◌, ◌-◌, ◌<◌, ◌≤◌, List, [], ◌∷◌, ◌++◌, length, min, take, drop, get_or, slice_set, refl, sym, ap, ◌∙◌, arith, append_assoc, length-append, Bool, false, Result, Ok, Err, take-add, length-set, length-take, length-take-le, length-drop, take-take, take_all, append-nil, OnErr, OnOk}
+use Rattle.std.proofs.Common.{◌≡◌, ℕ, ◌+◌, ◌-◌, ◌<◌, ◌≤◌, List, [], ◌∷◌, ◌++◌, length, min, take, drop, get_or, slice_set, refl, sym, ap, ◌∙◌, arith, append_assoc, length-append, Bool, false, Result, take-add, length-set, length-take, length-take-le, length-drop, take-take, take_all, append-nil, OnErr, OnOk}
 use Rattle.std.proofs.lemmas.Bool.Decides.{nat_tests}
 use borrow.Rule.Slice.PartMut.{put_mid}
 use Rattle.hexfilter_core.proofs.lemmas.Texts.{take_put}
@@ -116,12 +116,10 @@ puts_pairs s (a ∷ b ∷ c ∷ d ∷ e ∷ f ∷ g ∷ []) rest many = absurd (
 puts_pairs s (a ∷ b ∷ c ∷ d ∷ e ∷ f ∷ g ∷ h ∷ text) rest many = refl
 
 pub if_ok : {T E P : Type 0} (r : Result T E) → P → OnOk r P
-if_ok (Ok v) p = p
-if_ok (Err e) p = tt
+if_ok r p = grind arith
 
 pub if_err : {T E P : Type 0} (r : Result T E) → P → OnErr r P
-if_err (Ok v) p = tt
-if_err (Err e) p = p
+if_err r p = grind arith
 
 full_text-more : (prefix up : Bool) (x more : List ℕ)
     → full_text prefix up (x ++ more) ≡ full_text prefix up x ++ full_text false up more
@@ -143,25 +141,14 @@ encoded_more prefix up g old new x y chunk z has breaks due fits = record {
   fits = fits;
 }
 
--- nothing more follows
-encoded_end : (prefix up : Bool) (g : Groups) (e : Stage) (x y : List ℕ) → HasEncoded prefix up g e x y
-    → e.prefix ≡ false
-    → encoded prefix up g x ≡ y ++ ended g e.column
-unfolding groups_from
-encoded_end prefix up g e x y has due =
-    ap (encoded prefix up g) (sym (append-nil x)) ∙ has.left []
-    ∙ ap (λ p. y ++ groups_from g e.column (full_text p up [])) due
-    ∙ ap (λ l. y ++ groups_from g e.column l) (hex_text-nil up)
-
-pub no_bytes : (l : List ℕ) → length l ≡ 0 → l ≡ []
-no_bytes [] h = refl
-no_bytes (b ∷ l) h = absurd (omega arith)
-
 -- the empty chunk is the end
 pub encoded_last : (prefix up : Bool) (g : Groups) (old new : Stage) (x y chunk z : List ℕ)
     → HasEncoded prefix up g old x y
     → PutsInto g old.column (full_text old.prefix up chunk) z new.column → new.prefix ≡ false → new.column ≤ g.size
     → y ++ (z ++ ended g new.column) ≡ encoded prefix up g (x ++ chunk)
+unfolding groups_from
 encoded_last prefix up g old new x y chunk z has breaks due fits =
     let more = encoded_more prefix up g old new x y chunk z has breaks due fits in
-    sym (encoded_end prefix up g new (x ++ chunk) (y ++ z) more due ∙ append_assoc y z (ended g new.column))
+    sym (ap (encoded prefix up g) (sym (append-nil (x ++ chunk))) ∙ more.left []
+    ∙ ap (λ p. (y ++ z) ++ groups_from g new.column (full_text p up [])) due
+    ∙ ap (λ l. (y ++ z) ++ groups_from g new.column l) (hex_text-nil up) ∙ append_assoc y z (ended g new.column))

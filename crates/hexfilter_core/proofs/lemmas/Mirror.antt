@@ -1,5 +1,5 @@
 -- What was encoded is decoded again.
-use Rattle.std.proofs.Common.{◌≡◌, ◌≢◌, ℕ, ◌+◌, ◌<◌, ◌≤◌, ◌==◌, ◌&&◌, ◌||◌, Bool, true, false, if◌then◌else◌, List, [], ◌∷◌, ◌++◌, length, min, Option, Some, Result, Ok, refl, sym, ap, ◌∙◌, arith, append_assoc, append-nil, All}
+use Rattle.std.proofs.Common.{◌≡◌, ◌≢◌, ℕ, ◌+◌, ◌<◌, ◌≤◌, ◌==◌, ◌&&◌, ◌||◌, Bool, true, false, if◌then◌else◌, List, [], ◌∷◌, ◌++◌, length, min, Option, Some, Ok, refl, sym, ap, ◌∙◌, arith, append_assoc, append-nil, All}
 use Rattle.std.proofs.lemmas.Bool.Decides.{nat_tests}
 use Rattle.std.proofs.lemmas.List.Elements.{All-cons, All-head, All-nil, All-tail, All-weaker}
 use Rattle.const_hex.proofs.lemmas.Reading.{one_answer}
@@ -38,26 +38,17 @@ groups_read i n s k (b ∷ t) fits other plain =
     let more = groups_read i n s (min (k + 1) n) t (omega arith) other rest in
     grind (arith, nat_tests, fits, other, one, first, more)
 
-digit_plain : (b : ℕ) → IsDigit b → is_whitespace b ≡ false
-digit_plain b h = grind (arith, nat_tests, h)
-
-zero_digit : (c : ℕ) → c ≡ 48 → IsDigit c
-zero_digit c e = rw e refl
-
 with_prefix : (prefix : Bool) (t : List ℕ) → All (λ b. is_whitespace b ≡ false) t
     → All (λ b. is_whitespace b ≡ false) (prefix_of prefix ++ t)
 with_prefix true t h =
     All-cons (λ b. is_whitespace b ≡ false) 48 (120 ∷ t) refl (All-cons (λ b. is_whitespace b ≡ false) 120 t refl h)
 with_prefix false t h = h
 
-same_bytes : (a b : List ℕ) → ◌≡◌ {A = Result (List ℕ) FromHexError} (Ok a) (Ok b) → a ≡ b
-same_bytes a b is = cc
-
 text_plain_chars : (prefix up : Bool) (x : List ℕ) → AreBytes x
     → All (λ b. is_whitespace b ≡ false) (full_text prefix up x)
 text_plain_chars prefix up x h =
     let digits =
-    All-weaker IsDigit (λ b. is_whitespace b ≡ false) digit_plain (hex_text up x)
+    All-weaker IsDigit (λ b. is_whitespace b ≡ false) (λ b h. grind (arith, nat_tests, h)) (hex_text up x)
     (Spells-digits (hex_text up x) x (Spells-hex_text up x h)) in
     with_prefix prefix (hex_text up x) digits
 
@@ -71,15 +62,9 @@ by_separator i n s t true e plain ignores =
 by_separator i n s t false e plain ignores =
     rw e (groups_read i n s 0 t (omega arith) (λ is. grind (arith, nat_tests, e, is)) plain)
 
--- the text of what was encoded
-mirrored : (prefix up i : Bool) (g : Groups) (x : List ℕ) → AreBytes x → IgnoresLines i g
-    → text_of (mirror i g) (encoded prefix up g x) ≡ full_text prefix up x
-mirrored prefix up i g x h ignores =
-    by_separator i g.size g.separator (full_text prefix up x) _ refl (text_plain_chars prefix up x h) ignores
-
 one_digit : (c d : ℕ) (v : List ℕ) (b : Bool) → ((c == 48) && (d == 120 || d == 88)) ≡ b
     → AllDigits (if b then v else c ∷ d ∷ v) → AllDigits (c ∷ [])
-one_digit c d v true e h = All-cons IsDigit c [] (zero_digit c (grind (arith, nat_tests, e))) (All-nil IsDigit)
+one_digit c d v true e h = All-cons IsDigit c [] (grind (arith, nat_tests, e)) (All-nil IsDigit)
 one_digit c d v false e h = All-cons IsDigit c [] (All-head IsDigit c (d ∷ v) h) (All-nil IsDigit)
 
 body_front : (u v : List ℕ) → AllDigits (body_of (u ++ v)) → AllDigits (body_of u)
@@ -111,12 +96,13 @@ module _ (prefix up i : Bool) (g : Groups) (ignores : IgnoresLines i g) (bytes :
   -- the bytes are what the text of the encoded bytes decodes to
   read : (x : List ℕ) → x ≡ encoded prefix up g bytes → Reads (text_of (mirror i g) x) (Ok bytes)
   read x is =
-      Reads-full_text _ prefix up bytes are (ap (text_of (mirror i g)) is ∙ mirrored prefix up i g bytes are ignores)
+      Reads-full_text _ prefix up bytes are (ap (text_of (mirror i g)) is
+      ∙ by_separator i g.size g.separator _ _ refl (text_plain_chars prefix up bytes are) ignores)
 
   -- the bytes are decoded again
   pub decoded_again : (x y : List ℕ) → x ≡ encoded prefix up g bytes → Makes (Decode (mirror i g)) x y → y ≡ bytes
   decoded_again x y is (found, reads, same) =
-      same ∙ same_bytes found bytes (one_answer _ (Ok found) (Ok bytes) reads (read x is))
+      cc (one_answer _ (Ok found) (Ok bytes) reads (read x is))
 
   -- and never rejected
   pub never_rejected : (x rest y : List ℕ) (e : FromHexError) (place : Option Place)

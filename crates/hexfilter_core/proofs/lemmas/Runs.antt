@@ -1,79 +1,36 @@
 -- What errors and exit statuses say of decoders and runs.
-use Rattle.std.proofs.Common.{◌≡◌, ◌≢◌, ℕ, List, Option, Result, Ok, Err, refl, inl, inr, [], Bool, true, false, if◌then◌else◌, arith, OnErr, IfErr, OnOk}
-use Rattle.const_hex.specs.Prelude.{ChecksOn, ReadsOn}
-use Rattle.hexfilter_core.specs.Dumps.{AllDigits, FromHexError, InvalidHexCharacter, InvalidStringLength, NoMemory, OddLength, body_of, Place, text_from}
-use Rattle.const_hex_arch.proofs.lemmas.FirstInvalid.{digits_no_bad}
-use Rattle.hexfilter_core.specs.Runs.{IsErrorOf, IsNotInterrupted, Mode, Read, RunError, Text, Write, Decode, Encode, Ends, EndsIf, IsFailedWrite, MakesBeginning, RunsPartly, RunsToEnd, RunsToError, status_of}
+use Rattle.std.proofs.Common.{rules, ◌≡◌, ℕ, List, Option, Result, Ok, Err, refl, inl, inr, [], Bool, true, false, arith, OnErr, IfErr, OnOk}
+use Rattle.hexfilter_core.specs.Dumps.{FromHexError, Place, text_from}
+use Rattle.hexfilter_core.specs.Runs.{Mode, Read, RunError, Text, Write, Decode, Encode, Ends, EndsIf, IsFailedWrite, MakesBeginning, RunsPartly, RunsToEnd, RunsToError, status_of}
 use Rattle.std.proofs.KnownBytes.{Appends-nil, Consumes-nil}
-
--- a decoder that has space fails for a text that has not digits alone
-pub not_decoded : (t y : List ℕ) (space : ℕ) (r : Result ℕ FromHexError) → ReadsOn t y space r
-    → r ≢ Err InvalidStringLength
-    → OnErr r (AllDigits (body_of t) → ⊥)
-not_decoded t y space (Ok n) h other = tt
-not_decoded t y space (Err OddLength) h other = λ digits. h
-not_decoded t y space (Err InvalidStringLength) h other = λ digits. other refl
-not_decoded t y space (Err (InvalidHexCharacter c i)) (fits, (n, (p, bad, is, at), counts)) other =
-    λ digits. digits_no_bad (body_of t) p digits bad
-not_decoded t y space (Err NoMemory) h other = λ digits. h
-
-pub not_checked : (t : List ℕ) (e : FromHexError) → ChecksOn t (Err e) → AllDigits (body_of t) → ⊥
-not_checked t OddLength h digits = h
-not_checked t InvalidStringLength h digits = h
-not_checked t (InvalidHexCharacter c i) (n, (p, bad, is, at), counts) digits = digits_no_bad (body_of t) p digits bad
-not_checked t NoMemory h digits = h
 
 pub same_value : {V E : Type 0} (f g : E) → ◌≡◌ {A = Result V E} (Err f) (Err g) → f ≡ g
 same_value f g is = cc
-
--- an error of the text was not made by a signal
-pub text_not_interrupted : (m : Mode) (left : Option (List ℕ)) (x y : List ℕ) (e : RunError) → IsErrorOf m left x y e
-    → IsNotInterrupted e
-text_not_interrupted m left x y (Text e place) h = tt
-text_not_interrupted m left x y (Read e) h = absurd h
-text_not_interrupted m left x y (Write e) h = absurd h
 
 -- a run
 pub ends : (m : Mode) (had left old new : Option (List ℕ)) (r : Result Unit RunError)
     → OnOk r (RunsToEnd m had left old new)
     → ((e : FromHexError) (place : Option Place) → r ≡ Err (Text e place) → RunsToError m had left old new e place)
     → OnErr r (RunsPartly m had left old new) → Ends m (status_of r) had left old new
-ends m had left old new (Ok v) done text begun =
-    (λ h. done, λ h. absurd (omega (arith, h)), λ h. absurd (omega (arith, h)), inl refl)
-ends m had left old new (Err (Text e place)) done text begun = (
-  λ h. absurd (omega (arith, h)),
-  λ h. (e, place, text e place refl),
-  λ h. absurd (omega (arith, h)),
-  inr (inl refl),
-)
-ends m had left old new (Err (Read e)) done text begun =
-    (λ h. absurd (omega (arith, h)), λ h. absurd (omega (arith, h)), λ h. begun, inr (inr refl))
-ends m had left old new (Err (Write e)) done text begun =
-    (λ h. absurd (omega (arith, h)), λ h. absurd (omega (arith, h)), λ h. begun, inr (inr refl))
+ends m had left old new (Ok v) done text begun = search rules
+ends m had left old new (Err (Text e place)) done text begun =
+    (search rules, λ h. (e, place, text e place refl), search rules, inr (inl refl))
+ends m had left old new (Err (Read e)) done text begun = search rules
+ends m had left old new (Err (Write e)) done text begun = search rules
 
 -- a write that failed
 pub failed : {P : Type 0} (r : Result Unit RunError) → IfErr r IsFailedWrite → P → OnErr r ((status_of r ≡ 3) × P)
-failed (Ok v) is p = tt
-failed (Err (Text e place)) is p = absurd is
-failed (Err (Read e)) is p = absurd is
-failed (Err (Write e)) is p = (refl, p)
-
-nothing_written : (c : Bool) → ◌≡◌ {A = List ℕ} [] (if c then [] else [])
-nothing_written true = refl
-nothing_written false = refl
+failed r is p = grind arith
 
 nothing_made : (m : Mode) → MakesBeginning m [] []
 unfolding text_from
 nothing_made (Encode prefix upper g) = (_, refl)
-nothing_made (Decode r) = ([], tt, nothing_written r.is_check)
+nothing_made (Decode r) = ([], tt, grind arith)
 
 -- a run, also one that may not begin
 pub ends_always : (b : Bool) (m : Mode) (s : ℕ) (had left old new : Option (List ℕ)) → EndsIf b m s had left old new
     → Ends m s had left old new
 ends_always true m s had left old new h = h
-ends_always false m s had left old new (three, read, wrote) = (
-  λ h. absurd (omega (arith, three, h)),
-  λ h. absurd (omega (arith, three, h)),
-  λ h. ([], [], rw read (Consumes-nil had), nothing_made m, rw wrote (Appends-nil old)),
-  inr (inr three),
-)
+ends_always false m s had left old new (three, read, wrote) =
+    let none : RunsPartly m had left old new = ([], [], rw read (Consumes-nil had), nothing_made m, rw wrote (Appends-nil old)) in
+    search rules

@@ -1,4 +1,5 @@
 -- The text of an input, part after part.
+use Rattle.std.proofs.lemmas.Grind.{common_steps}
 use borrow.Rule.Slice.PartMut.{put_mid, post_of}
 use Rattle.std.proofs.Common.{◌≡◌, ◌≢◌, ℕ, ◌+◌, ◌-◌, ◌*◌, ◌/◌, ◌<◌, ◌≤◌, ◌&&◌, min, if◌then◌else◌, Bool, true, false, List, [], ◌∷◌, ◌++◌, Option, None, Some, Ok, suc, zero, length, take, drop, get_or, refl, sym, ap, ◌∙◌, arith, append_assoc, length-append, All, nat_lt}
 use Rattle.std.proofs.Math.Seq.{take-add, take-append-add}
@@ -10,15 +11,14 @@ use Rattle.const_hex.specs.Prelude.{HasRead, counted, waiting_digit}
 use Rattle.const_hex_arch.proofs.lemmas.Texts.{Spells-length, Spells-parts}
 use Rattle.hexfilter_core.specs.Stages.{Decoder, HasAdded, HasDecoded, HasMade, HasScanned, HasWritten, Reaches, Scanner, Stage}
 use Rattle.hexfilter_core.specs.Dumps.{FromHexError, HasError, InvalidHexCharacter, InvalidStringLength, IsPlace, NoMemory, OddLength, Place, Reading, SpellsBeginning, SpellsPairs, body_of, encoded, is_whitespace, kept, leaves_out, next, next_from, text_from, text_of}
-use Rattle.hexfilter_core.specs.Runs.{Decode, Encode, Makes, MakesBeginning, Mode, Read, Reads, RunError, Text, Write}
+use Rattle.hexfilter_core.specs.Runs.{Decode, Encode, MakesBeginning, Mode, Read, Reads, RunError, Text, Write}
 
 pub text-append : (r : Reading) (k : ℕ) (x y : List ℕ)
     → text_from r k (x ++ y) ≡ text_from r k x ++ text_from r (next_from r k x) y
 unfolding text_from next_from
 text-append r k [] y = refl
 text-append r k (b ∷ x) y =
-    ap (λ t. kept r k b ++ t) (text-append r (next r k b) x y)
-    ∙ sym (append_assoc (kept r k b) (text_from r (next r k b) x) (text_from r (next_from r (next r k b) x) y))
+    grind (arith, append_assoc, text-append r (next r k b) x y)
 
 pub next-append : (r : Reading) (k : ℕ) (x y : List ℕ) → next_from r k (x ++ y) ≡ next_from r (next_from r k x) y
 unfolding next_from
@@ -55,13 +55,9 @@ kept_run r k [] h fits all = (refl, omega (arith, h))
 kept_run r k (b ∷ x) h fits all =
     let one = kept_one r k b (λ some. omega (arith, fits some))
     (All-head (λ b. (r.ignore_whitespace && is_whitespace b) ≡ false) b x all) in
-    let at = one.1 in
-    let rest = kept_run r (next r k b) x (omega (arith, at)) (λ some. omega (arith, at, fits some, some))
+    let rest = kept_run r (next r k b) x (omega (arith, one.1)) (λ some. omega (arith, one.1, fits some, some))
     (All-tail (λ b. (r.ignore_whitespace && is_whitespace b) ≡ false) b x all) in
-    let goes : next_from r (next r k b) x ≡ min (next r k b + length x) r.groups.size = rest.1 in (
-      ap (λ t. t ++ text_from r (next r k b) x) one.0 ∙ ap (λ t. b ∷ t) rest.0,
-      omega (arith, goes, at, h),
-    )
+    (rw (one.0, rest.0) refl, omega (arith, rest.1, one.1, h))
 
 all_kept : (r : Reading) (x : List ℕ) → leaves_out r ≡ false
     → All (λ b. (r.ignore_whitespace && is_whitespace b) ≡ false) x
@@ -75,7 +71,7 @@ no_groups r h = grind (arith, nat_tests, h)
 -- an input of which nothing is left out
 pub text_plain : (r : Reading) (x : List ℕ) → leaves_out r ≡ false → text_of r x ≡ x
 text_plain r x h =
-    let none = no_groups r h in (kept_run r 0 x (omega arith) (λ some. omega (arith, none, some)) (all_kept r x h)).0
+    (kept_run r 0 x (omega arith) (λ some. omega (arith, no_groups r h, some)) (all_kept r x h)).0
 
 pub plain_added : (r : Reading) (s : Scanner) (x u : List ℕ) → leaves_out r ≡ false → HasScanned r s x
     → HasAdded r s x u u
@@ -141,25 +137,23 @@ fewer_high m n xs few high =
 
 pub rest-size : (chunk : List ℕ) (done : ℕ)
     → length (take (length chunk - done) (drop done chunk)) ≡ length chunk - done
-rest-size chunk done = omega (arith, length-take (length chunk - done) (drop done chunk), length-drop done chunk)
+rest-size chunk done = simp (length-take, length-drop) (omega arith)
 
 -- n more after the first `done` of a chunk
 pub joined : (x chunk : List ℕ) (done n : ℕ) → done ≤ length chunk
     → (x ++ take done chunk) ++ take n (take (length chunk - done) (drop done chunk)) ≡ x ++ take (done + n) chunk
 joined x chunk done n started =
-    rw (take_all (length chunk - done) (drop done chunk) (omega (arith, length-drop done chunk)), take-add done n chunk)
-    (append_assoc x (take done chunk) (take n (drop done chunk)))
+    grind (arith, common_steps, take-add done n chunk)
 
 pub part_joined : (x chunk : List ℕ) (done size k : ℕ) → k ≡ size
     → (x ++ take done chunk) ++ take k (drop done chunk) ≡ x ++ take (done + size) chunk
 part_joined x chunk done size k e =
-    rw (e, take-add done size chunk) (append_assoc x (take done chunk) (take size (drop done chunk)))
+    grind (arith, common_steps, take-add done size chunk)
 
 -- one more
 pub joined_one : (x chunk : List ℕ) (done : ℕ) → done < length chunk
     → (x ++ take done chunk) ++ get_or chunk done 0 ∷ [] ≡ x ++ take (done + 1) chunk
-joined_one x chunk done inside =
-    append_assoc x (take done chunk) (get_or chunk done 0 ∷ []) ∙ ap (λ l. x ++ l) (sym (take_more chunk done 0 inside))
+joined_one x chunk done inside = grind (arith, common_steps, take_more chunk done 0 inside)
 
 -- `done` bytes of a chunk are read, and `end` bytes of the text put into the output
 module _ (r : Reading) (before after : Scanner) (x chunk out : List ℕ) (end done : ℕ)
@@ -190,9 +184,6 @@ module _ (r : Reading) (before after : Scanner) (x chunk out : List ℕ) (end do
 
 -- ---- what a text decodes to
 
-at_most_one : (d : Decoder) → length (waiting_digit d) ≤ 1
-at_most_one d = grind arith
-
 module _ (r : Reading) (d : Decoder) (x y : List ℕ) (has : HasRead d (text_of r x) y) where
   spelled : SpellsBeginning r x y
   spelled = rw append-nil at (read_front d (text_of r x) y [] has)
@@ -201,7 +192,7 @@ module _ (r : Reading) (d : Decoder) (x y : List ℕ) (has : HasRead d (text_of 
   pairs =
       let twice = Spells-length has.pairs y has.given in
       let whole = ap length has.whole ∙ length-append has.pairs (waiting_digit d) in
-      let few = at_most_one d in
+      let few : length (waiting_digit d) ≤ 1 = grind arith in
       let same : 2 * (length (body_of (text_of r x)) / 2) ≡ 2 * length y = omega (arith, twice, whole, few) in
       (read_digits d (text_of r x) y has, rw same spelled)
 
@@ -217,8 +208,7 @@ fewer_spelled r x y k h =
 -- ---- what is written
 
 take_written : (c : Bool) (bytes : List ℕ) (k : ℕ) → take k (if c then [] else bytes) ≡ (if c then [] else take k bytes)
-take_written true bytes k = take_all k [] (omega arith)
-take_written false bytes k = refl
+take_written c bytes k = grind (arith, take_all)
 
 -- a beginning of a beginning
 pub fewer_made : (m : Mode) (x y : List ℕ) (k : ℕ) → MakesBeginning m x y → MakesBeginning m x (take k y)
@@ -226,9 +216,6 @@ fewer_made (Encode prefix upper g) x y k (left, is) =
     (drop k y ++ left, is ∙ ap (λ l. l ++ left) (sym (take-append-drop k y)) ∙ append_assoc (take k y) (drop k y) left)
 fewer_made (Decode r) x y k (bytes, spelled, is) =
     (take k bytes, fewer_spelled r x bytes k spelled, ap (take k) is ∙ take_written r.is_check bytes k)
-
-body-shorter : (t : List ℕ) → length (body_of t) ≤ length t
-body-shorter t = grind arith
 
 pub body-longer : (t u : List ℕ) → 2 ≤ length t → body_of (t ++ u) ≡ body_of t ++ u
 body-longer t u h = grind arith
@@ -242,8 +229,8 @@ pairs_begin r x more (b ∷ y) (digits, spelled) =
     let n = 2 * (length (body_of t) / 2) in
     let twice = Spells-length (take n (body_of t)) (b ∷ y) spelled in
     let size : n ≡ 2 * length (b ∷ y) = omega (arith, twice, length-take n (body_of t)) in
-    let longer : body_of (t ++ u) ≡ body_of t ++ u =
-    body-longer t u (omega (arith, size, body-shorter t)) in
+    let shorter : length (body_of t) ≤ length t = grind arith in
+    let longer = body-longer t u (omega (arith, size, shorter)) in
     rw (text-append r 0 x more, longer, take-append-le (2 * length (b ∷ y)) (body_of t) u (omega (arith, size)), ← size) spelled
 
 read_begun : (r : Reading) (x y : List ℕ) → Reads (text_of r x) (Ok y) → SpellsBeginning r x y
@@ -265,13 +252,11 @@ so_far_made (Encode prefix upper g) s x y has =
 so_far_made (Decode r) s x y has =
     (has.text.bytes, spelled r s.decoder x has.text.bytes has.text.read, has.text.given)
 
-all_made : (m : Mode) (x y : List ℕ) → Makes m x y → MakesBeginning m x y
-all_made (Encode prefix upper g) x y is = ([], sym is ∙ sym (append-nil y))
-all_made (Decode r) x y (bytes, reads, is) = (bytes, read_begun r x bytes reads, is)
-
 pub reached_begun : (m : Mode) (s : Stage) (left : Option (List ℕ)) (n : ℕ) (x y : List ℕ) (o : Option RunError)
     → Reaches m s left n x y o → MakesBeginning m x y
-reached_begun m s left zero x y None (more, end) = all_made m x y (end refl)
+reached_begun (Encode prefix upper g) s left zero x y None (more, end) = ([], sym (end refl) ∙ sym (append-nil y))
+reached_begun (Decode r) s left zero x y None (more, end) =
+    let (bytes, reads, is) = end refl in (bytes, read_begun r x bytes reads, is)
 reached_begun m s left (suc n) x y None (more, end) = so_far_made m s x y (more (omega arith))
 reached_begun (Encode prefix upper g) s left n x y (Some (Text e place)) h = absurd h
 reached_begun (Decode r) s left n x y (Some (Text e place)) (bytes, fails, is) =

@@ -1,5 +1,4 @@
 use Rattle.std.proofs.Common.{◌≤◌, length, arith}
-use Rattle.std.proofs.lemmas.Grind.{common_steps}
 use Rattle.const_hex.proofs.lemmas.WriteSinks.{step_within}
 use Rattle.consthex.proofs.lemmas.Chunks.{read_step}
 use Rattle.consthex.proofs.runs.read_all.Goals as goal
@@ -20,13 +19,3 @@ reads-preserved g c =
           (rw (c.deref_mut.ensures.value, made.kept c.reads.invariant.within) c.reads.invariant.read)
           c.in-Ok.ensures.bytes.0;
     }
-
-pub make_space-requires-clause-below_limit : goal.make_space-requires-clause-below_limit
-make_space-requires-clause-below_limit g c = c.reads-test.true
-
-pub returns-then-read-eq0-clause-ok : goal.returns-then-read-eq0-clause-ok
-returns-then-read-eq0-clause-ok g c = (
-  grind (arith, common_steps),
-  c.in-Ok.ensures.bytes.1 c.if-read-eq0.true
-      (omega (arith, c.in_ok-make_space.ensures.space, c.deref_mut.ensures.len)),
-)

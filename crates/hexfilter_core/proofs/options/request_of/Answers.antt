@@ -6,15 +6,11 @@ use Rattle.hexfilter_core.proofs.options.request_of.Goals as goal
 pub returns-in-Err : goal.returns-in-Err
 returns-in-Err c =
     let is = sym
-    (argument_read string_bytes c.args.arguments.now c.loop-index.index c.loop-index.options (Err c.in-Err.kind)
-    c.index-arguments-index.result
-    c.as_str.result.now c.loop-index-test.true c.index-arguments-index.is c.as_str.ensures.value
+    (argument_read string_bytes _ _ _ (Err c.in-Err.kind) _ _ c.loop-index-test.true c.index-arguments-index.is c.as_str.ensures.value
     (sym c.in-Err.is ∙ c.with_argument.ensures)) ∙ c.loop-index.invariant in
     record { grammar = is; read_back = λ m words writes same. is ∙ ap request_for same ∙ read_back m words writes }
 
 pub loop-index-preserved : goal.loop-index-preserved
 loop-index-preserved c =
-    sym (argument_read string_bytes c.args.arguments.now c.loop-index.index c.loop-index.options (Ok c.in-Ok.more)
-    c.index-arguments-index.result
-    c.as_str.result.now c.loop-index-test.true c.index-arguments-index.is c.as_str.ensures.value
+    sym (argument_read string_bytes _ _ _ (Ok c.in-Ok.more) _ _ c.loop-index-test.true c.index-arguments-index.is c.as_str.ensures.value
     (sym c.in-Ok.is ∙ c.with_argument.ensures)) ∙ c.loop-index.invariant

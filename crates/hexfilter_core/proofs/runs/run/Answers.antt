@@ -1,8 +1,8 @@
-use Rattle.std.proofs.Common.{◌++◌, ◌+◌, [], Some, length, take, arith, length-take, refl}
+use Rattle.std.proofs.Common.{rules, ◌++◌, ◌+◌, [], Some, length, take, arith, length-take, refl}
 use Rattle.std.proofs.KnownBytes.{Appends-kept, Appends-trans, Consumes-kept, Consumes-trans}
 use Rattle.std.proofs.Math.Seq.{take-append-add}
 use Rattle.hexfilter_core.proofs.lemmas.Groups.{if_err, if_ok}
-use Rattle.hexfilter_core.proofs.lemmas.Runs.{same_value, text_not_interrupted}
+use Rattle.hexfilter_core.proofs.lemmas.Runs.{same_value}
 use Rattle.hexfilter_core.proofs.lemmas.Texts.{fewer_made, reached_begun, so_far_made}
 use Rattle.hexfilter_core.proofs.runs.run.Goals as goal
 
@@ -47,7 +47,7 @@ chunks-preserved g c =
 
 pub returns-clause-begun : goal.returns-clause-begun
 returns-clause-begun g c =
-    let (x, y, has, read, wrote) = c.chunks.invariant in (x, y, read, so_far_made c.args.mode _ x y has, wrote)
+    search (rules, so_far_made)
 
 pub returns-in-Some-clause-text : goal.returns-in-Some-clause-text
 returns-in-Some-clause-text g c = λ e place is.
@@ -62,7 +62,7 @@ returns-in-Some-clause-text g c = λ e place is.
 pub returns-in-Some-clause-retried : goal.returns-in-Some-clause-retried
 returns-in-Some-clause-retried g c =
     let (x, y, has, read, wrote) = c.chunks.invariant in
-    text_not_interrupted c.args.mode _ _ _ c.in-Some.error (rw c.in-Some.is at (c.next-end.ensures.made x y (Some []) has (λ none. refl)))
+    let fails = rw c.in-Some.is at (c.next-end.ensures.made x y (Some []) has (λ none. refl)) in grind (arith, fails)
 
 pub returns-then-count-eq0-clause-ok : goal.returns-then-count-eq0-clause-ok
 returns-then-count-eq0-clause-ok g c =

@@ -1,6 +1,6 @@
-use Rattle.std.proofs.Common.{◌++◌, refl}
+use Rattle.std.proofs.Common.{arith, refl}
 use Rattle.std.proofs.lemmas.Result.{IfOk-weaker}
-use Rattle.hexfilter_core.proofs.lemmas.Runs.{not_checked, not_decoded}
+use Rattle.const_hex_arch.proofs.lemmas.FirstInvalid.{digits_no_bad}
 use Rattle.hexfilter_core.proofs.stage.decode_text.Goals as goal
 
 pub returns-in-Ok-clause-ok : goal.returns-in-Ok-clause-ok
@@ -10,7 +10,7 @@ returns-in-Ok-clause-ok c = λ t z has.
 
 pub returns-in-Err-clause-err : goal.returns-in-Err-clause-err
 returns-in-Err-clause-err c =
-    λ t z has space. not_checked (t ++ c.args.text.now) _ (c.in-Err.ensures.answer t has.bytes has.read)
+    λ t z has space. grind (arith, digits_no_bad, c.in-Err.ensures.answer t has.bytes has.read)
 
 pub returns-clause-ok : goal.returns-clause-ok
 returns-clause-ok c = λ t z has.
@@ -21,5 +21,4 @@ returns-clause-ok c = λ t z has.
 
 pub returns-clause-err : goal.returns-clause-err
 returns-clause-err c = λ t z has space.
-    not_decoded (t ++ c.args.text.now) has.bytes _ c.decode.result (c.decode.ensures.answer t has.bytes has.read)
-    (c.decode.ensures.enough space)
+    grind (arith, digits_no_bad, c.decode.ensures.answer t has.bytes has.read, c.decode.ensures.enough space)

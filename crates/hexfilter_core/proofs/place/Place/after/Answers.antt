@@ -1,12 +1,6 @@
-use Rattle.std.proofs.Common.{◌∷◌, ◌≢◌, [], refl}
-use Rattle.std.proofs.lemmas.List.Elements.{All-cons, All-nil}
+use Rattle.std.proofs.Common.{refl}
 use Rattle.hexfilter_core.proofs.lemmas.PlacesOfCharacters.{place_after_newline}
 use Rattle.hexfilter_core.proofs.place.Place.after.Goals as goal
 
 pub returns-then-byte-eq10 : goal.returns-then-byte-eq10
 returns-then-byte-eq10 c = λ x is. rw c.if-byte-eq10.true (place_after_newline x c.args.self _ is refl)
-
-pub returns : goal.returns
-returns c = λ x is.
-    c.right.ensures x (c.args.byte ∷ []) is refl
-    (All-cons (λ b. b ≢ 10) c.args.byte [] c.if-byte-eq10.false (All-nil (λ b. b ≢ 10)))

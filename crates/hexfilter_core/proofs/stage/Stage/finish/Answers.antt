@@ -1,15 +1,11 @@
-use Rattle.std.proofs.Common.{arith, refl}
+use Rattle.std.proofs.Common.{rules, refl}
 use Rattle.hexfilter_core.proofs.lemmas.Runs.{same_value}
 use Rattle.hexfilter_core.proofs.lemmas.Texts.{pairs}
 use Rattle.hexfilter_core.specs.Dumps.{text_of}
 use Rattle.hexfilter_core.proofs.stage.Stage.finish.Goals as goal
 
 pub returns-in-Ok : goal.returns-in-Ok
-returns-in-Ok c = λ r x y left has end.
-    let bytes = has.text.bytes in (
-      λ some. absurd (omega (arith, some)),
-      λ none. (bytes, (c.in-Ok.ensures.ok (text_of r x) bytes has.text.read).0 refl, has.text.given),
-    )
+returns-in-Ok c = λ r x y left has end. let ok = c.in-Ok.ensures.ok (text_of r x) has.text.bytes has.text.read in search rules
 
 pub returns-in-Err : goal.returns-in-Err
 returns-in-Err c = λ r x y left has end.

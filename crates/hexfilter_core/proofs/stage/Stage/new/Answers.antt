@@ -2,9 +2,6 @@ use Rattle.std.proofs.Common.{arith, refl}
 use Rattle.hexfilter_core.specs.Dumps.{next_from, place_after, text_from}
 use Rattle.hexfilter_core.proofs.stage.Stage.new.Goals as goal
 
-pub returns-in-Encode : goal.returns-in-Encode
-returns-in-Encode c = rw c.in-Encode.is (record { left = λ more. refl; fits = omega arith })
-
 pub returns-in-Decode : goal.returns-in-Decode
 unfolding text_from next_from place_after
 returns-in-Decode c = rw c.in-Decode.is (record {

@@ -1,14 +1,14 @@
-use Rattle.std.proofs.Common.{◌≡◌, ◌++◌, ◌∙◌, [], ℕ, List, Bool, true, false, if◌then◌else◌, ap, append-nil, arith, length}
+use Rattle.std.proofs.Common.{◌≡◌, ◌++◌, [], ℕ, List, Bool, true, false, if◌then◌else◌, ap, append-nil, arith, length}
 use Rattle.std.proofs.lemmas.Bool.Decides.{nat_tests}
-use Rattle.hexfilter_core.proofs.lemmas.Groups.{encoded_last, encoded_more, no_bytes}
+use Rattle.std.proofs.lemmas.Grind.{common_steps}
+use Rattle.hexfilter_core.proofs.lemmas.Groups.{encoded_last, encoded_more}
 use Rattle.hexfilter_core.proofs.stage.Stage.next.Goals as goal
 
 -- what is put after the text of a chunk
 last : (is_end : Bool) (found front newline out : List ℕ) → found ≡ (if is_end then newline else [])
     → out ≡ front ++ found
     → (is_end ≡ true → out ≡ front ++ newline) × (is_end ≡ false → out ≡ front)
-last true found front newline out e f = (λ h. f ∙ ap (λ l. front ++ l) e, λ h. cc)
-last false found front newline out e f = (λ h. cc, λ h. f ∙ ap (λ l. front ++ l) e ∙ append-nil front)
+last is_end found front newline out e f = grind (arith, append-nil)
 
 pub returns-in-Encode-clause-made : goal.returns-in-Encode-clause-made
 returns-in-Encode-clause-made c = λ x y left has end.
@@ -28,7 +28,7 @@ returns-in-Encode-clause-made c = λ x y left has end.
 
 pub returns-in-Decode-clause-made : goal.returns-in-Decode-clause-made
 returns-in-Decode-clause-made c = λ x y left has end.
-    let none : c.args.chunk.now ≡ [] = no_bytes c.args.chunk.now (grind (arith, nat_tests)) in
+    let none : c.args.chunk.now ≡ [] = grind (arith, common_steps) in
     rw (c.in-Decode.is, none, append-nil x, append-nil y)
     (c.finish.ensures c.in-Decode.field-0 x y left (rw c.in-Decode.is at has) (end (ap length none)))
 
