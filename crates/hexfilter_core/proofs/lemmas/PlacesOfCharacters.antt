@@ -1,5 +1,5 @@
 -- The places after parts of an input.
-use Rattle.std.proofs.Common.{◌≡◌, ◌≢◌, ℕ, ◌+◌, ◌%◌, ◌^◌, ◌≤◌, ◌==◌, if◌then◌else◌, List, [], ◌∷◌, ◌++◌, length, refl, sym, ap, ◌∙◌, arith, length-append, All}
+use Rattle.std.proofs.Common.{◌≡◌, ◌≢◌, ℕ, ◌+◌, ◌%◌, ◌^◌, ◌≤◌, ◌==◌, if◌then◌else◌, List, [], ◌∷◌, ◌++◌, length, refl, sym, ◌∙◌, arith, length-append, All}
 use Rattle.std.proofs.lemmas.Bool.Decides.{nat_tests}
 use Rattle.std.proofs.lemmas.List.Elements.{All-head, All-tail}
 use Rattle.hexfilter_core.specs.Dumps.{IsPlace, Place, after, place_after}
@@ -53,13 +53,3 @@ place_after_newline x p line is e = λ short.
     let few = (bounds (record { line = 1; column = 1 }) x (omega arith)).0 in
     rw (place_after-append (record { line = 1; column = 1 }) x (10 ∷ []))
     (omega (arith, short, e, before.0, few, size), refl)
-
--- the column counts from 1 after the last newline
-pub in_last_line : (lines line : List ℕ) → All (λ b. b ≢ 10) line
-    → (after ((lines ++ 10 ∷ []) ++ line)).column ≡ 1 + length line
-unfolding place_after
-in_last_line lines line plain =
-    let start : Place = record { line = 1; column = 1 } in
-    let front = lines ++ 10 ∷ [] in
-    ap (λ p. p.column) (place_after-append start front line) ∙ (run (after front) line plain).1
-    ∙ ap (λ p. p.column + length line) (place_after-append start lines (10 ∷ []))
