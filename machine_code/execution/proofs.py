@@ -49,8 +49,7 @@ def effects_of(contract):
     each other's: functions of the header, local ones, those that choose a kernel, and kernels."""
     if contract.imported is not None:
         return contract.imported
-    return callees.effects(other for other in CONTRACTS
-                           if other in KERNELS or other.is_local and not contract.is_local)
+    return callees.effects(other for other in CONTRACTS if other in KERNELS or other.is_local and not contract.is_local)
 
 
 def prove(content, symbol, contract, which=slice(None)):

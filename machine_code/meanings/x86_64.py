@@ -385,11 +385,10 @@ def vzeroupper(s, i):
 VECTORS = {
     "paddb": by_units(1, ADD), "paddw": by_units(2, ADD), "psubb": by_units(1, SUBTRACT),
     "psubusb": by_units(1, SUBTRACT_SATURATED), "pminub": by_units(1, MINIMUM), "por": by_units(1, OR),
-    "pxor": by_units(1, XOR), "pmullw": by_units(2, MULTIPLY),
-    "psllw": shift_units(2, lambda a, by: a << by), "psrlw": shift_units(2, z3.LShR),
+    "pxor": by_units(1, XOR), "pmullw": by_units(2, MULTIPLY), "punpckldq": interleaved(4),
+    "psllw": shift_units(2, lambda a, by: a << by), "psrlw": shift_units(2, z3.LShR), "punpcklqdq": interleaved(8),
     "pshufb": by_halves(lambda a, b: [looked_up(a, index) for index in b]),
     "packuswb": by_halves(lambda a, b: saturated(units(a + b, 2))),
-    "punpckldq": interleaved(4), "punpcklqdq": interleaved(8),
     "movdqu": move_vector(False), "movdqa": move_vector(True), "movups": move_vector(False),
     "movaps": move_vector(True), "xorps": by_units(1, XOR), "movd": move_low(4), "movq": move_low(8),
     "pinsrb": insert(1), "pinsrw": insert(2), "pinsrd": insert(4), "pextrw": extract(2), "pextrd": extract(4),

@@ -55,14 +55,19 @@ def read(data):
                              f"pages of {image.page} bytes are needed (-z max-page-size={image.page})")
         image.add_segment(data, address, in_memory, offset, in_file, KINDS[flags])
     # Linux tells a program the place of the headers in the last segment that has any.
-    if size != 56 or any(header.offset < end for header in loaded[1:]):
-        raise ValueError("headers of another size, or in two segments")
+    if size != 56 or any(header.offset < end for header in loaded[1:]) or loaded[0].flags & 2:
+        raise ValueError("headers of another size, in two segments, or in one that is written")
     # glibc and musl take the difference between their place and what PT_PHDR says for the address of a program.
     said = one.get(HEADERS)
     if (said or LOADER in one) and (not said or said.address != image.first + first):
         raise ValueError("PT_PHDR is missing, or says another place than that of the headers")
     for notes in (header for header in headers if header.kind in (NOTES, PROPERTIES)):
         _refuse_guards(image, data, notes)
+    _read_symbols(image, data, sections, *struct.unpack_from("<H", data, 60))
+    if DYNAMIC in one:
+        _read_dynamic(image, one[DYNAMIC])
+    elif kind == 3:
+        raise ValueError("no table for the loader in a file that may lie anywhere")
     if CLOSED in one:
         # The loader makes whole pages of a segment read-only.
         _, _, _, start, _, _, size, _ = one[CLOSED]
@@ -70,9 +75,6 @@ def read(data):
         if not segment or segment.kind != WRITTEN or up(segment.address + segment.size, image.page) < start + size:
             raise ValueError("what is closed after relocations is no part of a segment that is written")
         image.shared.append(range(start // image.page * image.page, start + size))
-    _read_symbols(image, data, sections, *struct.unpack_from("<H", data, 60))
-    if DYNAMIC in one:
-        _read_dynamic(image, one[DYNAMIC])
     return image
 
 
@@ -110,6 +112,8 @@ def _read_dynamic(image, header):
     if kinds != FIXED:
         image.change(header.address, len(content))
     _read_exported(image, dynamic)
+    if any(part.start < header.address + len(content) and header.address < part.stop for part in image.shared):
+        raise ValueError("the loader's table lies where others find a variable")
 
 
 def _read_relocations(image, dynamic):
@@ -151,7 +155,9 @@ def _read_exported(image, dynamic):
     name_of = lambda symbol: image.name_of(dynamic[STRINGS] + numbers_of("<I", symbol, 0)[0])
     tables = [(walk, dynamic[tag]) for tag, walk in ((HASH, _by_hash), (GNU_HASH, _by_gnu_hash)) if tag in dynamic]
     for symbol in (symbol for walk, table in tables for symbol in walk(image, table, b"")):
-        place, size = numbers_of("<QQ", symbol, 8)
+        index, place, size = numbers_of("<HQQ", symbol, 6)
+        if index >= RESERVED and place:
+            raise ValueError("a name of an address that is none of the file")
         # Nobody writes to these ends of sections. What is said to be smaller than an int may be an address.
         if size or name_of(symbol) not in ("__bss_start", "_edata", "_end"):
             image.shared.append(range(place, place + (size if size > 3 else 8)))
@@ -164,7 +170,7 @@ def _read_exported(image, dynamic):
             raise ValueError(f"the loader does not find {name} in each of its tables, or finds another symbol, too")
         info, other, index, place = numbers_of("<BBHQ", symbols[0][0], 4)
         is_plain = VERSIONS not in dynamic or image.numbers("<H", dynamic[VERSIONS] + 2 * symbols[0][0]) == (1,)
-        if info != GLOBAL_FUNCTION or other not in (0, 3) or not 0 < index < RESERVED or not is_plain:
+        if info != GLOBAL_FUNCTION or other not in (0, 3) or not index or not is_plain:
             raise ValueError(f"{name} is no plain function for the loader: another kind, no section, or a version "
                              "(by a version script or --default-symver)")
         image.add_exported(name, place)

@@ -22,10 +22,7 @@ CODE, CONSTANTS, WRITTEN = "code", "constants", "written"
 FIXED = CODE, CONSTANTS
 # Where it lies, how large it is there, and its bytes in the file, after which it has zeros.
 Segment = namedtuple("Segment", "address size content kind")
-
-
-def up(address, page):
-    return -(-address // page) * page
+up = lambda address, page: -(-address // page) * page
 
 
 class Image:

@@ -120,7 +120,7 @@ def other_call(file):
 WRITTEN, ENDS, PLAIN = "a place that has no constant, or may be written", "it leaves the code", "is no plain function"
 VERSION, CHECK, FILL = "const_hex_version", "const_hex_kernel_check", "const_hex_kernel_fill_v3"
 CLOSED, KNOWN, PLACES = "is no part of a segment", "twice or not known here", "another kind, or has two places"
-START, TWO, SAID = "start of the first segment", "another size, or in two segments", "PT_PHDR is missing, or"
+START, TWO, SAID = "start of the first segment", "another size, in two segments, or", "PT_PHDR is missing, or"
 OTHERS, PARTS, CONSTANT = "other flags than its segment", "a table of relocations without", "what must not be written"
 NOTE, NOWHERE, NO_FORM, FIND = "notes that are others", "is written, or nowhere", "no known form", "does not find"
 OBJECT, TABLES, OWN, NOTHING = "no library and no program", "in each of its tables", "its own table", "where nothing is"
@@ -145,6 +145,8 @@ CHANGED = [
     ("headers in memory from elsewhere in the file", first_from_elsewhere, "", START),
     ("headers of another size", put("<H", 54, 64), "", TWO),
     ("headers in two segments", segment(4, start=PAGE, offset=0), "", TWO),
+    ("headers that are written", segment(4, flags=6), "", TWO),
+    ("no table for the loader", put("<I", lambda file: file.header(2)[0], 0), "", "no table for the loader"),
     ("headers that are said to lie elsewhere", put("<I", STACK, 6), "", SAID),
     ("a program that does not say where its headers lie", put("<I", STACK, 3), "", SAID),
     ("a choice that is closed", segment(4, RELRO, in_memory=4096), CHECK, WRITTEN),
@@ -164,7 +166,7 @@ CHANGED = [
     ("a table for the loader that is said to be constant", segment(6, 2, flags=4), "", OTHERS),
     ("a table of names that is nowhere", tag(6, 1 << 20), "", NOWHERE),
     ("a function without a section", of_the_loader("<H", 6, 0), "", PLAIN),
-    ("a function at a number", of_the_loader("<H", 6, 0xFFF1), "", PLAIN),
+    ("a function at a number", of_the_loader("<H", 6, 0xFFF1), "", "an address that is none of the file"),
     ("a function that the loader picks", of_the_loader("<B", 4, 0x1A), "", PLAIN),
     ("a hidden function", of_the_loader("<B", 5, 2), "", PLAIN),
     ("a name from elsewhere", entry("<HQ", 6, lambda *old: (0, 0), VERSION, (2,)), VERSION, "accepted"),
@@ -236,6 +238,7 @@ C, DISPATCH, FALSE = "functions_x86_64", "dispatch", "mov $1, %eax; ret"
 SCRIPT, OTHER = "-Wl,--version-script=/dev/stdin", ".globl other; .type other, @function; other: ret"
 HIDDEN, WRONG = "hidden SYMBOL(const_hex_check_nonnull)", "is left out|must|head of a loop|a register|an address"
 END, OF_OTHERS = f"\tend SYMBOL({VERSION})", ".globl optind; .set optind, choice - 3; .type optind"
+PADDED = f'.section .bss.first, "aw", %nobits; .zero 8; variable choice; {OF_OTHERS}'
 # What is linked, and of which function: options, lines of files that have another text, more of a source, and a script.
 LINKED = [
     ("a function that others may replace", "const_hex_check", [],
@@ -252,10 +255,12 @@ LINKED = [
      [(DISPATCH, "variable choice", ".section .data.choice, \"aw\"; choice: .byte 2")], "", "", WRITTEN),
     ("a choice in the loader's table", CHECK, ["-Wl,-z,norelro"],
      [(DISPATCH, "variable choice", ".hidden _DYNAMIC; .set choice, _DYNAMIC + 7")], "", "", WRITTEN),
+    ("a variable of others that ends in the loader's table", "", [],
+     [(DISPATCH, "variable choice", f"variable choice; {OF_OTHERS}, %notype")], "", "", "lies where others find a"),
     ("a choice that is a variable of others", CHECK, [],
-     [(DISPATCH, "variable choice", f"variable choice; {OF_OTHERS}, %object; .size optind, 4")], "", "", WRITTEN),
+     [(DISPATCH, "variable choice", f"{PADDED}, %object; .size optind, 4")], "", "", WRITTEN),
     ("a choice that is a place of others", CHECK, ["-Wl,--hash-style=sysv"],
-     [(DISPATCH, "variable choice", f"variable choice; {OF_OTHERS}, %notype")], "", "", WRITTEN),
+     [(DISPATCH, "variable choice", f"{PADDED}, %notype")], "", "", WRITTEN),
     ("a version of another function", "", [SCRIPT], [],
      f".globl other; .symver other, {VERSION}@V1; .type other, @function; other: {FALSE}",
      "V1 {}; V2 { const_hex_*; };", "or a version"),

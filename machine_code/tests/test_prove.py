@@ -27,8 +27,7 @@ CALLS_A_LOCAL_ONE = """
     .intel_syntax noprefix
     .section .text.{0}, "ax"; .globl {0}; {0}: sub rsp, 24; 1: test rsi, rsi; je 2f; movzx eax, byte ptr [rdi]
     lea ecx, [rax-0x30]; cmp cl, 10; setb r8b; or al, 0x20; sub al, 0x61; cmp al, 6; setb r9b; or r8b, r9b; je 3f
-    add rdi, 1; add rsi, -1; jmp 1b
-    2: mov eax, 1; add rsp, 24; ret
+    add rdi, 1; add rsi, -1; jmp 1b; 2: mov eax, 1; add rsp, 24; ret
     3: mov rdx, rsi; mov rsi, rdi; mov rdi, rsp; call {1}; xor eax, eax; add rsp, 24; ret
     .section .text.{1}, "ax"; {1}: jmp {1}
 """

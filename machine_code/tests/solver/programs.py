@@ -19,9 +19,7 @@ CHECK = """
     {start}
     1: test rsi, rsi; je 2f
     movzx eax, byte ptr [rdi]; {character}
-    lea ecx, [rax-0x30]; cmp cl, 10; setb r8b
-    or al, 0x20; sub al, 0x61; cmp al, 6; setb r9b
-    or r8b, r9b; je 3f
+    lea ecx, [rax-0x30]; cmp cl, 10; setb r8b; or al, 0x20; sub al, 0x61; cmp al, 6; setb r9b; or r8b, r9b; je 3f
     add rdi, 1; add rsi, -1; {round}
     jmp 1b
     2: mov eax, 1; {end}
@@ -61,10 +59,8 @@ ON_AARCH64 = """
     {start}
     1: cbz x1, 2f
     ldrb w8, [x0]; {character}
-    sub w9, w8, #0x30; cmp w9, #10; cset w10, cc
-    mov w11, #0x20; orr w8, w8, w11; sub w8, w8, #0x61; cmp w8, #6; cset w11, cc
-    orr w10, w10, w11; cbz w10, 3f
-    add x0, x0, #1; sub x1, x1, #1; {round}
+    sub w9, w8, #0x30; cmp w9, #10; cset w10, cc; mov w11, #0x20; orr w8, w8, w11; sub w8, w8, #0x61; cmp w8, #6
+    cset w11, cc; orr w10, w10, w11; cbz w10, 3f; add x0, x0, #1; sub x1, x1, #1; {round}
     b 1b
     2: mov w0, #1; {end}
     ret
