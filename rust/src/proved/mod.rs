@@ -54,9 +54,9 @@ pub use self::formatting::text::*;
 //    1  and the crate's decoder is cloned
 //    1  and writes a text to memory that is not cleared
 //    2  before it reads a part, or ends
-//   47  deleted: attribute
+//   55  deleted: attribute
 //  227  deleted: contract
-//  180  deleted: ghost item
+//  158  deleted: ghost item
 //    4  deleted: model
 //    2  each value may be dropped
 //    6  kernels that no target uses are left out, and callers that nothing exports

@@ -153,7 +153,11 @@ pub(crate) fn decode_digits_in_steps<const N: usize, V: LaneOps<N>, S: LaneOps<1
     while output.len() - at >= N {
         let end = at + N;
         let second_row = lanes16::second_row_for(output.len());
-        steps::decode_digits_step::<N, V>(&input[2 * at..2 * end], second_row, &mut output[at..end]);
+        steps::decode_digits_step::<N, V>(
+            &input[2 * at..2 * end],
+            second_row,
+            &mut output[at..end],
+        );
         at = end;
     }
     if output.len() - at >= 16 {
