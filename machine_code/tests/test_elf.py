@@ -187,8 +187,7 @@ CHANGED = [
     ("an object", put("<H", 16, 1), "", OBJECT),
     ("nothing at all", lambda file: file.clear(), "", "no linked file"),
 ]
-# And in a library by other options: with both tables of hashes, with relocations, with those that are packed, with
-# a call that is bound later, and with functions that need marks.
+# And in a library by other options, such as both tables of hashes, packed relocations, or calls that are bound later.
 DATA = (".bss; .space 64; .data; .balign 8; .hidden more; .globl more; more: .quad other, other; .space 600; "
         ".quad other; .text; other: ret")
 BUILDS = {"plain": shared(), "hashes": shared("-Wl,--hash-style=both"), "sysv": shared("-Wl,--hash-style=sysv"),
@@ -255,6 +254,7 @@ LINKED = [
      [(DISPATCH, "variable choice", ".section .data.choice, \"aw\"; choice: .byte 2")], "", "", WRITTEN),
     ("a choice in the loader's table", CHECK, ["-Wl,-z,norelro"],
      [(DISPATCH, "variable choice", ".hidden _DYNAMIC; .set choice, _DYNAMIC + 7")], "", "", WRITTEN),
+    ("a variable at a number", "", [], [], ".globl optind; .set optind, 65536", "", "none of the file"),
     ("a variable of others that ends in the loader's table", "", [],
      [(DISPATCH, "variable choice", f"variable choice; {OF_OTHERS}, %notype")], "", "", "lies where others find a"),
     ("a choice that is a variable of others", CHECK, [],
