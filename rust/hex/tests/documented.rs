@@ -2,9 +2,26 @@
 #![cfg(feature = "std")]
 
 use hex::FromHexError::{InvalidHexCharacter, InvalidStringLength, OddLength};
-// Each name of the crate. Tests of const-hex-proved call what has the same name there or in its module `strict`.
-#[allow(unused_imports)]
-use hex::{decode, decode_to_slice, encode, encode_to_slice, encode_upper, FromHex, FromHexError, ToHex};
+use hex::{FromHex, ToHex};
+
+/// Each function of the crate, with a result that no other one has.
+#[test]
+fn names() {
+    assert_eq!(hex::encode("kj"), "6b6a");
+    assert_eq!(hex::encode_upper("kj"), "6B6A");
+    assert_eq!("kj".encode_hex::<String>(), "6b6a");
+    assert_eq!("kj".encode_hex_upper::<String>(), "6B6A");
+    let mut text = [0; 4];
+    assert_eq!(hex::encode_to_slice("kj", &mut text), Ok(()));
+    assert_eq!(&text, b"6b6a");
+    let mut bytes = [0; 2];
+    assert_eq!(hex::decode_to_slice("6b6A", &mut bytes), Ok(()));
+    assert_eq!(&bytes, b"kj");
+    assert_eq!(hex::decode("6b6A"), Ok(b"kj".to_vec()));
+    let error = InvalidHexCharacter { c: 'z', index: 2 };
+    assert_eq!(hex::decode("6bz0"), Err(error));
+    assert_eq!(hex::decode_to_slice("6bz0", &mut bytes), Err(error));
+}
 
 /// No line of these names the type of the elements.
 #[test]
