@@ -68,6 +68,11 @@ function(configured name folder)
 endfunction()
 configured(installed.cmake ${INSTALLED})
 configured(installed.cmake_static ${INSTALLED} -DLIBRARY=const_hex::static)
+foreach(version 1.99 0.9)
+  set(name installed.cmake_version_${version})
+  configured(${name} ${INSTALLED} -DWANTED=${version})
+  set_tests_properties(${name} PROPERTIES PASS_REGULAR_EXPRESSION "compatible with requested version")
+endforeach()
 
 # In another project, by add_subdirectory.
 file(CONFIGURE OUTPUT project/CMakeLists.txt CONTENT "cmake_minimum_required(VERSION 3.21)

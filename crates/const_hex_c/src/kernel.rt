@@ -92,16 +92,32 @@ fn interleaved_read(text: &[u8], bytes: &mut [u8]) -> bool
     Interleaved::decode_all(text, bytes)
 }
 
-/// Writes the text of the bytes and decodes it again, if the lengths fit, and returns whether they do. No header has it:
-/// `rt` compiles `interleaved_fill` and `interleaved_read` only because an exported function calls them.
+/// Calls `interleaved_fill` if the text has two characters for each byte, and returns whether it has. No header has this
+/// function and the next one: `rt` compiles what they call only because an exported function calls it.
 #[unsafe(no_mangle)]
-pub extern "C" fn const_hex_interleaved(bytes: &mut [u8], upper: bool, text: &mut [u8]) -> bool
-    ensures fits { IsTrue result → length text.old ≡ 2 * length bytes.old }
-    ensures text { IsTrue result → text.new ≡ hex_text upper bytes.old }
+pub extern "C" fn const_hex_interleaved_fill(bytes: &[u8], upper: bool, text: &mut [u8]) -> bool
+    ensures fits { IsTrue result ↔ (2 * length bytes.now ≡ length text.old) }
+    ensures text { IsTrue result → text.new ≡ hex_text upper bytes.now }
+    ensures kept { result ≡ false → text.new ≡ text.old }
 {
     if text.len() % 2 != 0 || bytes.len() != text.len() / 2 {
         return false;
     }
     interleaved_fill(bytes, upper, text);
+    true
+}
+
+/// Calls `interleaved_read` if the text has two characters for each byte, and returns false otherwise.
+#[unsafe(no_mangle)]
+pub extern "C" fn const_hex_interleaved_read(text: &[u8], bytes: &mut [u8]) -> bool
+    ensures fits { IsTrue result → length text.now ≡ 2 * length bytes.old }
+    ensures spells { IsTrue result → Spells text.now bytes.new }
+    ensures refused { result ≡ false → length text.now ≡ 2 * length bytes.old
+        → Partial bytes.old text.now bytes.new }
+    ensures kept { result ≡ false → (length text.now ≡ 2 * length bytes.old → ⊥) → bytes.new ≡ bytes.old }
+{
+    if text.len() % 2 != 0 || bytes.len() != text.len() / 2 {
+        return false;
+    }
     interleaved_read(text, bytes)
 }
