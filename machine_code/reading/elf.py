@@ -58,8 +58,7 @@ def read(data):
     if size != 56 or any(header.offset < end for header in loaded[1:]) or loaded[0].flags & 2:
         raise ValueError("headers of another size, in two segments, or in one that is written")
     # glibc and musl take the difference between their place and what PT_PHDR says for the address of a program.
-    said = one.get(HEADERS)
-    if (said or LOADER in one) and (not said or said.address != image.first + first):
+    if ((said := one.get(HEADERS)) or LOADER in one) and (not said or said.address != image.first + first):
         raise ValueError("PT_PHDR is missing, or says another place than that of the headers")
     for notes in (header for header in headers if header.kind in (NOTES, PROPERTIES)):
         _refuse_guards(image, data, notes)
@@ -156,7 +155,7 @@ def _read_exported(image, dynamic):
     tables = [(walk, dynamic[tag]) for tag, walk in ((HASH, _by_hash), (GNU_HASH, _by_gnu_hash)) if tag in dynamic]
     for symbol in (symbol for walk, table in tables for symbol in walk(image, table, b"")):
         index, place, size = numbers_of("<HQQ", symbol, 6)
-        if index >= RESERVED and place:
+        if index >= RESERVED and (place or size) or (place + size) >> 64:
             raise ValueError("a name of an address that is none of the file")
         # Nobody writes to these ends of sections. What is said to be smaller than an int may be an address.
         if size or name_of(symbol) not in ("__bss_start", "_edata", "_end"):
@@ -180,8 +179,7 @@ def _by_hash(image, table, name):
     """The symbols that the loader compares with a name, by DT_HASH."""
     number = 0
     for byte in name:
-        number = number * 16 + byte
-        number = (number ^ number >> 24 & 0xF0) & 0xFFFFFFF
+        number = ((word := number * 16 + byte) ^ word >> 24 & 0xF0) & 0xFFFFFFF
     buckets, _ = image.numbers("<II", table)
     for bucket in [number % buckets] if name else range(buckets):
         [symbol], seen = image.numbers("<I", table + 8 + 4 * bucket), {0}
@@ -219,6 +217,7 @@ def _read_symbols(image, data, start, count):
     for _, _, _, _, offset, size, link, *_ in (header for header in headers if header[1] == SYMBOL_TABLE):
         strings = data[headers[link][4] :][: headers[link][5]]
         for name, info, _, index, place, _ in struct.iter_unpack("<IBBHQQ", data[offset : offset + size]):
-            name = strings[name : strings.index(b"\0", name)].decode()
+            # GNU ld adds a version, or a number that makes a name unique.
+            name = strings[name : strings.index(b"\0", name)].decode().replace("@", ".").partition(".")[0]
             if index and info & 15 != SOURCE_FILE:
                 image.add_symbol(name, place, info & 15 in PLACED and index < RESERVED)

@@ -1,6 +1,7 @@
 """A linked file of Mach-O, a dylib or a program, as an image. Its loader is dyld, which writes where tables of opcodes
 or chains say, and finds a function by a tree of names."""
 
+import itertools
 import struct
 
 from reading.image import AARCH64, CODE, CONSTANTS, WRITTEN, X86_64, Image
@@ -28,7 +29,7 @@ BINDS = [NOTHING, NOTHING, NUMBER, NOTHING, NAME, NOTHING, NUMBER, PLACE, MOVE, 
          (0, lambda low: (1, 0, 8 * low)), TIMES]
 # Chains: no first link in a page, and the forms of links that have the distance to the next one at the same bits.
 NO_LINK, LINKS = 0xFFFF, (2, 6)
-DEBUG, TYPE, IN_SECTION, EXPORTED, RESOLVED = 0xE0, 0xE, 0xE, 1, 0x100  # of symbols
+DEBUG, TYPE, IN_SECTION, EXPORTED, RESOLVED, ABSOLUTE = 0xE0, 0xE, 0xE, 1, 0x100, 2  # of symbols
 # Kinds of sections: variables of threads, which dyld writes, and others that are harmless: up to GB_ZEROFILL,
 # 16BYTE_LITERALS, and from THREAD_LOCAL_REGULAR to INIT_FUNC_OFFSETS. Some have names by which dyld, or the runtime of
 # a language, writes to them and where they say, or replaces functions.
@@ -96,11 +97,8 @@ def _add_segment(image, data, command, parts):
 
 def _number(data, place):
     """A number of 7 bits in each byte, and the place after it."""
-    value = shift = 0
-    while True:
-        value, shift, place = value | (data[place] & 127) << shift, shift + 7, place + 1
-        if not data[place - 1] & 128:
-            return value, place
+    end = next(end for end in itertools.count(place) if not data[end] & 128) + 1
+    return sum((byte & 127) << 7 * index for index, byte in enumerate(data[place:end])), end
 
 
 def _read_opcodes(image, starts, table, opcodes):
@@ -150,6 +148,8 @@ def _read_exported(image, tree):
         size, place = _number(tree, first)
         if size:
             flags, start = _number(tree, place)
+            if flags & 3 == ABSOLUTE and name != b"__mh_execute_header":
+                raise ValueError("a name of an address that is none of the file")
             start = image.first + _number(tree, start)[0]
             image.shared.append(range(start, start + 8))
             if name in wanted:

@@ -71,9 +71,7 @@ def shared(*options, changes=(), more="", compiler=X86_64, script=""):
         return pathlib.Path(folder, "library.so").read_bytes()
 
 
-class File(bytearray):
-    """A linked file whose fields are changed."""
-
+class File(bytearray):  # whose fields are changed
     def put(self, form, place, *values):
         struct.pack_into(form, self, place, *values)
 
@@ -89,7 +87,6 @@ class Elf(File):
         return [(place, *self.numbers("<IIQQQQQQ", place)) for place in range(first, first + 56 * count, 56)]
 
     def header(self, kind):
-        """The header of the first segment of a kind."""
         return next(row for row in self.segments if row[1] == kind)
 
     def offset(self, address):
@@ -105,7 +102,6 @@ class Elf(File):
         return place + 8
 
     def table(self, tag):
-        """Where a table of the loader begins in the file."""
         return self.offset(*self.numbers("<Q", self.tag(tag)))
 
     def symbols(self, name, kinds=(2, 11)):

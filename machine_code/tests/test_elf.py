@@ -145,7 +145,9 @@ CHANGED = [
     ("headers in memory from elsewhere in the file", first_from_elsewhere, "", START),
     ("headers of another size", put("<H", 54, 64), "", TWO),
     ("headers in two segments", segment(4, start=PAGE, offset=0), "", TWO),
-    ("headers that are written", segment(4, flags=6), "", TWO),
+    # Without a table for the loader, which has to be constant.
+    ("headers that are written", lambda file: (put("<H", 16, 2)(file), segment(4, flags=6)(file), [
+        file.put("<I", place, int(kind == 1)) for place, kind, *_ in file.segments]), "", TWO),
     ("no table for the loader", put("<I", lambda file: file.header(2)[0], 0), "", "no table for the loader"),
     ("headers that are said to lie elsewhere", put("<I", STACK, 6), "", SAID),
     ("a program that does not say where its headers lie", put("<I", STACK, 3), "", SAID),
@@ -255,6 +257,10 @@ LINKED = [
     ("a choice in the loader's table", CHECK, ["-Wl,-z,norelro"],
      [(DISPATCH, "variable choice", ".hidden _DYNAMIC; .set choice, _DYNAMIC + 7")], "", "", WRITTEN),
     ("a variable at a number", "", [], [], ".globl optind; .set optind, 65536", "", "none of the file"),
+    ("a variable at the number 0", "", [], [], ".globl optind; .set optind, 0; .size optind, 1 << 48", "", "none of the"),
+    ("a variable that begins before the file", "", [], [], ".bss; .globl table; .set table, base - 0x20000; "
+     ".type table, @object; .size table, 0x40000; base: .zero 8", "", "none of the file"),
+    ("the last page of all", "", ["-Wl,-Ttext-segment=0xffffffffffff8000"], [], "", "", "ends after 4 GB"),
     ("a variable of others that ends in the loader's table", "", [],
      [(DISPATCH, "variable choice", f"variable choice; {OF_OTHERS}, %notype")], "", "", "lies where others find a"),
     ("a choice that is a variable of others", CHECK, [],
@@ -263,7 +269,8 @@ LINKED = [
      [(DISPATCH, "variable choice", f"{PADDED}, %notype")], "", "", WRITTEN),
     ("a version of another function", "", [SCRIPT], [],
      f".globl other; .symver other, {VERSION}@V1; .type other, @function; other: {FALSE}",
-     "V1 {}; V2 { const_hex_*; };", "or a version"),
+     "V1 {}; V2 { const_hex_*; };", PLACES),
+    ("a second function with a number", "", ["-Wl,-z,unique-symbol"], [], f"const_hex_kernel_check: {FALSE}", "", PLACES),
     ("versions", "", [SCRIPT], [], "", "V1 { const_hex_*; };", "or a version"),
     ("a choice where sections end, as by gold", CHECK, ["-fuse-ld=gold"], [], "", "", "accepted"),
     ("versions of others", VERSION, [SCRIPT], [], OTHER, "V1 { other; };", "accepted"),

@@ -331,6 +331,7 @@ MACH_OS = [
     ("a function of another library", put("<B", node("version", 1), 8), OTHER_KIND),
     ("another function in the tree", put("<B", node("version", 2), 128), OTHER_KIND),
     ("a choice by a variable", put("<B", node("shown", 2), lambda file: file.value("_more") & 127 | 128), NO_CHOICE),
+    ("a variable at a number", put("<B", node("shown", 1), 2), "an address that is none of the file"),
     ("a choice that others see", put("<B", lambda file: file.symbol("choice") + 4, 15), NO_CHOICE),
     ("a name for a debugger", symbol("<B", 4, 0x24), "accepted"),
     ("a name from elsewhere", symbol("<B", 4, 1), "accepted"),

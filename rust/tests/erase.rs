@@ -41,28 +41,27 @@ fn check(rows: &[(&str, &str, &str)]) {
     }
 }
 
-/// Forms that Rattle reads, and that would lead to code being deleted as part of a comment or of a clause, or kept.
+/// Forms by which code would be deleted as part of a clause or of a comment, or kept.
 #[rustfmt::skip]
 #[test]
 fn what_is_not_understood() {
     check(&[
-        // The word `ghost` in a block comment, and such a comment within another.
+        ("unknown", "fn f()\n    requires x + 1\n{}", "the clause requires x + 1"),
+        ("unknown", "fn f()\n    ensures { x", "the clause ensures { x"),
+        ("unknown", "fn f()\n    ensures { a -- {\n    }\n{\n}", "the clause ensures { a -- @"),
+        ("unknown", "fn f()\n    ensures { g '{' }\n{\n}", "the clause ensures { g '@"),
+        ("unknown", "fn f()\n    ensures { a }\n        { if x { g(); } }", "the clause ensures @\n        @"),
+        ("unknown", "fn f() {\n    ghost\n    if x {\n        g();\n    }\n}", "the ghost item ghost"),
+        ("unknown", "trait T {\n    ghost a: { B } = { c };\n\n    fn f();\n}", "the ghost item ghost a: @ = @;"),
+        ("unknown", "fn f() {\n    #[tactic(auto)] if x {\n        g();\n    }\n}", "the attribute #@ if x @"),
+        ("unknown", "impl Model for S {} fn f() {}", "the model impl Model for S @ fn f@ @"),
         ("unknown", "fn f(&mut self) {\n    /* no ghost */\n    if self.is_full() {\n        return;\n    }\n}", "the form /*"),
-        // A bracket in a comment of a clause, so that two functions would be one.
-        ("unknown", "fn f()\n    ensures { a -- {\n    }\n{\n}\n\nfn g()\n    ensures { b -- }\n    }\n{\n}", "the form --"),
-        ("unknown", "fn f()\n    ensures { a {- } -} }\n{\n}", "the form {-"),
-        // In a clause, `//` begins no comment, and a quotation mark is a letter.
-        ("unknown", "fn f()\n    ensures { a // }\n    }\n{\n}", "// } in a clause"),
-        ("unknown", "fn f()\n    ensures { g '{' }\n{\n}", "'{' in a clause"),
-        ("unknown", "fn f()\n    ensures { a' ≡ b }\n{\n}", "the form '"),
         ("unknown", "fn f() -> &str {\n    r\"\\\"\n}", "the form r\""),
         ("unknown", "fn f() -> &[u8] {\n    br#\"\"ghost;\"#\n}", "the form br#\""),
         ("unknown", "fn f(r#ghost: u8) {}", "the form r#"),
         ("unknown", "fn f() {\n    g(c\"{\");\n}", "the form c\""),
         // A line of a text that would be taken for a comment: what follows the text would not be looked at.
         ("unknown", "const A: &str = \"a\n    // b\"; drop(c);\nfn f() {}", "the form \"a\n    //"),
-        ("unknown", "const A: &[u8] = b\"a\n/// NoMemory\n// b\n\";", "the form b\"a\n//"),
-        ("unknown", "const A: &str = \"a\n\n\nb\n// c\n\";", "the form \"a\n\n\nb\n//"),
         ("unknown", "const A: &str = \"a\n\n\nb\";", "a rule does not fit: \"a\n\nb\""),
         // Names that rules change, or whose implementations are deleted.
         ("unknown", "mod const_hex {}", "the form mod const_hex"),
@@ -70,11 +69,6 @@ fn what_is_not_understood() {
         ("unknown", "enum std {}", "the form enum std"),
         ("unknown", "struct S;\n\nuse a::{b as Model};\n\nimpl Model for S {}", "the form as Model"),
         ("unknown", "trait Model: Clone {\n    fn f(&self);\n}\n\nimpl Model for u8 {\n    fn f(&self) {}\n}", "the form trait Model"),
-        // What is deleted by words and brackets is not what is deleted by lines.
-        ("unknown", "fn f() {\n    ghost\n    if x {\n        g();\n    }\n}", "by brackets '}' is left, by lines 'ifx{g();}}'"),
-        ("unknown", "fn f()\n    ensures { a }\n        { if x { g(); } }", "by brackets '{ifx{g();}}' is left, by lines ''"),
-        ("unknown", "fn f() {\n    #[tactic(auto)] if x {\n        g();\n    }\n}", "by brackets 'ifx{g();}}' is left, by lines '}'"),
-        ("unknown", "trait T {\n    ghost a: { B } = { c };\n\n    fn f();\n}", "by brackets '={c};fnf();}' is left, by lines 'fnf();}'"),
     ]);
 }
 
@@ -84,10 +78,8 @@ fn what_is_an_error() {
     check(&[
         ("unknown", "#[no_mangle]\nfn f() {}", "the attribute #[no_mangle]"),
         ("unknown", "#[derive(Hash)]\nstruct S;", "the attribute #[derive(Hash)]"),
-        ("unknown", "fn f()\n    requires x + 1\n{}", "the clause requires x +"),
         ("unknown", "fn f() {\n    invariant { x };\n}", "the word invariant outside of a contract"),
         ("unknown", "fn f() {\n    g(rt);\n}", "the runtime: rt"),
-        ("unknown", "fn f()\n    ensures { x", "a bracket that is not closed"),
         // A method, also one with the name of a function of the source, which has a `fill` and a `check`.
         ("unknown", "fn f(x: &[u8]) {\n    x.rotate_left(1);\n}", "the call .rotate_left"),
         ("unknown", "fn f(x: &mut [u8]) {\n    x.fill(1);\n}", "the call .fill"),

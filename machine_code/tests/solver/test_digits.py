@@ -1,6 +1,5 @@
 """The definition of digits is that of crates/const_hex_arch/specs, and texts are those that Python writes."""
 
-import itertools
 import re
 import unittest
 
@@ -28,8 +27,3 @@ class TestDigits(unittest.TestCase):
         for is_upper, text in (False, bytes(range(256)).hex()), (True, bytes(range(256)).hex().upper()):
             digits = [simple(digit).as_long() for number in range(256) for digit in digits_of(byte(number), is_upper)]
             self.assertEqual(bytes(digits).decode(), text)
-
-    def test_pairs(self):
-        for high, low in itertools.product(b"0123456789abcdefABCDEF", repeat=2):
-            pair = simple(value(byte(high)) * 16 + value(byte(low))).as_long()
-            self.assertEqual(pair, int(bytes([high, low]), 16))

@@ -37,13 +37,13 @@ pub mod codec {
     /// Fills the output with the text of the input, after `0x` if a prefix is wanted. It is proved of the caller that
     /// the output has this length.
     pub fn fill_text<K>(input: &[u8], prefix: bool, upper: bool, output: &mut [u8]) {
-        let (front, digits) = output.split_at_mut(if prefix { 2 } else { 0 });
-        front.copy_from_slice(&b"0x"[..front.len()]);
-        let filled = match upper {
-            true => const_hex_proved::encode_to_slice_upper(input, digits),
-            false => const_hex_proved::encode_to_slice(input, digits),
+        let filled = match (prefix, upper) {
+            (false, false) => const_hex_proved::encode_to_slice(input, output),
+            (false, true) => const_hex_proved::encode_to_slice_upper(input, output),
+            (true, false) => const_hex_proved::encode_to_slice_prefixed(input, output),
+            (true, true) => const_hex_proved::encode_to_slice_upper_prefixed(input, output),
         };
-        filled.expect("the output has two digits for each byte");
+        filled.expect("the output has the length of the text");
     }
 }
 

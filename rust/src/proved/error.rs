@@ -2,7 +2,6 @@
 //! Why a text cannot be decoded, or a text does not fit into an output.
 
 use crate::std_shim::prelude::*;
-use crate::std_shim::alloc::{AllocError, AllocFailed};
 use crate::std_shim::{error, fmt};
 
 /// Why a text cannot be decoded, or a text does not fit into an output.
@@ -38,15 +37,3 @@ impl fmt::Display for FromHexError {
 }
 
 impl error::Error for FromHexError {}
-
-impl From<AllocError> for FromHexError {
-    fn from(_error: AllocError) -> FromHexError {
-        _error.never()
-    }
-}
-
-impl<T> From<AllocFailed<T>> for FromHexError {
-    fn from(_error: AllocFailed<T>) -> FromHexError {
-        _error.never()
-    }
-}

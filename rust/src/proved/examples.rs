@@ -1,8 +1,8 @@
 // Made by rust/erase from the examples of the source. Do not edit.
 
 use crate::proved::*;
-use crate::proved::{examples as const_hex, sink::pieces::PieceSink};
-use crate::std_shim::{alloc::Global, prelude::*};
+use crate::proved::examples as const_hex;
+use crate::std_shim::prelude::*;
 
 #[test]
 fn arch_check_first_checkfirst() {
@@ -137,111 +137,6 @@ fn output_write_byte() {
     let mut text = [b'.'; 4];
     SliceOutput::new(&mut text).write_byte(b'a');
     assert_eq!(text, *b"a...");
-}
-
-#[test]
-fn sink_output_sinkoutput() {
-    let mut sink = PieceSink::new(Global, 2);
-    let mut output = SinkOutput::new(&mut sink);
-    output.write(b"one");
-    output.write(b"two");
-    output.write(b"three");
-    assert_eq!(output.finish(), Err(SinkError));
-    assert_eq!(sink.calls(), 2);
-}
-
-#[test]
-fn sink_output_new() {
-    let mut sink = PieceSink::new(Global, 0);
-    assert_eq!(SinkOutput::new(&mut sink).remaining(), None);
-}
-
-#[test]
-fn sink_output_finish() {
-    let mut sink = PieceSink::new(Global, 0);
-    let mut output = SinkOutput::new(&mut sink);
-    output.write(b"one");
-    assert!(output.finish().is_ok());
-}
-
-#[test]
-fn sink_pieces_piecesink() {
-    let mut sink = PieceSink::new(Global, 0);
-    assert!(sink.write_str("one").is_ok());
-    assert_eq!(sink.pieces()[0].as_str(), "one");
-    assert_eq!(sink.calls(), 1);
-}
-
-#[test]
-fn sink_pieces_new() {
-    let mut sink = PieceSink::new(Global, 2);
-    assert!(sink.write_str("one").is_ok());
-    assert_eq!(sink.write_str("two"), Err(SinkError));
-}
-
-#[test]
-fn sink_pieces_pieces() {
-    assert!(PieceSink::new(Global, 0).pieces().is_empty());
-}
-
-#[test]
-fn sink_pieces_calls() {
-    let mut sink = PieceSink::new(Global, 1);
-    assert!(sink.write_str("one").is_err());
-    assert_eq!((sink.calls(), sink.pieces().len()), (1, 0));
-}
-
-#[test]
-fn sink_pieces_no_memory() {
-    let mut sink = PieceSink::new(Global, 1);
-    assert!(sink.write_str("one").is_err());
-    assert!(!sink.no_memory());
-}
-
-#[test]
-fn sink_sinkerror() {
-    let mut sink = PieceSink::new(Global, 1);
-    assert_eq!(sink.write_str("one"), Err(SinkError));
-}
-
-#[test]
-fn sink_refused() {
-    assert!(!PieceSink::new(Global, 1).refused());
-}
-
-#[test]
-fn sink_write_str() {
-    assert!(PieceSink::new(Global, 0).write_str("one").is_ok());
-}
-
-#[test]
-fn stream_bufferedhex() {
-    let mut sink = PieceSink::new(Global, 0);
-    let hex = BufferedHex::<false, true>::new(b"kiwi");
-    assert!(hex.write_to(&mut sink).is_ok());
-    assert_eq!(sink.pieces()[0].as_str(), "0x6b697769");
-}
-
-#[test]
-fn stream_new() {
-    let mut sink = PieceSink::new(Global, 0);
-    assert!(BufferedHex::<true, false>::new(&[0xab]).write_to(&mut sink).is_ok());
-    assert_eq!(sink.pieces()[0].as_str(), "AB");
-}
-
-#[test]
-fn stream_write_to() {
-    let mut sink = PieceSink::new(Global, 1);
-    let hex = BufferedHex::<false, false>::new(b"kiwi");
-    assert_eq!(hex.write_to(&mut sink), Err(SinkError));
-}
-
-#[test]
-fn stream_write_with() {
-    let mut sink = PieceSink::new(Global, 0);
-    let hex = BufferedHex::<false, false>::new(b"kiwi");
-    assert!(hex.write_with::<Plain, PieceSink>(&mut sink).is_ok());
-    assert_eq!(sink.pieces()[0].as_str(), "6b697769");
 }
 
 #[test]

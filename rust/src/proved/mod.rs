@@ -37,32 +37,30 @@ pub use self::formatting::text::*;
 
 // The places that each rule of rust/erase has changed:
 //
-//   20  Rattle's std is the module std_shim
+//   18  Rattle's std is the module std_shim
 //    1  Rust's errors are not copied
 //   26  a formatter has a lifetime in place of its writer's type
 //   10  a function for C takes slices, which capi makes of pointers and lengths, and is compiled there alone
-//   83  all crates are one module
-//    5  an allocation never fails: without memory the program ends
-//  109  an assertion names no runtime
-//    3  an example names a kernel that each target has
-//    4  an example of hexfilter uses no allocator
+//   82  all crates are one module
+//    3  an allocation never fails: without memory the program ends
+//   85  an assertion names no runtime
+//    2  an example names a kernel that each target has
+//    4  an example uses no allocator
 //    1  and a constant converts by a cast
 //    1  and an error is borrowed
 //    5  and is a module of const_hex
 //    5  and kernels over vectors are there for WebAssembly alone
-//   15  and panics instead of returning an error
+//   13  and panics instead of returning an error
 //    1  and the crate's decoder is cloned
 //    1  and writes a text to memory that is not cleared
 //    2  before it reads a part, or ends
-//   55  deleted: attribute
-//  227  deleted: contract
-//  158  deleted: ghost item
-//    4  deleted: model
-//    2  each value may be dropped
-//    6  kernels that no target uses are left out, and callers that nothing exports
-//   15  the allocator is a value
+//   54  deleted: attribute
+//  520  deleted: clause
+//  149  deleted: ghost item
+//    5  deleted: model
+//    1  each value may be dropped
+//    7  kernels that no target uses are left out, callers that nothing exports, and a sink that allocates
 //    1  the kernel is chosen for the processor
 //   16  what a constant calls is constant
-//    2  what allocates is there with the feature alloc
 //    2  what hexfilter uses of const_hex is a module of std_shim
 //    7  what is for C calls the kernel for the processor

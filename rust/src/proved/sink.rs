@@ -4,8 +4,6 @@
 use crate::std_shim::prelude::*;
 
 pub mod output;
-#[cfg(feature = "alloc")]
-pub mod pieces;
 
 use crate::std_shim::error::Error;
 use crate::std_shim::fmt;

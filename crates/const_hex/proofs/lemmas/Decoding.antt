@@ -84,7 +84,7 @@ first_and_rest (c ∷ u) h = refl
 
 -- ---- what a decoder that has read t reads on
 
-body-shorter : (t : List ℕ) → length (body_of t) ≤ length t
+pub body-shorter : (t : List ℕ) → length (body_of t) ≤ length t
 body-shorter t = grind arith
 
 -- d has read t and has written bs; then w, the waiting digit if there is one, and the digits of the chunk follow the
@@ -165,7 +165,7 @@ module _ (d : Decoder) (chunk w digits : List ℕ)
 pub read_digits : (d : Decoder) (t bs : List ℕ) → HasRead d t bs → AllDigits (body_of t)
 read_digits d t bs r = rw r.whole ((digits_append r.pairs (waiting_digit d)).1 (Spells-digits _ _ r.given, r.waits))
 
-body-longer : (t u : List ℕ) → 2 ≤ length t → body_of (t ++ u) ≡ body_of t ++ u
+pub body-longer : (t u : List ℕ) → 2 ≤ length t → body_of (t ++ u) ≡ body_of t ++ u
 body-longer t u h = grind arith
 
 -- whatever follows

@@ -51,11 +51,6 @@ Reads-digits t even a = let s = Spells-some (body_of t) (body-parity t ∙ even)
 is_text-parts : (n : ℕ) (t : List ℕ) → IsTrue (is_text_of n t) → (length (body_of t) ≡ 2 * n) × AllDigits (body_of t)
 is_text-parts n t e = let p = and_parts _ _ e in (eqb-true _ _ p.0, AllPass-from_list_all _ (body_of t) p.1)
 
--- and no text of n bytes is rejected
-text_not_refused : (n : ℕ) (t : List ℕ) (e : FromHexError) → ReadsSized t n (Err e)
-    → (length (body_of t) ≡ 2 * n) × AllDigits (body_of t) → ⊥
-text_not_refused n t e h is = grind (arith, digits_no_bad, body-parity)
-
 -- a text is read as n bytes if and only if the test says so
 pub sized_accepts : (n : ℕ) (t : List ℕ) (r : Result (List ℕ) FromHexError) → ReadsSized t n r
     → IsOk r ↔ IsTrue (is_text_of n t)
@@ -63,6 +58,7 @@ sized_accepts n t (Ok bs) h = (
   λ _. and_from _ _ (eq-eqb _ _ h.0) (list_all-from_AllPass _ (body_of t) (Spells-digits (body_of t) bs h.1.1)),
   λ _. refl,
 )
-sized_accepts n t (Err e) h = (λ gone. absurd (cc gone), λ is. absurd (text_not_refused n t e h (is_text-parts n t is)))
+sized_accepts n t (Err e) h =
+    (λ gone. absurd (cc gone), λ is. absurd (grind (arith, digits_no_bad, body-parity, is_text-parts n t is)))
 
 pub ruleset checked = (Reads-digits, Spells-no_bad)

@@ -3,7 +3,7 @@
 ghost use Rattle.std.specs.Prelude.{◌↔◌, Result, Ok, IsTrue};
 ghost use Rattle.const_hex.specs.Prelude.{AllDigits, ChecksText, FromHexError};
 
-use crate::codec::body::{find_first_bad, find_invalid_character, invalid_character, strip_even};
+use crate::codec::body::{find_first_bad, find_invalid_character, strip_even};
 use crate::error::FromHexError;
 use const_hex_arch::{FixedKernel, Kernel};
 
@@ -58,11 +58,10 @@ pub fn const_check(input: &[u8]) -> Result<(), FromHexError>
         Ok(body) => body,
         Err(error) => return Err(error),
     };
-    let (byte, index) = find_first_bad(body);
-    if index == body.len() {
+    if const_check_raw(body) {
         return Ok(());
     }
-    Err(invalid_character(byte, index + (input.len() - body.len())))
+    Err(find_invalid_character(input))
 }
 
 /// Whether every byte is a digit. No prefix is allowed, and the length does not matter. Does not

@@ -1,20 +1,11 @@
 //! Encoding bytes as text in a slice.
 
-ghost use Rattle.std.specs.Prelude.{◌≡◌, ◌≢◌, ◌*◌, true, false, length, IsTrue, IsOk, IfOk, IfErr, Err, ◌↔◌, IsAscii};
+ghost use Rattle.std.specs.Prelude.{◌≡◌, ◌≢◌, ◌*◌, true, false, length, IsOk, IfOk, IfErr, Err, ◌↔◌, IsAscii};
 ghost use Rattle.std.specs.Borrow.{sem};
 ghost use Rattle.const_hex.specs.Prelude.{hex_text, full_text, text_length, EndsEncoded, EncodesToSlice, InvalidStringLength};
 
 use crate::error::FromHexError;
 use const_hex_arch::{FixedKernel, Kernel, ascii_text, fill_text, text_length};
-
-/// Whether there are exactly two digits for each byte.
-#[inline(always)]
-fn two_per_byte(bytes: usize, digits: usize) -> bool
-    ensures { IsTrue result ↔ (digits ≡ 2 * bytes) }
-{
-    // `text_length` stops at the greatest number, which is odd.
-    digits % 2 == 0 && digits == text_length(false, bytes)
-}
 
 /// Fills the output with the text, if it has exactly two bytes for each byte of the input, and
 /// returns it.
@@ -26,7 +17,7 @@ fn encode_into<'a>(input: &[u8], upper: bool, output: &'a mut [u8]) -> &'a mut [
     ensures ascii { (length result.now ≡ 2 * length input.now) → IsAscii result.now }
     ensures unchanged { (length result.now ≢ 2 * length input.now) → (result.now ≡ output.entry.now) }
 {
-    if two_per_byte(input.len(), output.len()) {
+    if output.len() == 2 * input.len() {
         fill_text::<FixedKernel>(input, false, upper, output);
     }
     output
@@ -40,7 +31,7 @@ fn encoded_text<'a>(input: &[u8], output: &'a [u8]) -> Result<&'a str, FromHexEr
     ensures lends { IfOk result (λ text. text.now ≡ output.now) }
     ensures error { IfErr result (λ e. e ≡ InvalidStringLength) }
 {
-    if two_per_byte(input.len(), output.len()) {
+    if output.len() == 2 * input.len() {
         Ok(ascii_text(output))
     } else {
         Err(FromHexError::InvalidStringLength)

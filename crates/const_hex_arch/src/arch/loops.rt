@@ -92,11 +92,11 @@ pub(crate) fn check_in_steps<const N: usize, V: LaneOps<N>>(input: &[u8]) -> boo
 /// of the output may already be decoded. Two steps share one test. A step with an invalid character
 /// writes nothing. After the steps of `N` lanes, one of 16 is decoded if 16 bytes are left. The last
 /// 16 bytes of the output cover the remainder, some of them again. Less than 16 bytes, and without
-/// `PAIRS` also 16, are a remainder as a whole. With `PAIRS` a valid first one of two steps is
+/// `FRONT` also 16, are a remainder as a whole. With `FRONT` a valid first one of two steps is
 /// decoded if their test fails, and the pairs of the remainder before an invalid character. Without
 /// it the call ends there.
 #[inline(always)]
-pub(crate) fn decode_in_steps<const N: usize, const PAIRS: bool, V: LaneOps<N>, S: LaneOps<16>>(
+pub(crate) fn decode_in_steps<const N: usize, const FRONT: bool, V: LaneOps<N>, S: LaneOps<16>>(
     input: &[u8],
     output: &mut [u8],
 ) -> bool
@@ -104,12 +104,12 @@ pub(crate) fn decode_in_steps<const N: usize, const PAIRS: bool, V: LaneOps<N>, 
     ensures spells { IsTrue result → Spells input.now output.new }
     ensures refused { result ≡ false → Partial output.old input.now output.new }
 {
-    if !PAIRS && output.len() <= 16 {
+    if !FRONT && output.len() <= 16 {
         return small_input::decode_short::<S>(input, output);
     }
     if output.len() < 16 {
         return small_input::decode_small::<S>(input, output)
-            || (PAIRS && small_input::decode_pairs(input, output));
+            || (FRONT && small_input::decode_pairs(input, output));
     }
     let mut at = 0;
     while output.len() - at >= 2 * N {
@@ -120,7 +120,7 @@ pub(crate) fn decode_in_steps<const N: usize, const PAIRS: bool, V: LaneOps<N>, 
             second_row,
             &mut output[at..end],
         ) {
-            if !PAIRS {
+            if !FRONT {
                 return false;
             }
             break;
@@ -146,7 +146,7 @@ pub(crate) fn decode_in_steps<const N: usize, const PAIRS: bool, V: LaneOps<N>, 
     }
     let start = output.len() - 16;
     steps::decode_step::<16, S>(&input[2 * start..], false, &mut output[start..])
-        || (PAIRS && small_input::decode_pairs(&input[2 * at..], &mut output[at..]))
+        || (FRONT && small_input::decode_pairs(&input[2 * at..], &mut output[at..]))
 }
 
 /// Decodes digits in steps, and then by the last 16 bytes, some of them again. A text of fewer than

@@ -90,12 +90,10 @@ reads_back : (check ignores : Bool) (g : Groups) (words : List (List ℕ)) → I
 unfolding with_arguments
 reads_back true true g words (inl (is, none)) = rw (is, none) refl
 reads_back true true g words (inr (v, n, h, size, character, is)) = rw (is, h, character, ← size) refl
-reads_back true false g words (inl (is, none)) = rw (is, none) refl
-reads_back true false g words (inr (v, n, h, size, character, is)) = rw (is, h, character, ← size) refl
 reads_back false true g words (inl (is, none)) = rw (is, none) refl
 reads_back false true g words (inr (v, n, h, size, character, is)) = rw (is, h, character, ← size) refl
-reads_back false false g words (inl (is, none)) = rw (is, none) refl
-reads_back false false g words (inr (v, n, h, size, character, is)) = rw (is, h, character, ← size) refl
+reads_back _ _ g words (inl (is, none)) = rw (is, none) refl
+reads_back _ _ g words (inr (v, n, h, size, character, is)) = rw (is, h, character, ← size) refl
 
 pub read_back : (m : Mode) (words : List (List ℕ)) → AsksFor m words
     → request_for (arguments_of m words) ≡ Ok (Run m None)
@@ -103,15 +101,12 @@ unfolding with_arguments
 read_back (Encode true true g) words (inl (v, h, newline, is)) = rw (is, h, ← newline) refl
 read_back (Encode true true g) words (inr (inl (is, none))) = rw (is, none) refl
 read_back (Encode true true g) words (inr (inr (v, n, h, size, character, is))) = rw (is, h, character, ← size) refl
-read_back (Encode true false g) words (inl (v, h, newline, is)) = rw (is, h, ← newline) refl
-read_back (Encode true false g) words (inr (inl (is, none))) = rw (is, none) refl
-read_back (Encode true false g) words (inr (inr (v, n, h, size, character, is))) = rw (is, h, character, ← size) refl
 read_back (Encode false true g) words (inl (v, h, newline, is)) = rw (is, h, ← newline) refl
 read_back (Encode false true g) words (inr (inl (is, none))) = rw (is, none) refl
 read_back (Encode false true g) words (inr (inr (v, n, h, size, character, is))) = rw (is, h, character, ← size) refl
-read_back (Encode false false g) words (inl (v, h, newline, is)) = rw (is, h, ← newline) refl
-read_back (Encode false false g) words (inr (inl (is, none))) = rw (is, none) refl
-read_back (Encode false false g) words (inr (inr (v, n, h, size, character, is))) = rw (is, h, character, ← size) refl
+read_back (Encode _ _ g) words (inl (v, h, newline, is)) = rw (is, h, ← newline) refl
+read_back (Encode _ _ g) words (inr (inl (is, none))) = rw (is, none) refl
+read_back (Encode _ _ g) words (inr (inr (v, n, h, size, character, is))) = rw (is, h, character, ← size) refl
 read_back (Decode r) words h = reads_back r.is_check r.ignore_whitespace r.groups words h
 
 pub asked : (m : Mode) (arguments : List (List ℕ)) → AreFor m arguments → request_for arguments ≡ Ok (Run m None)

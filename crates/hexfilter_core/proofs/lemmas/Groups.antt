@@ -37,29 +37,21 @@ after_group g (b ∷ t) h some =
     let next : min (0 + 1) g.size ≡ 1 = omega (arith, h) in grind (arith, nat_tests, h, next)
 
 -- the first `done` characters stand in groups, and then `count` more
-module _ (g : Groups) (first c : ℕ) (text : List ℕ) (done count : ℕ) (laid : List ℕ)
-    (before : (rest : List ℕ) → 0 < length rest
-    → groups_from g first (take done text ++ rest) ≡ laid ++ groups_from g c rest)
-    (some : 0 < count) (within : done + count ≤ length text) where
-  piece : List ℕ
-  piece = take count (drop done text)
-
-  size : length piece ≡ count
-  unfolding piece
-  size = simp (length-take, length-drop) (omega arith)
-
-  pub goes_on : c + count ≤ g.size → (out : List ℕ) → out ≡ laid ++ take count (drop done text)
-      → (rest : List ℕ)
-      → groups_from g first (take (done + count) text ++ rest) ≡ out ++ groups_from g (c + count) rest
-  unfolding piece
-  goes_on h out put rest =
-      let more : 0 < length (piece ++ rest) = omega (arith, size, length-append piece rest, some) in
-      ap (λ l. groups_from g first (l ++ rest)) (take-add done count text)
-      ∙ ap (groups_from g first) (append_assoc (take done text) piece rest)
-      ∙ before (piece ++ rest) more ∙ ap (λ l. laid ++ l) (within_group g c piece rest (omega (arith, size)))
-      ∙ ap (λ k. laid ++ (piece ++ groups_from g (c + k) rest)) size
-      ∙ sym (append_assoc laid piece (groups_from g (c + count) rest))
-      ∙ ap (λ l. l ++ groups_from g (c + count) rest) (sym put)
+pub goes_on : (g : Groups) (first c : ℕ) (text : List ℕ) (done count : ℕ) (laid : List ℕ)
+    → ((rest : List ℕ) → 0 < length rest → groups_from g first (take done text ++ rest) ≡ laid ++ groups_from g c rest)
+    → 0 < count → done + count ≤ length text → c + count ≤ g.size
+    → (out : List ℕ) → out ≡ laid ++ take count (drop done text)
+    → (rest : List ℕ) → groups_from g first (take (done + count) text ++ rest) ≡ out ++ groups_from g (c + count) rest
+goes_on g first c text done count laid before some within h out put rest =
+    let piece = take count (drop done text) in
+    let size : length piece ≡ count = simp (length-take, length-drop) (omega arith) in
+    let more : 0 < length (piece ++ rest) = omega (arith, size, length-append piece rest, some) in
+    ap (λ l. groups_from g first (l ++ rest)) (take-add done count text)
+    ∙ ap (groups_from g first) (append_assoc (take done text) piece rest)
+    ∙ before (piece ++ rest) more ∙ ap (λ l. laid ++ l) (within_group g c piece rest (omega (arith, size)))
+    ∙ ap (λ k. laid ++ (piece ++ groups_from g (c + k) rest)) size
+    ∙ sym (append_assoc laid piece (groups_from g (c + count) rest))
+    ∙ ap (λ l. l ++ groups_from g (c + count) rest) (sym put)
 
 -- `done` characters stand in groups, and then `count` more are put there
 pub puts_more : (g : Groups) (c d e : ℕ) (text : List ℕ) (done count : ℕ) (out new : List ℕ) (end m k : ℕ)
@@ -105,26 +97,14 @@ pub puts_pairs : (s : ℕ) (text rest : List ℕ) → 8 ≤ length text
     ≡ s ∷ get_or text 0 0 ∷ get_or text 1 0 ∷ s ∷ get_or text 2 0 ∷ get_or text 3 0 ∷ s ∷ get_or text 4 0
     ∷ get_or text 5 0 ∷ s ∷ get_or text 6 0 ∷ get_or text 7 0 ∷ groups_from (record { size = 2; separator = s }) 2 rest
 unfolding groups_from
-puts_pairs s [] rest many = absurd (omega arith)
-puts_pairs s (a ∷ []) rest many = absurd (omega arith)
-puts_pairs s (a ∷ b ∷ []) rest many = absurd (omega arith)
-puts_pairs s (a ∷ b ∷ c ∷ []) rest many = absurd (omega arith)
-puts_pairs s (a ∷ b ∷ c ∷ d ∷ []) rest many = absurd (omega arith)
-puts_pairs s (a ∷ b ∷ c ∷ d ∷ e ∷ []) rest many = absurd (omega arith)
-puts_pairs s (a ∷ b ∷ c ∷ d ∷ e ∷ f ∷ []) rest many = absurd (omega arith)
-puts_pairs s (a ∷ b ∷ c ∷ d ∷ e ∷ f ∷ g ∷ []) rest many = absurd (omega arith)
 puts_pairs s (a ∷ b ∷ c ∷ d ∷ e ∷ f ∷ g ∷ h ∷ text) rest many = refl
+puts_pairs s _ rest many = absurd (omega arith)
 
 pub if_ok : {T E P : Type 0} (r : Result T E) → P → OnOk r P
 if_ok r p = grind arith
 
 pub if_err : {T E P : Type 0} (r : Result T E) → P → OnErr r P
 if_err r p = grind arith
-
-full_text-more : (prefix up : Bool) (x more : List ℕ)
-    → full_text prefix up (x ++ more) ≡ full_text prefix up x ++ full_text false up more
-full_text-more prefix up x more =
-    rw (hex_text-append up x more) (sym (append_assoc (prefix_of prefix) (hex_text up x) (hex_text up more)))
 
 -- a chunk more is encoded
 pub encoded_more : (prefix up : Bool) (g : Groups) (old new : Stage) (x y chunk z : List ℕ)
@@ -134,8 +114,10 @@ pub encoded_more : (prefix up : Bool) (g : Groups) (old new : Stage) (x y chunk 
 encoded_more prefix up g old new x y chunk z has breaks due fits = record {
   left = λ more.
       let rest = full_text false up more in
+      let text : full_text old.prefix up (chunk ++ more) ≡ full_text old.prefix up chunk ++ rest =
+      rw (hex_text-append up chunk more) (sym (append_assoc (prefix_of old.prefix) (hex_text up chunk) rest)) in
       rw due (ap (encoded prefix up g) (append_assoc x chunk more) ∙ has.left (chunk ++ more)
-      ∙ ap (λ l. y ++ groups_from g old.column l) (full_text-more old.prefix up chunk more)
+      ∙ ap (λ l. y ++ groups_from g old.column l) text
       ∙ ap (λ l. y ++ l) (breaks rest)
       ∙ sym (append_assoc y z (groups_from g new.column rest)));
   fits = fits;

@@ -2,14 +2,15 @@
 use Rattle.std.proofs.Common.{◌≡◌, ◌≢◌, ℕ, ◌+◌, ◌<◌, ◌≤◌, ◌==◌, ◌&&◌, ◌||◌, Bool, true, false, if◌then◌else◌, List, [], ◌∷◌, ◌++◌, length, min, Option, Some, Ok, refl, sym, ap, ◌∙◌, arith, append_assoc, append-nil, All}
 use Rattle.std.proofs.lemmas.Bool.Decides.{nat_tests}
 use Rattle.std.proofs.lemmas.List.Elements.{All-cons, All-head, All-nil, All-tail, All-weaker}
+use Rattle.const_hex.proofs.lemmas.Decoding.{body-longer}
 use Rattle.const_hex.proofs.lemmas.Reading.{one_answer}
 use Rattle.const_hex.proofs.lemmas.RoundTrip.{Reads-full_text}
 use Rattle.const_hex.specs.Prelude.{AreBytes, IsEven, Reads, body_of, AllDigits, IsDigit, full_text, hex_text, prefix_of}
 use Rattle.const_hex_arch.proofs.lemmas.Digits.{digits_append}
 use Rattle.const_hex_arch.proofs.lemmas.Texts.{Spells-digits, Spells-hex_text}
-use Rattle.hexfilter_core.specs.Dumps.{FromHexError, Groups, HasError, IgnoresLines, InvalidHexCharacter, InvalidStringLength, NoMemory, OddLength, Place, Reading, encoded, groups_from, is_whitespace, mirror, text_from, text_of}
+use Rattle.hexfilter_core.specs.Dumps.{FromHexError, Groups, HasError, IgnoresLines, InvalidHexCharacter, OddLength, Place, Reading, encoded, groups_from, is_whitespace, mirror, text_from, text_of}
 use Rattle.hexfilter_core.specs.Runs.{Decode, FailsWith, Makes}
-use Rattle.hexfilter_core.proofs.lemmas.Texts.{body-longer, text-append}
+use Rattle.hexfilter_core.proofs.lemmas.Texts.{text-append}
 
 abbrev reading : Bool → ℕ → ℕ → Reading
 reading i n s = record { is_check = false; ignore_whitespace = i; groups = record { size = n; separator = s } }
@@ -80,7 +81,6 @@ not_decoded : (r : Reading) (x rest y bytes : List ℕ) (e : FromHexError) (plac
 not_decoded r x rest y bytes OddLength place (none, end, odd, pairs) (even, spelled) =
     let whole = ap (λ l. x ++ l) end ∙ append-nil x in
     let same : IsEven (length (text_of r x)) = rw whole at even in omega (arith, odd, same)
-not_decoded r x rest y bytes InvalidStringLength place fails reads = fails
 not_decoded r x rest y bytes (InvalidHexCharacter c k) place fails (even, spelled) =
     let front = fails.front ++ c ∷ [] in
     let more = fails.rest ++ rest in
@@ -90,7 +90,7 @@ not_decoded r x rest y bytes (InvalidHexCharacter c k) place fails (even, spelle
     let text = ap (text_of r) cut ∙ text-append r 0 front more in
     let digits = Spells-digits (body_of (text_of r (x ++ rest))) bytes spelled in
     fails.invalid (body_front (text_of r front) _ (rw text at digits))
-not_decoded r x rest y bytes NoMemory place fails reads = fails
+not_decoded r x rest y bytes _ place fails reads = fails
 
 module _ (prefix up i : Bool) (g : Groups) (ignores : IgnoresLines i g) (bytes : List ℕ) (are : AreBytes bytes) where
   -- the bytes are what the text of the encoded bytes decodes to

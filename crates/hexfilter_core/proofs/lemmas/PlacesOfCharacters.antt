@@ -4,21 +4,20 @@ use Rattle.std.proofs.lemmas.Bool.Decides.{nat_tests}
 use Rattle.std.proofs.lemmas.List.Elements.{All-head, All-tail}
 use Rattle.hexfilter_core.specs.Dumps.{IsPlace, Place, after, place_after}
 
+abbrev step : Place → ℕ → Place
+step p b = record { line = if b == 10 then p.line + 1 else p.line; column = if b == 10 then 1 else p.column + 1 }
+
 place_after-append : (p : Place) (x y : List ℕ) → place_after p (x ++ y) ≡ place_after (place_after p x) y
 unfolding place_after
 place_after-append p [] y = refl
-place_after-append p (b ∷ x) y =
-    place_after-append
-    (record { line = if b == 10 then p.line + 1 else p.line; column = if b == 10 then 1 else p.column + 1 }) x y
+place_after-append p (b ∷ x) y = place_after-append (step p b) x y
 
 bounds : (p : Place) (x : List ℕ) → 1 ≤ p.column
     → ((place_after p x).line ≤ p.line + length x) × ((place_after p x).column ≤ p.column + length x)
 unfolding place_after
 bounds p [] h = (omega arith, omega arith)
 bounds p (b ∷ x) h =
-    let rest = bounds
-    (record { line = if b == 10 then p.line + 1 else p.line; column = if b == 10 then 1 else p.column + 1 }) x
-    (grind arith) in
+    let rest = bounds (step p b) x (grind arith) in
     (grind (arith, rest), grind (arith, rest))
 
 run : (p : Place) (x : List ℕ) → All (λ b. b ≢ 10) x
@@ -27,9 +26,7 @@ unfolding place_after
 run p [] h = (refl, omega arith)
 run p (b ∷ x) h =
     let other = All-head (λ b. b ≢ 10) b x h in
-    let rest = run
-    (record { line = if b == 10 then p.line + 1 else p.line; column = if b == 10 then 1 else p.column + 1 }) x
-    (All-tail (λ b. b ≢ 10) b x h) in
+    let rest = run (step p b) x (All-tail (λ b. b ≢ 10) b x h) in
     (grind (arith, nat_tests, other, rest), grind (arith, nat_tests, other, rest))
 
 -- a run without a newline

@@ -1,7 +1,7 @@
 -- What errors and exit statuses say of decoders and runs.
-use Rattle.std.proofs.Common.{rules, ◌≡◌, ℕ, List, Option, Result, Ok, Err, refl, inl, inr, [], Bool, true, false, arith, OnErr, IfErr, OnOk}
+use Rattle.std.proofs.Common.{rules, ◌≡◌, ℕ, List, Option, Result, Err, refl, inl, inr, [], Bool, true, false, arith, OnErr, IfErr, OnOk}
 use Rattle.hexfilter_core.specs.Dumps.{FromHexError, Place, text_from}
-use Rattle.hexfilter_core.specs.Runs.{Mode, Read, RunError, Text, Write, Decode, Encode, Ends, EndsIf, IsFailedWrite, MakesBeginning, RunsPartly, RunsToEnd, RunsToError, status_of}
+use Rattle.hexfilter_core.specs.Runs.{Mode, RunError, Text, Decode, Encode, Ends, EndsIf, IsFailedWrite, MakesBeginning, RunsPartly, RunsToEnd, RunsToError, status_of}
 use Rattle.std.proofs.KnownBytes.{Appends-nil, Consumes-nil}
 
 pub same_value : {V E : Type 0} (f g : E) → ◌≡◌ {A = Result V E} (Err f) (Err g) → f ≡ g
@@ -12,11 +12,9 @@ pub ends : (m : Mode) (had left old new : Option (List ℕ)) (r : Result Unit Ru
     → OnOk r (RunsToEnd m had left old new)
     → ((e : FromHexError) (place : Option Place) → r ≡ Err (Text e place) → RunsToError m had left old new e place)
     → OnErr r (RunsPartly m had left old new) → Ends m (status_of r) had left old new
-ends m had left old new (Ok v) done text begun = search rules
 ends m had left old new (Err (Text e place)) done text begun =
     (search rules, λ h. (e, place, text e place refl), search rules, inr (inl refl))
-ends m had left old new (Err (Read e)) done text begun = search rules
-ends m had left old new (Err (Write e)) done text begun = search rules
+ends m had left old new r done text begun = search rules
 
 -- a write that failed
 pub failed : {P : Type 0} (r : Result Unit RunError) → IfErr r IsFailedWrite → P → OnErr r ((status_of r ≡ 3) × P)

@@ -6,12 +6,12 @@ use Rattle.std.proofs.Math.Seq.{take-add, take-append-add}
 use Rattle.std.proofs.lemmas.Bool.Decides.{nat_tests}
 use Rattle.std.proofs.lemmas.List.{append-nil, length-drop, length-take, length-take-le, take-append-drop, take-append-le, take-take, take_all, take_min, take_more}
 use Rattle.std.proofs.lemmas.List.Elements.{All-from_get_or, All-head, All-same, All-tail, All-take, All-weaker}
-use Rattle.const_hex.proofs.lemmas.Decoding.{read_digits, read_front}
+use Rattle.const_hex.proofs.lemmas.Decoding.{body-longer, body-shorter, read_digits, read_front}
 use Rattle.const_hex.specs.Prelude.{HasRead, counted, waiting_digit}
 use Rattle.const_hex_arch.proofs.lemmas.Texts.{Spells-length, Spells-parts}
 use Rattle.hexfilter_core.specs.Stages.{Decoder, HasAdded, HasDecoded, HasMade, HasScanned, HasWritten, Reaches, Scanner, Stage}
-use Rattle.hexfilter_core.specs.Dumps.{FromHexError, HasError, InvalidHexCharacter, InvalidStringLength, IsPlace, NoMemory, OddLength, Place, Reading, SpellsBeginning, SpellsPairs, body_of, encoded, is_whitespace, kept, leaves_out, next, next_from, text_from, text_of}
-use Rattle.hexfilter_core.specs.Runs.{Decode, Encode, MakesBeginning, Mode, Read, Reads, RunError, Text, Write}
+use Rattle.hexfilter_core.specs.Dumps.{FromHexError, HasError, InvalidHexCharacter, IsPlace, OddLength, Place, Reading, SpellsBeginning, SpellsPairs, body_of, encoded, is_whitespace, kept, leaves_out, next, next_from, text_from, text_of}
+use Rattle.hexfilter_core.specs.Runs.{Decode, Encode, MakesBeginning, Mode, Reads, RunError, Text}
 
 pub text-append : (r : Reading) (k : ℕ) (x y : List ℕ)
     → text_from r k (x ++ y) ≡ text_from r k x ++ text_from r (next_from r k x) y
@@ -30,21 +30,12 @@ pub text-byte : (r : Reading) (x : List ℕ) (b : ℕ) → text_of r (x ++ b ∷
 unfolding text_from
 text-byte r x b = text-append r 0 x (b ∷ []) ∙ ap (λ t. text_of r x ++ t) (append-nil (kept r (next_from r 0 x) b))
 
-pub next-byte : (r : Reading) (x : List ℕ) (b : ℕ) → next_from r 0 (x ++ b ∷ []) ≡ next r (next_from r 0 x) b
-unfolding next_from
-next-byte r x b = next-append r 0 x (b ∷ [])
-
 -- ---- bytes of which none is left out
 
 pub next_bound : (r : Reading) (k : ℕ) (x : List ℕ) → k ≤ r.groups.size → next_from r k x ≤ r.groups.size
 unfolding next_from
 next_bound r k [] h = h
 next_bound r k (b ∷ x) h = next_bound r (next r k b) x (grind (arith, nat_tests, h))
-
-kept_one : (r : Reading) (k b : ℕ) → (0 < r.groups.size → k + 1 ≤ r.groups.size)
-    → (r.ignore_whitespace && is_whitespace b) ≡ false
-    → (kept r k b ≡ b ∷ []) × (next r k b ≡ min (k + 1) r.groups.size)
-kept_one r k b fits h = grind (arith, nat_tests, fits, h)
 
 pub kept_run : (r : Reading) (k : ℕ) (run : List ℕ) → k ≤ r.groups.size
     → (0 < r.groups.size → k + length run ≤ r.groups.size)
@@ -53,8 +44,8 @@ pub kept_run : (r : Reading) (k : ℕ) (run : List ℕ) → k ≤ r.groups.size
 unfolding text_from next_from
 kept_run r k [] h fits all = (refl, omega (arith, h))
 kept_run r k (b ∷ x) h fits all =
-    let one = kept_one r k b (λ some. omega (arith, fits some))
-    (All-head (λ b. (r.ignore_whitespace && is_whitespace b) ≡ false) b x all) in
+    let own = All-head (λ b. (r.ignore_whitespace && is_whitespace b) ≡ false) b x all in
+    let one : (kept r k b ≡ b ∷ []) × (next r k b ≡ min (k + 1) r.groups.size) = grind (arith, nat_tests, fits, own) in
     let rest = kept_run r (next r k b) x (omega (arith, one.1)) (λ some. omega (arith, one.1, fits some, some))
     (All-tail (λ b. (r.ignore_whitespace && is_whitespace b) ≡ false) b x all) in
     (rw (one.0, rest.0) refl, omega (arith, rest.1, one.1, h))
@@ -217,9 +208,6 @@ fewer_made (Encode prefix upper g) x y k (left, is) =
 fewer_made (Decode r) x y k (bytes, spelled, is) =
     (take k bytes, fewer_spelled r x bytes k spelled, ap (take k) is ∙ take_written r.is_check bytes k)
 
-pub body-longer : (t u : List ℕ) → 2 ≤ length t → body_of (t ++ u) ≡ body_of t ++ u
-body-longer t u h = grind arith
-
 -- what all pairs of digits decode to is a beginning, whatever follows
 pairs_begin : (r : Reading) (x more y : List ℕ) → SpellsPairs (text_of r x) y → SpellsBeginning r (x ++ more) y
 pairs_begin r x more [] h = tt
@@ -229,8 +217,7 @@ pairs_begin r x more (b ∷ y) (digits, spelled) =
     let n = 2 * (length (body_of t) / 2) in
     let twice = Spells-length (take n (body_of t)) (b ∷ y) spelled in
     let size : n ≡ 2 * length (b ∷ y) = omega (arith, twice, length-take n (body_of t)) in
-    let shorter : length (body_of t) ≤ length t = grind arith in
-    let longer = body-longer t u (omega (arith, size, shorter)) in
+    let longer = body-longer t u (omega (arith, size, body-shorter t)) in
     rw (text-append r 0 x more, longer, take-append-le (2 * length (b ∷ y)) (body_of t) u (omega (arith, size)), ← size) spelled
 
 read_begun : (r : Reading) (x y : List ℕ) → Reads (text_of r x) (Ok y) → SpellsBeginning r x y
@@ -241,10 +228,9 @@ read_begun r x y (even, spelled) =
 error_begun : (r : Reading) (left : Option (List ℕ)) (x y : List ℕ) (e : FromHexError) (place : Option Place)
     → HasError r left x y e place → SpellsBeginning r x y
 error_begun r left x y OddLength place (none, end, odd, pairs) = rw append-nil at (pairs_begin r x [] y pairs)
-error_begun r left x y InvalidStringLength place h = absurd h
 error_begun r left x y (InvalidHexCharacter c i) place h =
     rw h.cut (pairs_begin r h.front (c ∷ h.rest) y h.bytes)
-error_begun r left x y NoMemory place h = absurd h
+error_begun r left x y _ place h = absurd h
 
 pub so_far_made : (m : Mode) (s : Stage) (x y : List ℕ) → HasMade m s x y → MakesBeginning m x y
 so_far_made (Encode prefix upper g) s x y has =
@@ -261,5 +247,4 @@ reached_begun m s left (suc n) x y None (more, end) = so_far_made m s x y (more 
 reached_begun (Encode prefix upper g) s left n x y (Some (Text e place)) h = absurd h
 reached_begun (Decode r) s left n x y (Some (Text e place)) (bytes, fails, is) =
     (bytes, error_begun r left x bytes e place fails, is)
-reached_begun m s left n x y (Some (Read e)) h = absurd h
-reached_begun m s left n x y (Some (Write e)) h = absurd h
+reached_begun m s left n x y (Some e) h = absurd h

@@ -19,6 +19,7 @@ use crate::std_shim::simd::prelude::*;
 const LIMITS: [u8; 16] = [1, 10, 11, 12, 13, 14, 15, 8, 9, 10, 0, 0, 0, 0, 0, 0];
 
 /// The 16 digits in lowercase and in uppercase.
+// Rattle has no `*HEX_CHARS_LOWER` in a constant yet.
 const DIGITS: &[[u8; 16]; 2] = &[*b"0123456789abcdef", *b"0123456789ABCDEF"];
 
 /// Two equal rows of the factor 4097 in each lane of 16 bits.

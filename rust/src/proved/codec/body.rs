@@ -116,6 +116,8 @@ const fn skip_digits(text: &[u8]) -> usize {
 /// Decodes the body into the output and returns true. Returns false if some byte is not a digit.
 /// The kernel decides whether the body is checked first. The body must have two bytes for each byte
 /// of the output.
+// The contract is that of `Kernel::decode_checked`. As in const-hex, the codec goes over a text twice for
+// a kernel that says so.
 // A kernel that checks first may itself be a `CheckFirst`. Then this runs its `check` once, and its
 // `decode_unchecked`: `CheckFirst` calls these two of its kernel, and never `decode_checked`.
 #[inline(always)]

@@ -2,7 +2,7 @@
 //! Whether a text can be decoded.
 
 use crate::std_shim::prelude::*;
-use crate::proved::codec::body::{find_first_bad, find_invalid_character, invalid_character, strip_even};
+use crate::proved::codec::body::{find_first_bad, find_invalid_character, strip_even};
 use crate::proved::error::FromHexError;
 use crate::proved::{FixedKernel, Kernel};
 
@@ -36,11 +36,10 @@ pub const fn const_check(input: &[u8]) -> Result<(), FromHexError> {
         Ok(body) => body,
         Err(error) => return Err(error),
     };
-    let (byte, index) = find_first_bad(body);
-    if index == body.len() {
+    if const_check_raw(body) {
         return Ok(());
     }
-    Err(invalid_character(byte, index + (input.len() - body.len())))
+    Err(find_invalid_character(input))
 }
 
 /// Whether every byte is a digit. No prefix is allowed, and the length does not matter. Does not

@@ -5,18 +5,11 @@ use crate::std_shim::prelude::*;
 use crate::proved::error::FromHexError;
 use crate::proved::{FixedKernel, Kernel, ascii_text, fill_text, text_length};
 
-/// Whether there are exactly two digits for each byte.
-#[inline(always)]
-fn two_per_byte(bytes: usize, digits: usize) -> bool {
-    // `text_length` stops at the greatest number, which is odd.
-    digits % 2 == 0 && digits == text_length(false, bytes)
-}
-
 /// Fills the output with the text, if it has exactly two bytes for each byte of the input, and
 /// returns it.
 #[inline(always)]
 fn encode_into<'a>(input: &[u8], upper: bool, output: &'a mut [u8]) -> &'a mut [u8] {
-    if two_per_byte(input.len(), output.len()) {
+    if output.len() == 2 * input.len() {
         fill_text::<FixedKernel>(input, false, upper, output);
     }
     output
@@ -25,7 +18,7 @@ fn encode_into<'a>(input: &[u8], upper: bool, output: &'a mut [u8]) -> &'a mut [
 /// The output as text, if it has exactly two bytes for each byte of the input.
 #[inline(always)]
 fn encoded_text<'a>(input: &[u8], output: &'a [u8]) -> Result<&'a str, FromHexError> {
-    if two_per_byte(input.len(), output.len()) {
+    if output.len() == 2 * input.len() {
         Ok(ascii_text(output))
     } else {
         Err(FromHexError::InvalidStringLength)

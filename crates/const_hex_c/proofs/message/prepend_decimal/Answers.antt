@@ -7,42 +7,32 @@ pub digits-init : goal.digits-init
 digits-init c = record {
   within = omega arith;
   size = omega arith;
+  long = length-decimal-le 20 c.args.number (omega arith) (omega arith) c.ranges.number.fits;
   start = refl;
   digits = rw (drop_all 59 c.args.space.now (omega arith), append-nil);
 }
-
--- at most 20 digits
-pub overflow_sub-start : goal.overflow_sub-start
-overflow_sub-start c = omega
-    (arith, length-decimal-le 20 c.args.number (omega arith) (omega arith) c.ranges.number.fits)
 
 pub digits-preserved : goal.digits-preserved
 digits-preserved c =
     let l = c.digits in
     let step = decimal_step l.left (omega arith) (omega (arith, l.auto.left-fits.fits)) in
     let long = ap length step ∙ length-append (decimal (l.left / 10)) ((48 + l.left % 10) ∷ []) in
-    let e : l.start - 1 + 1 ≡ l.start =
-    omega (arith, length-decimal-le 20 c.args.number (omega arith) (omega arith) c.ranges.number.fits) in record {
+    let e : l.start - 1 + 1 ≡ l.start = omega arith in record {
       within = omega arith;
       size = omega (arith, length-set l.space (l.start - 1) (48 + l.left % 10));
+      long = l.invariant.long;
       start = omega arith;
       digits = rw (drop-set l.space (l.start - 1) _ (omega arith), e) (rw (step, append_assoc) at l.invariant.digits);
     }
 
-pub overflow_sub-start-2 : goal.overflow_sub-start-2
-overflow_sub-start-2 c =
-    omega (arith, length-decimal-le 20 c.args.number (omega arith) (omega arith) c.ranges.number.fits)
-
 pub returns-clause-start : goal.returns-clause-start
 returns-clause-start c =
-    let short = length-decimal-le 20 c.args.number (omega arith) (omega arith) c.ranges.number.fits in
     let some = decimal_nonempty c.digits.left (omega (arith, c.digits.auto.left-fits.fits)) in
     (omega arith, omega arith)
 
 pub returns-clause-digits : goal.returns-clause-digits
 returns-clause-digits c =
     let l = c.digits in
-    let e : l.start - 1 + 1 ≡ l.start =
-    omega (arith, length-decimal-le 20 c.args.number (omega arith) (omega arith) c.ranges.number.fits) in
+    let e : l.start - 1 + 1 ≡ l.start = omega arith in
     rw (drop-set l.space (l.start - 1) _ (omega arith), e)
     (rw (decimal_digit l.left (omega arith)) at l.invariant.digits)

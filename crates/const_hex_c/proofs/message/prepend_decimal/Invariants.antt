@@ -6,6 +6,7 @@ abbrev pub invariant-digits : goal.invariant-digits
 invariant-digits l = record {
   within : l.start ≤ 59;
   size : length l.space ≡ 59;
+  long : length (decimal l.number) ≤ 20;
   start : l.start + length (decimal l.number) ≡ 59 + length (decimal l.left);
   digits : decimal l.left ++ drop l.start l.space ≡ decimal l.number;
 }

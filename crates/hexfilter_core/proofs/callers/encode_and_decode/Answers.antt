@@ -1,4 +1,5 @@
 use Rattle.std.proofs.Common.{arith, ◌≡◌, ◌⊎◌, ◌++◌, ◌∙◌, [], Bool, ℕ, List, None, Option, Some, ap, inl, inr, refl, sym, append-nil}
+use Rattle.const_hex.specs.Prelude.{AreBytes}
 use Rattle.hexfilter_core.specs.Dumps.{FromHexError, Groups, Place, encoded, mirror}
 use Rattle.hexfilter_core.specs.Runs.{Decode, Encode, Ends, Mode, RunsToEnd, RunsToError}
 use Rattle.hexfilter_core.proofs.lemmas.Arguments.{asked}
@@ -22,39 +23,28 @@ not_rejected m s had left old new (done, text, begun, inr (inl one)) never =
     let (e, place, rejected) = text one in absurd (never e place rejected)
 not_rejected m s had left old new (done, text, begun, inr (inr three)) never = inr three
 
-pub returns-clause-written : goal.returns-clause-written
-returns-clause-written g c =
-    let (prefix, up, ignores, groups, lines, write, read) = c.requires.asked in
-    let m : Mode = Encode prefix up groups in
-    not_rejected m _ (Some c.args.bytes.now) (Some c.program-written.new.input.now) (Some c.args.text.now.items)
-    (Some c.program-written.new.output.items)
-    (ends_always _ m _ _ _ _ _ (c.program-written.ensures.input m None (asked m _ write) refl))
-    (λ e place rejected. let (x, y, read, fails, wrote) = rejected in fails)
-
-pub returns-clause-done : goal.returns-clause-done
-returns-clause-done g c = λ zero again.
+pub returns : goal.returns
+returns g c =
     let (prefix, up, ignores, groups, lines, write, read) = c.requires.asked in
     let m : Mode = Encode prefix up groups in
     let n : Mode = Decode (mirror ignores groups) in
+    let bytes = c.args.bytes.now in
     let first = ends_always _ m _ _ _ _ _ (c.program-written.ensures.input m None (asked m _ write) refl) in
     let second = ends_always _ n _ _ _ _ _ (c.program.ensures.input n None (asked n _ read) refl) in
-    let encoded = first_text prefix up groups c.args.bytes.now _ _ _ c.requires.empty (first.0 zero) in
-    let (t, z, consumed, end, makes, wrote) = second.0 again in
-    let whole = sym (consumed ∙ ap (λ l. t ++ l) end ∙ append-nil t) ∙ c.as_slice-input.ensures.value ∙ encoded in
-    rw (decoded_again prefix up ignores groups lines c.args.bytes.now
-    (λ k. let fits = c.type_inv.bytes k in omega (arith, fits)) t z whole makes) at wrote
-
-pub returns-clause-never_text : goal.returns-clause-never_text
-returns-clause-never_text g c = λ zero.
-    let (prefix, up, ignores, groups, lines, write, read) = c.requires.asked in
-    let m : Mode = Encode prefix up groups in
-    let n : Mode = Decode (mirror ignores groups) in
-    let first = ends_always _ m _ _ _ _ _ (c.program-written.ensures.input m None (asked m _ write) refl) in
-    let encoded = first_text prefix up groups c.args.bytes.now _ _ _ c.requires.empty (first.0 zero) in
-    not_rejected n _ (Some c.as_slice-input.result.now) (Some c.program.new.input.now)
-    (g.W.Write.contents c.args.output.now) (g.W.Write.contents c.program.new.output)
-    (ends_always _ n _ _ _ _ _ (c.program.ensures.input n None (asked n _ read) refl))
-    (λ e place rejected. let (t, z, consumed, fails, wrote) = rejected in
-    never_rejected prefix up ignores groups lines c.args.bytes.now
-    (λ k. let fits = c.type_inv.bytes k in omega (arith, fits)) t c.program.new.input.now z e place
-    (sym encoded ∙ sym c.as_slice-input.ensures.value ∙ consumed) fails)
+    let are : AreBytes bytes = λ k. let fits = c.type_inv.bytes k in omega (arith, fits) in record {
+      written = not_rejected m _ (Some bytes) (Some c.program-written.new.input.now) (Some c.args.text.now.items)
+          (Some c.program-written.new.output.items) first
+          (λ e place rejected. let (x, y, read, fails, wrote) = rejected in fails);
+      done = λ zero again.
+          let encoded = first_text prefix up groups bytes _ _ _ c.requires.empty (first.0 zero) in
+          let (t, z, consumed, end, makes, wrote) = second.0 again in
+          let whole = sym (consumed ∙ ap (λ l. t ++ l) end ∙ append-nil t) ∙ c.as_slice-input.ensures.value ∙ encoded in
+          rw (decoded_again prefix up ignores groups lines bytes are t z whole makes) at wrote;
+      never_text = λ zero.
+          let encoded = first_text prefix up groups bytes _ _ _ c.requires.empty (first.0 zero) in
+          not_rejected n _ (Some c.as_slice-input.result.now) (Some c.program.new.input.now)
+          (g.W.Write.contents c.args.output.now) (g.W.Write.contents c.program.new.output) second
+          (λ e place rejected. let (t, z, consumed, fails, wrote) = rejected in
+          never_rejected prefix up ignores groups lines bytes are t c.program.new.input.now z e place
+          (sym encoded ∙ sym c.as_slice-input.ensures.value ∙ consumed) fails);
+    }

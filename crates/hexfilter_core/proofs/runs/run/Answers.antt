@@ -23,11 +23,22 @@ returns-in_err-write_piece-clause-begun g c =
     if_err c.from_residual-in_err-write_piece.result
     (_, _, Consumes-trans _ _ _ x _ read c.in_ok-count.ensures.bytes, fewer, Appends-trans _ _ _ y _ wrote begun)
 
-pub returns-in-Some-clause-begun : goal.returns-in-Some-clause-begun
-returns-in-Some-clause-begun g c =
+pub returns-in-Some : goal.returns-in-Some
+returns-in-Some g c =
     let (x, y, has, read, wrote) = c.chunks.invariant in
+    let bytes = Consumes-trans _ _ _ x _ read c.in_ok-count.ensures.bytes in
     let more = Appends-trans _ _ _ y _ wrote c.in_ok-write_piece.ensures.ok in
-    (_, _, Consumes-trans _ _ _ x _ read c.in_ok-count.ensures.bytes, reached_begun _ _ (Some []) _ _ _ _ (c.next-end.ensures.made x y (Some []) has (λ none. refl)), more)
+    let made = c.next-end.ensures.made x y (Some []) has (λ none. refl) in record {
+      ok = search rules;
+      text = λ e place is.
+          let fails = rw c.in-Some.is at (c.next-end.ensures.made x y (g.R.Read.remaining c.read_chunk.new.input) has
+          (λ none. c.in_ok-count.ensures.end
+          (omega (arith, none, length-take c.in_ok-count.count c.read_chunk.new.buffer, c.in_ok-count.ensures.bound))
+          (omega (arith, c.read_chunk.auto.buffer)))) in
+          (_, _, bytes, rw (same_value _ _ is) at fails, more);
+      begun = (_, _, bytes, reached_begun _ _ (Some []) _ _ _ _ made, more);
+      retried = let fails = rw c.in-Some.is at made in grind (arith, fails);
+    }
 
 pub chunks-preserved : goal.chunks-preserved
 chunks-preserved g c =
@@ -49,46 +60,19 @@ pub returns-clause-begun : goal.returns-clause-begun
 returns-clause-begun g c =
     search (rules, so_far_made)
 
-pub returns-in-Some-clause-text : goal.returns-in-Some-clause-text
-returns-in-Some-clause-text g c = λ e place is.
-    let (x, y, has, read, wrote) = c.chunks.invariant in
-    let more = Appends-trans _ _ _ y _ wrote c.in_ok-write_piece.ensures.ok in
-    let fails = rw c.in-Some.is at (c.next-end.ensures.made x y (g.R.Read.remaining c.read_chunk.new.input) has
-    (λ none. c.in_ok-count.ensures.end
-    (omega (arith, none, length-take c.in_ok-count.count c.read_chunk.new.buffer, c.in_ok-count.ensures.bound))
-    (omega (arith, c.read_chunk.auto.buffer)))) in
-    (_, _, Consumes-trans _ _ _ x _ read c.in_ok-count.ensures.bytes, rw (same_value _ _ is) at fails, more)
-
-pub returns-in-Some-clause-retried : goal.returns-in-Some-clause-retried
-returns-in-Some-clause-retried g c =
-    let (x, y, has, read, wrote) = c.chunks.invariant in
-    let fails = rw c.in-Some.is at (c.next-end.ensures.made x y (Some []) has (λ none. refl)) in grind (arith, fails)
-
-pub returns-then-count-eq0-clause-ok : goal.returns-then-count-eq0-clause-ok
-returns-then-count-eq0-clause-ok g c =
+pub returns-then-count-eq0 : goal.returns-then-count-eq0
+returns-then-count-eq0 g c =
     let (x, y, has, read, wrote) = c.chunks.invariant in
     let got = c.in_ok-count.ensures in
-    let all = Consumes-trans _ _ _ x _ read got.bytes in
+    let bytes = Consumes-trans _ _ _ x _ read got.bytes in
     let more = Appends-trans _ _ _ y _ wrote c.in_ok-write_piece.ensures.ok in
-    let makes = (rw c.in_default.is at (c.next-end.ensures.made x y (Some []) has (λ none. refl))).1
+    let kept = Appends-kept _ _ _ _ more c.flush.ensures.bytes in
+    let made = c.next-end.ensures.made x y (Some []) has (λ none. refl) in
+    let makes = (rw c.in_default.is at made).1
     (omega (arith, length-take c.in_ok-count.count c.read_chunk.new.buffer, c.if-count-eq0.true)) in
-    if_ok c.flush.result (
-      _,
-      _,
-      all,
-      got.end c.if-count-eq0.true (omega (arith, c.read_chunk.auto.buffer)),
-      makes,
-      Appends-kept _ _ _ _ more c.flush.ensures.bytes,
-    )
-
-pub returns-then-count-eq0-clause-begun : goal.returns-then-count-eq0-clause-begun
-returns-then-count-eq0-clause-begun g c =
-    let (x, y, has, read, wrote) = c.chunks.invariant in
-    let more = Appends-trans _ _ _ y _ wrote c.in_ok-write_piece.ensures.ok in
-    if_err c.flush.result (
-      _,
-      _,
-      Consumes-trans _ _ _ x _ read c.in_ok-count.ensures.bytes,
-      reached_begun _ _ (Some []) _ _ _ _ (c.next-end.ensures.made x y (Some []) has (λ none. refl)),
-      Appends-kept _ _ _ _ more c.flush.ensures.bytes,
-    )
+    let end = got.end c.if-count-eq0.true (omega (arith, c.read_chunk.auto.buffer)) in record {
+      ok = if_ok c.flush.result (_, _, bytes, end, makes, kept);
+      text = search rules;
+      begun = if_err c.flush.result (_, _, bytes, reached_begun _ _ (Some []) _ _ _ _ made, kept);
+      retried = search rules;
+    }

@@ -1,27 +1,18 @@
-use Rattle.std.proofs.Common.{arith, refl, sym, length, ◌≡◌, ◌∙◌, take, drop, rules, length-take-le, take_at, drop_at}
-use Rattle.const_hex.specs.Prelude.{listed}
+use Rattle.std.proofs.Common.{◌++◌, ℕ, List, Err, arith, refl, sym, length, ◌≡◌, ◌∙◌, take, drop, rules, length-take-le, take_at, drop_at}
+use Rattle.const_hex.specs.Prelude.{HasRead, InvalidStringLength, ReadsOn, listed}
 use Rattle.const_hex_arch.proofs.lemmas.Digits.{digits_append}
 use Rattle.const_hex_arch.proofs.lemmas.FirstInvalid.{digits_no_bad}
 use Rattle.const_hex.proofs.lemmas.Decoding.{added, bad_by_now, digits_by_now, goes_on, spelled_by_now, partial_pairs}
 use Rattle.const_hex.proofs.codec.decoder.Decoder.decode_with.Goals as goal
 
 pub returns-then-count-output : goal.returns-then-count-output
-returns-then-count-output g c = record {
-  ok = search rules;
-  answer = λ t bs r.
-      let next = c.next_digits-waiting in
-      let size = spelled_by_now _ c.args.chunk.now (listed next.result.0) next.result.1.now next.ensures.whole
-      next.ensures.waits t bs r _ c.count_pairs-count.ensures in
-      omega (arith, size);
-  within = search rules;
-  most = search rules;
-  enough = search rules;
-  rest = search rules;
-  unchanged = search rules;
-  after_error = search rules;
-  ended = search rules;
-  kept_error = search rules;
-}
+returns-then-count-output g c =
+    let next = c.next_digits-waiting in
+    let answer : (t bs : List ℕ) → HasRead c.args.self.now t bs
+    → ReadsOn (t ++ c.args.chunk.now) bs (length c.args.output.now) (Err InvalidStringLength) =
+    λ t bs r.
+    let size = spelled_by_now _ c.args.chunk.now (listed next.result.0) next.result.1.now next.ensures.whole
+    next.ensures.waits t bs r _ c.count_pairs-count.ensures in omega (arith, size) in search (rules, answer)
 
 pub returns-then-not-decode_next : goal.returns-then-not-decode_next
 returns-then-not-decode_next g c =
