@@ -48,6 +48,8 @@ pub(crate) fn length_of(flags: u32, bytes_length: usize) -> Option<usize>
 }
 
 /// The size of what is written beside the digits: the prefix and the NUL.
+// Not by `length_of`: a sum with the NUL that saturates would cost `const_hex_encoded_size` four
+// instructions more.
 #[inline(always)]
 pub(crate) fn size_beside(flags: u32) -> usize
     ensures { result ≡ size_of flags 0 }

@@ -1,5 +1,5 @@
 -- From writes in small pieces to the calls of a sink.
-use Rattle.std.proofs.Common.{◌≡◌, ℕ, suc, ◌+◌, ◌*◌, ◌/◌, ◌<◌, ◌≤◌, Bool, true, false, not, List, [], ◌∷◌, ◌++◌, length, take, refl, sym, ap, ◌∙◌, arith, inl, inr, length-append, Option, ◌-◌, if◌then◌else◌, le-div_iff_mul-le}
+use Rattle.std.proofs.Common.{◌≡◌, ℕ, zero, suc, ◌+◌, ◌*◌, ◌/◌, ◌<◌, ◌≤◌, Bool, true, false, not, List, [], ◌∷◌, ◌++◌, length, take, refl, sym, ap, ◌∙◌, arith, inl, inr, length-append, Option, ◌-◌, if◌then◌else◌, le-div_iff_mul-le}
 use Rattle.std.specs.List.{FoldsTo, concat, All}
 use Rattle.std.proofs.lemmas.Bool.{cases_Bool}
 use Rattle.std.proofs.lemmas.List.{append-nil, append_assoc, take_all, take-append-le}
@@ -180,6 +180,33 @@ module _ {S : Type 0} (step : S → List ℕ → S → Type 0) (is_refused : S �
     complete = λ _. refl;
     calls = (le-div_iff_mul-le {k = 4033} (omega arith)).1 (omega arith);
   }
+
+  -- all pieces of a text of fewer than 4033 bytes: this text
+  one_piece : (text : List ℕ) (pieces : List (List ℕ)) → 0 < length text → length text < 4033 → Cut text pieces
+      → pieces ≡ text ∷ []
+  one_piece text [] some few h = absurd (omega (arith, some, ap length h.whole))
+  one_piece text (p ∷ []) some few h = ap (λ x. x ∷ []) (sym (append-nil p) ∙ h.whole)
+  one_piece text (p ∷ q ∷ ps) some few h =
+      let front : All IsLargePiece (take (length (p ∷ q ∷ ps) - 1) (p ∷ q ∷ ps)) = h.large in
+      let count : length (p ∷ q ∷ ps) - 1 ≡ suc (length ps) = omega arith in
+      let large : 4033 ≤ length p = All-head IsLargePiece p (take (length ps) (q ∷ ps)) (rw count at front) in
+      absurd (omega (arith, few, large, ap length h.whole, length-append p (concat (q ∷ ps))))
+
+  one_step : (s : S) (text : List ℕ) (t : S) (offered : ℕ) → is_refused s ≡ false → offered ≤ 1
+      → Offers step is_refused s (take offered (text ∷ [])) t → (is_refused t ≡ false → offered ≡ 1)
+      → step s text t
+  one_step s text t zero e f run complete = absurd (omega (arith, complete (ap is_refused (sym run) ∙ e)))
+  one_step s text t (suc zero) e f (_, (m, h, k)) complete = rw k at h
+  one_step s text t (suc (suc n)) e f run complete = absurd (omega (arith, f))
+
+  -- such a text is passed in one step
+  pub short_stream : (s : S) (text : List ℕ) (t : S) → is_refused s ≡ false → 0 < length text → length text < 4033
+      → Streams step is_refused s text t
+      → step s text t
+  short_stream s text t e some few h =
+      let one = one_piece text h.pieces some few h.cut in
+      let sizes : length h.pieces ≡ 1 = ap length one in
+      one_step s text t h.offered e (omega (arith, h.within, sizes)) (rw one at h.run) (λ v. h.complete v ∙ sizes)
 
   -- a text of no bytes
   pub Streams-none : (s : S) (text : List ℕ) → text ≡ [] → Streams step is_refused s text s

@@ -184,6 +184,7 @@ impl LaneOps<32> for Lanes32 {
 
 /// Decodes the lanes of a text, and says whether each of these lanes is a digit. If one is not, the
 /// bytes are unspecified.
+// Once for each width: Rattle has no rule yet for a tuple with a vector of any number of lanes.
 #[inline(always)]
 #[tactic(auto, using(crate::proofs::lemmas::Standard::through, crate::proofs::lemmas::LaneText::concat_pair))]
 fn decode_flagged(text: [u8x32; 2]) -> (u8x32, bool)

@@ -126,9 +126,9 @@ fewer_high m n xs few high =
     All-same (λ b. nat_lt b 33 ≡ false) _ _ (sym (take-take n m xs few))
     (All-take (λ b. nat_lt b 33 ≡ false) n (take m xs) high)
 
-pub rest-size : (chunk : List ℕ) (done : ℕ)
-    → length (take (length chunk - done) (drop done chunk)) ≡ length chunk - done
-rest-size chunk done = simp (length-take, length-drop) (omega arith)
+pub part_size : (chunk : List ℕ) (done size k : ℕ) → done + size ≤ length chunk → k ≡ size
+    → length (take k (drop done chunk)) ≡ size
+part_size chunk done size k within e = omega (arith, e, within, length-take k (drop done chunk), length-drop done chunk)
 
 -- n more after the first `done` of a chunk
 pub joined : (x chunk : List ℕ) (done n : ℕ) → done ≤ length chunk

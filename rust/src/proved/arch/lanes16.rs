@@ -184,6 +184,7 @@ pub(crate) fn split_lanes(v: u8x16, factors: [u8; 16]) -> u8x32 {
 
 /// Decodes the lanes of a text, and says whether each of these lanes is a digit. If one is not, the
 /// bytes are unspecified.
+// Once for each width: Rattle has no rule yet for a tuple with a vector of any number of lanes.
 #[inline(always)]
 fn decode_flagged(text: [u8x16; 2]) -> (u8x16, bool) {
     let marks = lanes::joint_marks::<16, Lanes16>(text[0], text[1]);

@@ -36,6 +36,8 @@ pub(crate) fn length_of(flags: u32, bytes_length: usize) -> Option<usize> {
 }
 
 /// The size of what is written beside the digits: the prefix and the NUL.
+// Not by `length_of`: a sum with the NUL that saturates would cost `const_hex_encoded_size` four
+// instructions more.
 #[inline(always)]
 pub(crate) fn size_beside(flags: u32) -> usize {
     (if has_prefix(flags) { 2 } else { 0 }) + if has_nul(flags) { 1 } else { 0 }

@@ -239,6 +239,7 @@ fn decode_digits<K: Kernel>(digits: &[u8], output: &mut [u8]) -> bool {
 }
 
 /// Whether the byte after the pairs, if there is one, is a digit.
+// Not by `K::check`, which a caller in C would have to call through the dispatcher for one byte.
 #[inline(always)]
 fn check_last(last: &[u8]) -> bool {
     match last {

@@ -1,13 +1,14 @@
-use Rattle.std.proofs.Common.{◌+◌, ◌<◌, length, arith}
+use Rattle.std.proofs.Common.{◌+◌, ◌-◌, ◌<◌, length, refl, arith}
 use Rattle.const_hex.specs.Prelude.{listed}
-use Rattle.hexfilter_core.proofs.lemmas.Texts.{added_byte, added_run, rest-size}
+use Rattle.hexfilter_core.proofs.lemmas.Texts.{added_byte, added_run, part_size}
 use Rattle.hexfilter_core.proofs.scanner.Scanner.text.Goals as goal
 
 pub runs-preserved-then-count-eq-LANES : goal.runs-preserved-then-count-eq-LANES
 runs-preserved-then-count-eq-LANES c =
     let i = c.runs.invariant in
     let ran = c.run-count.ensures in
-    let size = rest-size c.args.chunk.now c.runs.done in
+    let chunk = c.args.chunk.now in
+    let size = part_size chunk c.runs.done (length chunk - c.runs.done) _ (omega (arith, i.within)) refl in
     let space = c.runs.auto.output in record {
       within = omega (arith, ran.within, size);
       fewer = omega arith;
@@ -24,7 +25,7 @@ runs-preserved c =
     let i = c.runs.invariant in
     let ran = c.run-count.ensures in
     let inside : done + n < length chunk = omega arith in
-    let size = rest-size chunk done in
+    let size = part_size chunk done (length chunk - done) _ (omega (arith, i.within)) refl in
     let space = c.runs.auto.output in record {
       within = omega arith;
       fewer = omega (arith, c.put-end.ensures.within);

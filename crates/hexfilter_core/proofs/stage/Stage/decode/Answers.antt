@@ -1,15 +1,11 @@
-use Rattle.std.proofs.Common.{◌≡◌, ◌∷◌, ◌++◌, ◌+◌, ◌-◌, ◌<◌, ◌≤◌, ℕ, List, length, take, drop, get_or, sym, arith, append_assoc, length-drop, length-take, take_all}
+use Rattle.std.proofs.Common.{◌≡◌, ◌∷◌, ◌++◌, ◌+◌, ◌-◌, ◌<◌, ℕ, List, length, take, drop, get_or, sym, arith, append_assoc, length-drop, take_all}
 use Rattle.std.proofs.lemmas.Grind.{common_steps}
 use Rattle.std.proofs.lemmas.Slice.{take-put_mid_below}
-use Rattle.hexfilter_core.proofs.lemmas.Texts.{joined_one, part_joined, take_put}
+use Rattle.hexfilter_core.proofs.lemmas.Texts.{joined_one, part_joined, part_size, take_put}
 use Rattle.hexfilter_core.proofs.stage.Stage.decode.Goals as goal
 
 cut_at : (x u : List ℕ) (k : ℕ) → k < length u → (x ++ take k u) ++ get_or u k 0 ∷ drop (k + 1) u ≡ x ++ u
 cut_at x u k h = grind (arith, common_steps)
-
-part_size : (chunk : List ℕ) (done size k : ℕ) → done + size ≤ length chunk → k ≡ size
-    → length (take k (drop done chunk)) ≡ size
-part_size chunk done size k within e = omega (arith, e, within, length-take k (drop done chunk), length-drop done chunk)
 
 pub parts-preserved-in-Ok : goal.parts-preserved-in-Ok
 parts-preserved-in-Ok c =
