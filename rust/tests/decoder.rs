@@ -1,19 +1,6 @@
-//! A text in chunks is decoded as a whole one.
+//! What a decoder shows of itself, and does after an error. The table asks it for each text in chunks.
 
 use const_hex_proved::{Decoder, FromHexError};
-
-const fn invalid(c: char, index: usize) -> FromHexError {
-    FromHexError::InvalidHexCharacter { c, index }
-}
-
-/// The bytes that chunks decode to, and their number.
-fn decoded<'a>(chunks: impl IntoIterator<Item = &'a [u8]>) -> Result<([u8; 128], usize), FromHexError> {
-    let (mut decoder, mut output, mut count) = (Decoder::new(), [0; 128], 0);
-    for chunk in chunks {
-        count += decoder.decode(chunk, &mut output[count..])?;
-    }
-    decoder.finish().map(|()| (output, count))
-}
 
 /// Each use of a constant is a decoder of its own.
 #[test]
@@ -45,26 +32,6 @@ fn positions() {
     }
 }
 
-/// Each cut of a text into two, valid, and with an invalid character at each position.
-#[test]
-fn each_cut() {
-    for prefix in ["", "0x", "0X"] {
-        let mut text = [b'7'; 90];
-        text[..prefix.len()].copy_from_slice(prefix.as_bytes());
-        for cut in 0..=text.len() {
-            let (output, count) = decoded([&text[..cut], &text[cut..]]).unwrap();
-            assert_eq!(count, (90 - prefix.len()) / 2);
-            assert!(output[..count].iter().all(|byte| *byte == 0x77));
-            for index in prefix.len()..text.len() {
-                text[index] = b'g';
-                let error = decoded([&text[..cut], &text[cut..]]).unwrap_err();
-                assert_eq!(error, invalid('g', index));
-                text[index] = b'7';
-            }
-        }
-    }
-}
-
 #[test]
 fn an_output_that_is_too_short() {
     let (mut decoder, mut output) = (Decoder::default(), [0xEE; 3]);
@@ -78,11 +45,12 @@ fn an_output_that_is_too_short() {
 #[test]
 fn a_decoder_after_an_error() {
     let (mut decoder, mut output) = (Decoder::new(), [0xEE; 3]);
+    let error = FromHexError::InvalidHexCharacter { c: 'z', index: 6 };
     assert_eq!(decoder.decode("6b697", &mut output), Ok(2));
     for chunk in ["7z", "", "77"] {
-        assert_eq!(decoder.decode(chunk, &mut output[..2]), Err(invalid('z', 6)));
+        assert_eq!(decoder.decode(chunk, &mut output[..2]), Err(error));
         assert_eq!(output[1..], [b'i', 0xEE]);
     }
-    assert_eq!(decoder.clone().finish(), Err(invalid('z', 6)));
-    assert_eq!(decoder.finish(), Err(invalid('z', 6)));
+    assert_eq!(decoder.clone().finish(), Err(error));
+    assert_eq!(decoder.finish(), Err(error));
 }

@@ -5,7 +5,6 @@ use const_hex_proved::{serde as hexadecimal, FromHexError};
 use serde::de::value::{BytesDeserializer, Error, StrDeserializer};
 use serde::de::{Error as _, IntoDeserializer, Visitor};
 use serde::{Deserialize, Deserializer, Serialize};
-use serde_json::value::Serializer;
 
 #[derive(Debug, Deserialize, PartialEq, Serialize)]
 struct Fields {
@@ -123,18 +122,6 @@ fn errors_in_options_and_vectors() {
         let found = serde_json::from_str::<Several>(&format!("{{{field}}}")).unwrap_err();
         let found = found.to_string();
         assert!(found.starts_with(error), "{field}: {found}");
-    }
-}
-
-/// A text that is longer than those of the table is passed to the serializer whole, in one call.
-#[test]
-fn long_texts() {
-    for length in [2046, 2047, 2048, 2049, 5000] {
-        let (bytes, digits) = (vec![0xAB; length], "ab".repeat(length));
-        let prefixed = hexadecimal::serialize(&bytes, Serializer).unwrap();
-        assert_eq!(prefixed, format!("0x{digits}"));
-        let upper = hexadecimal::no_prefix::serialize_upper(&bytes, Serializer).unwrap();
-        assert_eq!(upper, digits.to_uppercase());
     }
 }
 

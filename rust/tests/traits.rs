@@ -84,9 +84,6 @@ fn collections_of_characters() {
     assert_eq!(bytes.encode_hex::<Vec<char>>(), text.chars().collect::<Vec<char>>());
     assert_eq!(bytes.encode_hex::<Box<[char]>>(), text.chars().collect());
     assert_eq!(bytes.encode_hex::<std::borrow::Cow<'_, str>>(), text);
-    assert_eq!(ToHex::encode_hex::<String>(&bytes), text);
-    assert_eq!(ToHex::encode_hex_upper::<String>(&bytes), text.to_uppercase());
-    assert_eq!("".encode_hex::<String>(), "");
     // types without a size
     assert_eq!(<[u8]>::encode_hex::<String>(&bytes), text);
     assert_eq!(str::encode_hex_upper::<String>("kiwi"), "6B697769");

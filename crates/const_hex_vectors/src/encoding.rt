@@ -1,7 +1,7 @@
 //! The lines of texts that are written. The contracts show that the other encoders write the same.
 
 use crate::line::{AllocResult, Line, show};
-use const_hex::{Buffer, Kernel, decode_with, display, encode_full_to_slice_with, encode_with};
+use const_hex::{Kernel, decode_with, display, encode_full_to_slice_with, encode_with};
 use const_hex_testing::{InHex, KernelCase, by_each_kernel};
 
 /// Whether a text has a prefix, and whether it is in uppercase.
@@ -15,7 +15,6 @@ pub(crate) fn write(line: &mut Line<'_>) -> AllocResult<()> {
     let bytes = show(line.alloc, line.input)?;
     by_each_kernel!(write_and_read(line, &full_upper, &bytes));
     ask_printed(line, &full, &full_upper);
-    ask_buffer(line, &full);
     Ok(())
 }
 
@@ -69,14 +68,4 @@ fn ask_printed(line: &mut Line<'_>, full: &str, full_upper: &str) {
     line.gives("{:*>#999}", format!(in alloc; "{bytes:*>#999}"), full);
     let upper = InHex(line.input);
     line.gives("{:#X}", format!(in alloc; "{upper:#}"), full_upper);
-}
-
-/// Asks a buffer, if there is one for that number of bytes.
-fn ask_buffer(line: &mut Line<'_>, full: &str) {
-    if let Some((bytes, [])) = line.input.split_first_chunk::<32>() {
-        let mut buffer = Buffer::<32, true, 66>::new();
-        line.is("format", buffer.format(bytes), full);
-        line.is("as_str", buffer.as_str(), full);
-        line.holds("LEN", Buffer::<32, true, 66>::LEN == full.len());
-    }
 }

@@ -58,28 +58,20 @@ fn bytes_of(cell: &str) -> Vec<u8> {
     bytes
 }
 
-/// Bytes as the table shows them.
-pub fn shown(bytes: &[u8]) -> String {
+/// An answer of bytes as the table shows it, in which `!` in front would be an error.
+pub fn shown_answer(bytes: &[u8]) -> String {
     match bytes {
         b"" => return "\"\"".to_string(),
         b"\"\"" => return "\\x22\\x22".to_string(),
         _ => {}
     }
-    let one = |byte: &u8| match byte {
+    let one = |(at, byte)| match byte {
         b'\\' => "\\x5c".to_string(),
-        b' '..=b'~' => char::from(*byte).to_string(),
+        b'!' if at == 0 => "\\x21".to_string(),
+        b' '..=b'~' => char::from(byte).to_string(),
         _ => format!("\\x{byte:02x}"),
     };
-    bytes.iter().map(one).collect()
-}
-
-/// An answer of bytes as the table shows it, in which `!` in front would be an error.
-pub fn shown_answer(bytes: &[u8]) -> String {
-    let shown = shown(bytes);
-    match shown.strip_prefix('!') {
-        Some(rest) => format!("\\x21{rest}"),
-        None => shown,
-    }
+    bytes.iter().copied().enumerate().map(one).collect()
 }
 
 /// An answer in which `$size` is a constant, if the number is one of the lengths of the table.

@@ -1,6 +1,6 @@
 //! One call of each function of `const_hex_uses`, whose contract says the rest.
 
-use const_hex::{Decoder, FromHex, FromHexError, JsonError, PieceSink, SliceOutput};
+use const_hex::{Decoder, FromHexError, JsonError, PieceSink, SliceOutput};
 use const_hex_testing::texts::invalid;
 use const_hex_testing::{Testing, Text, same, same_bytes};
 use const_hex_uses::constants::{transfer, wrapped_ether};
@@ -15,8 +15,6 @@ use const_hex_uses::store::canonical;
 use const_hex_uses::streams::{check_chunks, decode_chunks, decode_where_it_fits};
 use const_hex_uses::writers::{fill_field, put_label};
 use serde_json::json;
-use std::boxed::BoxedSlice;
-use std::fmt::Debug;
 use std::rc::Rc;
 
 #[test]
@@ -36,29 +34,10 @@ const LOWER: &[u8] = b"ff80";
 
 const UPPER: &[u8] = b"0XFF80";
 
-/// The two texts are read as the same value of a type.
-fn agree<T>(rt: &impl Testing, name: &str)
-where
-    T: FromHex + Debug + PartialEq + Drop,
-    T::Error: Debug + Drop,
-{
-    let (one, two) = read_both::<T>(rt.alloc(), LOWER, UPPER).expect(rt, name);
-    same!(rt, "read_both", name; one, two);
-}
-
-#[test]
-fn two_texts(rt: HostRuntime) {
-    agree::<Vec<u8>>(&rt, "Vec<u8>");
-    agree::<Vec<i8>>(&rt, "Vec<i8>");
-    agree::<BoxedSlice<u8>>(&rt, "BoxedSlice<u8>");
-    agree::<BoxedSlice<i8>>(&rt, "BoxedSlice<i8>");
-    agree::<[u8; 2]>(&rt, "[u8; 2]");
-    agree::<[i8; 2]>(&rt, "[i8; 2]");
-    agree::<Box<[u8; 2]>>(&rt, "Box<[u8; 2]>");
-}
-
 #[test]
 fn shared_lists_and_accounts(rt: HostRuntime) {
+    let (one, two) = read_both::<Vec<i8>>(rt.alloc(), LOWER, UPPER).expect(&rt, "two vectors");
+    same!(&rt; one, two);
     let (one, two) = read_both::<Rc<Vec<u8>>>(rt.alloc(), LOWER, b"ff81").expect(&rt, "two lists");
     assert!(rt; *one != *two);
     let shared = read_shared(rt.alloc(), UPPER).expect(&rt, "a list");

@@ -168,7 +168,10 @@ fn formats<const N: usize, const DIGITS: usize, const FULL: usize>(
         return;
     };
     let lower = print(rt.alloc(), bytes, false, false).expect(rt, "memory");
+    let prefixed = print(rt.alloc(), bytes, true, false).expect(rt, "memory");
     let upper = print(rt.alloc(), bytes, true, true).expect(rt, "memory");
+    same!(rt, "LEN", N; Buffer::<N, true, FULL>::LEN, prefixed.len());
+    same!(rt, "format", N; full.format(bytes), prefixed.as_str());
     same!(rt, "format", N; digits.format(bytes), lower.as_str());
     same!(rt, "as_str", N; digits.as_str(), lower.as_str());
     same_bytes!(rt, "as_byte_array", N; digits.as_byte_array(), lower);
