@@ -1,4 +1,4 @@
-/* The directives of the files in this folder, for ELF and Mach-O: those of the Rust crate, and three that it does not need.
+/* The directives of the files in this folder, for ELF and Mach-O: those of the Rust crate, and one that it does not need.
  * The code itself is the same in both. */
 #ifdef __APPLE__
 
@@ -14,10 +14,6 @@
 	.globl \name
 	.private_extern \name
 	.endm
-	/* A byte of zero. */
-	.macro variable name
-	.zerofill __DATA,__bss,\name,1,0
-	.endm
 	.subsections_via_symbols
 
 #else
@@ -27,11 +23,6 @@
 
 	.macro exported name
 	.globl \name
-	.endm
-	.macro variable name
-	.section .bss.\name, "aw", %nobits
-\name:
-	.zero 1
 	.endm
 	/* No code here needs a stack that can be executed. */
 	.section .note.GNU-stack, "", %progbits

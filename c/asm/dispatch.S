@@ -4,36 +4,18 @@
  * A function of const_hex.h whose error may be NULL passes its arguments to the one whose name ends in _nonnull, and a
  * local error in place of NULL.
  *
- * On x86-64 there are two kernels, for x86-64-v2 and x86-64-v3. The first call asks the CPU which of them it can run,
- * by the code of the Rust crate, and stores the answer in the byte `choice`. There is no lock: threads that ask at the same time get the same answer,
- * and store the same byte. No address of code is stored where a program can write.
+ * On x86-64 there are two kernels, for x86-64-v2 and x86-64-v3. The code of the Rust crate chooses one.
  */
 #include "assembly.h"
 
 #if defined(__x86_64__) && !defined(__ILP32__)
-	.intel_syntax noprefix
-
-	/* 0 until the CPU was asked, and then 3 if it has x86-64-v3, or 2. The functions need x86-64-v2 in any case. */
-	variable choice
-
+#define const_hex_1_0_0_choice choice
 #define const_hex_1_0_0_build SYMBOL(const_hex_kernel_build)
-#include "../../rust/src/asm/build.s"
-
-	/* A function of the kernel, which jumps to that for this CPU. */
-	.macro kernel name
-	hidden \name
-	function \name
-	cmp	BYTE PTR [rip + choice], 3
-	je	\name\()_v3
-	cmp	BYTE PTR [rip + choice], 2
-	je	\name\()_v2
-	call	const_hex_1_0_0_build
-	mov	BYTE PTR [rip + choice], al
-	cmp	al, 3
-	je	\name\()_v3
-	jmp	\name\()_v2
-	end \name
-	.endm
+#define const_hex_1_0_0_check SYMBOL(const_hex_kernel_check)
+#define const_hex_1_0_0_fill SYMBOL(const_hex_kernel_fill)
+#define const_hex_1_0_0_read SYMBOL(const_hex_kernel_read)
+#define rust c
+#include "../../rust/src/asm/dispatch.s"
 
 	.macro or_null name, error
 	exported \name
@@ -48,9 +30,6 @@
 	end \name
 	.endm
 
-	kernel SYMBOL(const_hex_kernel_check)
-	kernel SYMBOL(const_hex_kernel_fill)
-	kernel SYMBOL(const_hex_kernel_read)
 	or_null SYMBOL(const_hex_decode), r9
 	or_null SYMBOL(const_hex_decode_exact), r8
 	or_null SYMBOL(const_hex_decoder_finish), rsi

@@ -1,5 +1,5 @@
-"""The object of c/asm/dispatch.S: the functions of const_hex.h whose error may be NULL, which call those for which it
-may not; and on x86-64 those of the kernel, which jump to the one for the CPU.
+"""What chooses: the functions of the kernel on x86-64 (rust/src/asm/dispatch.s), which jump to the one for the CPU; and
+those of const_hex.h whose error may be NULL (c/asm/dispatch.S), which call those for which it may not.
 
 It does not look at its arguments, so what is proved holds for any: they arrive unchanged, except that a NULL error
 becomes a pointer to a local one, and the result is that of what is called. If a claim were weaker, a program could run
@@ -16,15 +16,11 @@ from execution.state import fresh, simple, split, word
 from meanings.x86_64 import reported
 from solver.questions import require
 
-# The number of each build. Portable code is 1.
-BUILDS = {"_v2": 2, "_v3": 3}
 # What x86-64-v2 needs, by the x86-64 psABI, and x86-64-v3 beyond that: the leaf of `cpuid`, the register, and the bits.
 FEATURES_OF_V2 = [(1, "rcx", 1 | 1 << 9 | 1 << 13 | 1 << 19 | 1 << 20 | 1 << 23)]  # SSE3 to SSE4.2, CX16, POPCNT
-FEATURES = [
-    (1, "rcx", 1 << 12 | 1 << 22 | 1 << 27 | 1 << 28 | 1 << 29),  # FMA, MOVBE, OSXSAVE, AVX, F16C
-    (7, "rbx", 1 << 3 | 1 << 5 | 1 << 8),  # BMI1, AVX2, BMI2
-    (0x80000001, "rcx", 1 << 5),  # LZCNT
-]
+FEATURES = [(1, "rcx", 1 << 12 | 1 << 22 | 1 << 27 | 1 << 28 | 1 << 29),  # FMA, MOVBE, OSXSAVE, AVX, F16C
+            (7, "rbx", 1 << 3 | 1 << 5 | 1 << 8),  # BMI1, AVX2, BMI2
+            (0x80000001, "rcx", 1 << 5)]  # LZCNT
 LEAVES = {0: 7, 0x80000000: 0x80000001}  # what `cpuid` of these leaves has to return at least, so that others exist
 SAVED_REGISTERS = 6  # of `xgetbv`: the system saves the registers of SSE and AVX
 
@@ -34,22 +30,12 @@ def reports(features):
     return z3.And(*[reported("cpuid", leaf, register) & bits == bits for leaf, register, bits in features])
 
 
-def has_v3():
-    """Whether the CPU has all that x86-64-v3 needs beyond x86-64-v2, and the system saves its registers."""
+def for_this_cpu():
+    """The kernel for this CPU: 3 if it has x86-64-v3 and the system saves its registers, 2 for x86-64-v2, or 1."""
     leaves = [z3.UGE(reported("cpuid", leaf, "rax"), least) for leaf, least in LEAVES.items()]
     is_saved = reported("xgetbv", 0, "rax") & SAVED_REGISTERS == SAVED_REGISTERS
-    return z3.And(reports(FEATURES), *leaves, is_saved)
-
-
-class Build(Function):
-    """build(): which build the CPU can run."""
-
-    function, level, is_in_module, is_unrolled = "kernel_build", "dispatch", False, True
-    symbol, is_called, arguments = r"const_hex_(\d+_\d+_\d+|kernel)_build", True, ()
-
-    def returns(self, state):
-        number = z3.If(reports(FEATURES_OF_V2), z3.If(has_v3(), z3.BitVecVal(BUILDS["_v3"], 32), BUILDS["_v2"]), 1)
-        state.must(state.result(32) == number, "the build is not the one for this CPU")
+    has_v3 = z3.And(reports(FEATURES), *leaves, is_saved)
+    return z3.If(reports(FEATURES_OF_V2), z3.If(has_v3, word(3), 2), 1)
 
 
 class Dispatched(Function):
@@ -62,7 +48,7 @@ class Dispatched(Function):
         self.function, self.symbol, self.parameters = function, f"const_hex_{function}", parameters.split()
         self.arguments = [of_32_bits(z3.BitVec("g_upper", 32)) if name == "upper" else z3.BitVec(f"g_{name}", 64)
                           for name in self.parameters]
-        self.imported = {f"const_hex_{function}{end}": functools.partial(self.calls, end) for end in self.ends}
+        self.imported = {end: functools.partial(self.calls, end) for end in self.ends}
 
     def cases(self, state):
         state.result_of_call = None
@@ -90,21 +76,31 @@ class Dispatched(Function):
 
 
 class Kernel(Dispatched):
-    """A function of the kernel, for this CPU, which has x86-64-v2. It is the one that the stored byte names; another
+    """A function of C's kernel, for this CPU, which has x86-64-v2. It is the one that the stored byte names; another
     thread may store it at any time. If it names none, the CPU is asked, and the byte is stored."""
 
-    is_called, ends, requires = True, tuple(BUILDS), (reports(FEATURES_OF_V2),)
+    is_called, ends, requires, builds = True, ("_v2", "_v3"), (reports(FEATURES_OF_V2),), {"_v2": 2, "_v3": 3}
 
     def must_choose(self, state, end):
-        number = BUILDS[end]
+        number = self.builds[end]
         if not state.kept:
-            is_named = z3.Or(*[read == number for read in state.seen])
-            return state.must(is_named, "the kernel is not the one that is stored")
-        for named in BUILDS.values():
+            return state.must(z3.Or(*[read == number for read in state.seen]), "not the one that is stored")
+        for named in self.builds.values():
             state.must(z3.Or(*[read != named for read in state.seen]), "the CPU is asked although a kernel is stored")
         for stored in state.kept:
             state.must(stored == number, "another kernel is stored")
-        state.must(has_v3() == (end == "_v3"), "the kernel is not the one for this CPU")
+        state.must(for_this_cpu() == number, "the kernel is not the one for this CPU")
+
+
+class OfRust(Kernel):
+    """A function of Rust's kernel. Its last argument is where one of portable code is, for a CPU without x86-64-v2."""
+
+    requires, builds = (), Kernel.builds | {"portable": 1}
+
+    def __init__(self, function, parameters):
+        super().__init__(function.removeprefix("kernel_"), f"{parameters} portable")
+        self.symbol, self.arguments[-1] = rf"const_hex_\d+_\d+_\d+_{self.function}", z3.BitVec("p_portable", 64)
+        self.passed = {"p_portable": functools.partial(self.calls, "portable")}
 
 
 class OrNull(Dispatched):
@@ -135,4 +131,4 @@ class OrNull(Dispatched):
 
 OR_NULL = [OrNull(name, FUNCTIONS[name].parameters, is_null) for name in sorted(WITH_ERROR)
            for is_null in (False, True)]
-CHOICES = [*(Kernel(name, parameters) for name, parameters in KERNELS.items()), Build()]
+CHOICES = [choice(name, parameters) for choice in (Kernel, OfRust) for name, parameters in KERNELS.items()]

@@ -91,18 +91,18 @@ def must_be_a_front(state):
 class Function:
     """A function with its arguments. `symbol` is how its name looks; what others call by its contract has less stack.
     `regions` are what it may access, some of which depend on how many bytes a size_t has. `empty` are its buffers, with
-    their sizes, for which NULL may be passed if they are empty."""
+    their sizes, for which NULL may be passed if they are empty; `passed` is what functions do that are arguments."""
 
     is_called = is_local = may_leak = is_unrolled = False
     is_in_module = True
     # Whether it may use what is kept between calls, which is no secret then; and whether every input is valid.
     is_keeping = is_any_valid = False
     is_digit = staticmethod(is_digit)
-    regions = empty = requires = ()
+    regions = empty = requires = passed = ()
     name = "every call"
     called_as = property(lambda self: self.symbol)  # the name that others call it with
     # In how many steps facts may be from what is to be proved, if that has a limit; for which CPU the code is, if its
-    # name does not say it; and what functions of other objects do, if not what callees.py says.
+    # name does not say it; and what functions do, if not what callees.py says, by what follows its name in theirs.
     near = level = imported = None
     parts = 1  # in which its starts are proved, beside each other
 

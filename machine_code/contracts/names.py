@@ -19,9 +19,6 @@ FUNCTIONS = {
     "version": Function("", False, True, False),
 }
 # The kernels' functions, which are called with these.
-KERNELS = {
-    "kernel_check": "text text_length",
-    "kernel_fill": "bytes bytes_length upper text",
-    "kernel_read": "text bytes bytes_size",
-}
+KERNELS = {"kernel_check": "text text_length", "kernel_fill": "bytes bytes_length upper text",
+           "kernel_read": "text bytes bytes_size"}
 WITH_ERROR = {name for name, function in FUNCTIONS.items() if function.error_may_be_null}

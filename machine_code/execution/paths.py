@@ -105,8 +105,10 @@ def branches(state, to):
 
 
 def returned(state, to):
-    """A return goes back to a call, or out of the function."""
+    """A return goes back to a call, or out of the function. A jump may lead where an argument says."""
     name = to.decl().name()
+    if name in state.contract.passed:
+        return called(state, state.contract.passed[name])
     if name in state.calls:
         state.address = state.calls.pop(name)
         return [state]

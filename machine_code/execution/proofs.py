@@ -44,17 +44,17 @@ def contracts_of(obj):
             if is_of(symbol, contract)]
 
 
-def effects_of(contract):
+def effects_of(symbol, contract):
     """What functions do that are called by their contracts. Each of these calls fewer so, or two might be proved by
     each other's: functions of the header, local ones, those that choose a kernel, and kernels."""
     if contract.imported is not None:
-        return contract.imported
+        return {symbol + end: effect for end, effect in contract.imported.items()}
     return callees.effects(other for other in CONTRACTS if other in KERNELS or other.is_local and not contract.is_local)
 
 
 def prove(content, symbol, contract, which=slice(None)):
     """Proves a function of a file, from all starts or from some. Gives how many paths have ended."""
-    code = Code(content, PROCESSORS, symbol, effects_of(contract), contract.level)
+    code = Code(content, PROCESSORS, symbol, effects_of(symbol, contract), contract.level)
     starts = contract.starts(code)
     return run(code, starts[which], () if contract.is_unrolled else heads(code, starts[0].address), guess)
 

@@ -237,8 +237,10 @@ class State:
         return list(map(simple, lane))
 
     def jumps(self, address):
-        """The conditions under which a jump leads to places of the file, and these places."""
+        """The conditions under which a jump leads to places of the file, and these places; or an argument."""
         require(self.may_leak or is_public(address), "a jump depends on bytes that are secret")
+        if address.decl().name() in self.contract.passed:
+            return address
         base = self.code.constants.base
         require(base.decl().name() in names(address), "a jump to a place that is not fixed")
         offset = simple(address - base)

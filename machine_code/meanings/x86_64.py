@@ -20,7 +20,7 @@ from solver.questions import require
 
 # What a CPU has, by the levels of the x86-64 psABI, as GNU as names it.
 V2 = "generic64+cx16+popcnt+sse3+ssse3+sse4.1+sse4.2"
-# `xgetbv`, which is one of XSAVE, is known in rust/src/asm/build.s, which asks for OSXSAVE before, on every CPU.
+# `xgetbv`, which is one of XSAVE, is known in rust/src/asm/dispatch.s, which asks for OSXSAVE before, on every CPU.
 LEVELS = {"v3": f"{V2}+xsave+avx+avx2+bmi+bmi2+f16c+fma+lzcnt+movbe", "dispatch": "generic64+xsave"}
 # What assemblers put between instructions, and assemble otherwise from its text.
 NOPS = "0f1f4000 0f1f440000 660f1f440000 0f1f8000000000 0f1f840000000000 660f1f840000000000".split()

@@ -12,11 +12,11 @@ from reading.image import AARCH64, CODE, CONSTANTS, FIXED, WRITTEN, X86_64, Imag
 # By whether it is a program or a library, and a processor.
 FORMS = {(kind, form[0]): form for kind in (2, 3) for form in ((X86_64, 1 << 12), (AARCH64, 1 << 16))}
 # Headers of segments. There may be several of what is loaded, of notes, and of nothing, and one of each other kind: the
-# loader's table, what is closed after relocations, a note of properties, the loader's name, where the headers lie; and
-# of TLS, EH_FRAME and STACK, which are harmless.
+# loader's table, what is closed after relocations, a note of properties, the loader's name, where the headers lie, the
+# variables of threads; and of EH_FRAME and STACK, which are harmless.
 Header = namedtuple("Header", "kind flags offset address physical in_file in_memory alignment")
-LOAD, DYNAMIC, CLOSED, NOTES, PROPERTIES, LOADER, HEADERS = 1, 2, 0x6474E552, 4, 0x6474E553, 3, 6
-SEVERAL, ONCE = (LOAD, NOTES, 0), (DYNAMIC, CLOSED, PROPERTIES, LOADER, HEADERS, 7, 0x6474E550, 0x6474E551)
+LOAD, DYNAMIC, CLOSED, NOTES, PROPERTIES, LOADER, HEADERS, THREADS = 1, 2, 0x6474E552, 4, 0x6474E553, 3, 6, 7
+SEVERAL, ONCE = (LOAD, NOTES, 0), (DYNAMIC, CLOSED, PROPERTIES, LOADER, HEADERS, THREADS, 0x6474E550, 0x6474E551)
 GUARDS = {X86_64: 0xC0000002, AARCH64: 0xC0000000}  # the property whose bits say what calls and returns need
 KINDS = {4: CONSTANTS, 5: CODE, 6: WRITTEN}  # of segments, by their flags
 # Tags of the loader's table. Each may stand there once, but for NEEDED; with what else is harmless: STRSZ, SYMENT,
@@ -49,6 +49,9 @@ def read(data):
     for header in headers:
         if header.kind not in SEVERAL and (header.kind not in ONCE or one[header.kind] is not header):
             raise ValueError(f"a header of the kind {header.kind:#x}, twice or not known here")
+        if header.kind == THREADS and (header.in_file > header.in_memory or header.in_memory >> 32
+                                       or header.alignment not in (1 << bit for bit in range(13))):
+            raise ValueError("variables of threads that are larger in the file, or than 4 GB, or aligned as nothing is")
     for _, flags, offset, address, _, in_file, in_memory, _ in loaded:
         if flags not in KINDS or (address - offset) % image.page:
             raise ValueError(f"a segment with the flags {flags}, or at another place of a page than in the file; "

@@ -4,7 +4,7 @@ table of names."""
 
 import struct
 
-from reading.image import AARCH64, CODE, CONSTANTS, X86_64, Image, up
+from reading.image import AARCH64, CODE, CONSTANTS, WRITTEN, X86_64, Image, up
 
 PAGE, IN_FILE = 1 << 12, 512
 FORMS = {0x8664: (X86_64, PAGE), 0xAA64: (AARCH64, PAGE)}  # by a processor
@@ -12,10 +12,10 @@ FORMS = {0x8664: (X86_64, PAGE), 0xAA64: (AARCH64, PAGE)}  # by a processor
 # entries of DEBUG: CODEVIEW, VC_FEATURE, POGO, ILTCG, REPRO. With others, the loader writes elsewhere, or does more.
 EXPORTS, IMPORTS, RELOCATIONS, DEBUG, THREADS, ADDRESSES = READ = 0, 1, 5, 6, 9, 12
 TABLES, HARMLESS, HARMLESS_ENTRIES = 16, (2, 3, 4), {2, 12, 13, 14, 16}
-# What a section is, by its flags without those that mean nothing here: what it has, and how it was aligned. Of others
-# nothing is known. No byte is kept in any, since the functions for C are for ELF and Mach-O alone.
-KINDS, NO_MEANING, HEADERS = {0x60000000: CODE, 0x40000000: CONSTANTS}, 0x00F00060, "headers"
-ALL = CODE, CONSTANTS, None
+# What a section is, by its flags without those of what it has and of how it was aligned. Of others nothing is known.
+KINDS = {0x60000000: CODE, 0x40000000: CONSTANTS, 0xC0000000: WRITTEN, 0xC0000080: WRITTEN}
+NO_MEANING, SHARED, HEADERS = 0x00F00060, 1 << 28, "headers"
+ALL = CODE, CONSTANTS, WRITTEN, None
 PADDING, ADDRESS = 0, 10  # kinds of relocations
 EXTERNAL, STATIC = 2, 3  # kinds of symbols
 
@@ -33,8 +33,8 @@ def read(data):
         # What ends in a part of the file is read with all of that part. As many pages are protected as it has there.
         if address % PAGE or alignment != PAGE or offset % IN_FILE or size % IN_FILE or in_file % IN_FILE:
             raise ValueError("a section that begins in a page, or begins or ends in a part of the file")
-        if up(size, PAGE) > up(in_memory, PAGE):
-            raise ValueError("a section with more pages in the file than in memory")
+        if up(size, PAGE) > up(in_memory, PAGE) or flags & SHARED:
+            raise ValueError("a section with more pages in the file than in memory, or that processes share")
         # An offset of 0 means that nothing is read from the file.
         image.add_segment(data, address, in_memory, offset, offset and min(size, in_memory),
                           KINDS.get(flags & ~NO_MEANING))

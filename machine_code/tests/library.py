@@ -12,6 +12,9 @@ import unittest
 
 TOP = pathlib.Path(__file__).resolve().parents[2]
 ASM, RUST = TOP / "c" / "asm", TOP / "rust" / "src" / "asm"
+# That for C, with what it includes, and a short name for the byte that is kept.
+DISPATCHER = (ASM / "dispatch.S").read_text().replace('#include "../../rust/src/asm/dispatch.s"', (
+    RUST / "dispatch.s").read_text()).replace("const_hex_1_0_0_choice", "choice")
 MODULE = os.environ.get("CONST_HEX_MODULE", TOP / "js" / "src" / "const_hex.wasm")
 X86_64, AARCH64 = "cc", "aarch64-linux-gnu-gcc"
 MEMBERS = {X86_64: ("dispatch", "kernel_x86_64_v2", "kernel_x86_64_v3", "functions_x86_64"),
@@ -51,7 +54,7 @@ def assembled_module(text):
 @functools.lru_cache(None)
 def member(name, compiler, old="", new=""):
     """The object of a file in c/asm, in which a line has another text."""
-    text = re.sub("  +", " ", (ASM / f"{name}.S").read_text())
+    text = re.sub("  +", " ", DISPATCHER if name == "dispatch" else (ASM / f"{name}.S").read_text())
     assert old in text, old
     return assembled(re.sub(re.escape(old) + "$", lambda _: new.replace("; ", "\n"), text, flags=re.M), compiler)
 

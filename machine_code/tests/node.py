@@ -163,7 +163,7 @@ class Node:
 
     def _by_the_meanings(self, name, before):
         state = type("State", (Concrete, self.meanings.State), {})()
-        contract = types.SimpleNamespace(returns=lambda state: None, is_alone=lambda state, offset: offset == 201)
+        contract = types.SimpleNamespace(returns=lambda _: None, is_alone=lambda _, offset: offset == 201, passed=())
         state.code, state.contract, state.calls, state.steps = self.code, contract, {}, 0
         state.before, state.input = before, {offset: (offset, name) for offset, name in UNKNOWN.items()}
         state.memory, state.vectors, state.facts, state.may_leak = [*before], {}, [], False

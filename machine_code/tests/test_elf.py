@@ -109,6 +109,11 @@ def chain(index, name=None):
     return changed
 
 
+def of_threads(**changes):
+    """The header of the stack becomes that of variables of threads."""
+    return lambda file: (segment(6, 0x6474E551, **changes)(file), put("<I", STACK, 7)(file))
+
+
 def other_call(file):
     """A call of a function goes to another one."""
     start, old, new = [file.value(f"const_hex_{name}") for name in ("check_raw", "kernel_check", "kernel_read")]
@@ -140,6 +145,8 @@ CHANGED = [
     ("a segment of 4 GB", segment(6, in_memory=1 << 32), "", "ends after 4 GB"),
     ("a segment with random bytes", put("<I", STACK, 0x65A3DBE6), "", "a header of the kind 0x65a3dbe6"),
     ("a second table for the loader", put("<I", STACK, 2), "", "a header of the kind 0x2, twice"),
+    *[(f"variables of threads with {name} {number:#x}", of_threads(**{name: number}), "", "variables of threads")
+      for name, number in (("alignment", 0), ("alignment", 1 << 46), ("in_file", 1), ("in_memory", 1 << 32))],
     ("other notes in the file", segment(4, 4, in_file=0), "", NOTE),
     ("headers that are not in memory", segment(4, in_file=64), "", START),
     ("headers in memory from elsewhere in the file", first_from_elsewhere, "", START),

@@ -10,11 +10,11 @@ import tempfile
 import unittest
 
 from reading import image, library, mach_o
-from tests.library import ASM, MODULE, RUST, File, add_tests, assembled_module, needs_module, put
+from tests.library import ASM, MEMBERS, MODULE, RUST, File, add_tests, assembled_module, needs_module, put
 
 MINGW, LLD = "x86_64-w64-mingw32-gcc", next(map(str, pathlib.Path("/usr/lib").glob("llvm-*/bin/ld64.lld")), "ld64.lld")
 NAMES = sorted(image.HEADER)
-FILL, CONSTANT_OF_FILL = "const_hex_1_0_0_fill_v2", "const_hex_1_0_0_constant_4_v2"
+FILL, CONSTANT_OF_FILL, CHOICE = (f"const_hex_1_0_0_{name}" for name in ("fill_v2", "constant_4_v2", "choice"))
 NO_CONSTANT, NO_CODE, NO_CHOICE = "no constant", "no code", "no byte that is kept"
 NOWHERE, NO_FORM, BRANCHES = "is written, or nowhere", "no library and no program", "in which two branches fit"
 OTHER_KIND, MUST_NOT = "is a symbol of another kind, or has two places", "what must not be written"
@@ -65,7 +65,7 @@ def linked_for_windows(kernel=""):
     stubs = "".join(f'.globl {name}\n{name}: ret\n.section .drectve, "yn"\n.ascii " -export:{name}"\n.text\n'
                     for name in NAMES)
     stubs += f'.section .drectve, "yn"\n.ascii " -export:{kernel}={NAMES[0]}"\n' if kernel else ""
-    text = "".join((RUST / f"{part}.s").read_text() for part in ("coff", "x86_64_v2", "x86_64_v3", "end"))
+    text = "".join((RUST / f"{part}.s").read_text() for part in ("coff", "x86_64_v2", "x86_64_v3", "dispatch", "end"))
     with tempfile.TemporaryDirectory() as folder:
         pathlib.Path(folder, "source.s").write_text(f".intel_syntax noprefix\n{text}.text\n{stubs}")
         subprocess.run([MINGW, "-shared", "source.s", "-o", "library.dll"], check=True, capture_output=True, cwd=folder)
@@ -105,9 +105,13 @@ def place_of(file, name):
 
 def base_relocation(name, more=0, kind=10):
     """The first relocation writes to a place."""
-    place = lambda file: place_of(file, name) + more
-    return lambda file: (put("<H", content(5, 8), lambda file: kind << 12 | place(file) & 4095)(file),
-                         put("<I", content(5), lambda file: place(file) & ~4095)(file))
+
+    def changed(file):
+        place = place_of(file, name) + more
+        file.put("<H", content(5, 8)(file), kind << 12 | place & 4095)
+        file.put("<I", content(5)(file), place & ~4095)
+
+    return changed
 
 
 def imported(name, zeros=0, names=None):
@@ -127,7 +131,8 @@ EXPORTED = lambda file: file.offset(number_at(content(0, 28))(file))
 THREADS = lambda file: file.numbers("<I", file.table(9))[0] + 16
 PES = [
     ("nothing", lambda file: None, "accepted"),
-    ("a byte that is kept, which others may write", lambda file: None, NO_CHOICE, ".bss"),
+    ("a byte that is kept", lambda file: None, "accepted", CHOICE),
+    ("a section that processes share", section(".bss", 36, lambda flags: flags | 1 << 28), "that processes share"),
     ("constants that can be written", section(".rdata", 36, lambda flags: flags | 1 << 31), NO_CONSTANT),
     ("constants that are not in the file", section(".rdata", 36, lambda flags: flags | 0x80), NO_CONSTANT),
     ("code that can be written", section(".text", 36, lambda flags: flags | 1 << 31), NO_CODE),
@@ -222,8 +227,7 @@ class MachO(File):
 
 def linked_for_macos(processor):
     """A dylib of what c/asm has for a processor, with some data."""
-    files = {"x86_64": ("dispatch", "functions_x86_64", "kernel_x86_64_v2", "kernel_x86_64_v3"),
-             "arm64": ("dispatch", "functions_aarch64", "kernel_aarch64")}[processor]
+    files = MEMBERS["cc" if processor == "x86_64" else "aarch64-linux-gnu-gcc"]
     with tempfile.TemporaryDirectory() as folder:
         more = ".globl _shown\n.data\n_shown: .quad _const_hex_decode\n.zerofill __DATA, __bss, _more, 64, 3\n"
         pathlib.Path(folder, "more.s").write_text(more)

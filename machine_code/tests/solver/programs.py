@@ -73,11 +73,12 @@ AFTER = """
 """
 PROGRAMS = {"check": CHECK, "fill": FILL, "read": READ}
 # What is committed: the files of each build, and the contracts of its functions.
-COMMITTED = {level: ([RUST / f"{part}.s" for part in ("elf", name, "end")], KERNELS) for level, name in (
-    ("v2", "x86_64_v2"), ("v3", "x86_64_v3"), ("aarch64", "aarch64"))} | {
-    build: ([ASM / f"{build.split()[0]}.S"], contracts) for build, contracts in (
-        ("functions_x86_64", (*FUNCTIONS, *MESSAGES)), ("functions_aarch64", (*FUNCTIONS, *MESSAGES)),
-        ("dispatch", (*OR_NULL, *CHOICES)), ("dispatch for AArch64", OR_NULL))}
+COMMITTED = {
+    **{level: ([RUST / f"{part}.s" for part in ("elf", name, "end")], KERNELS) for level, name in (
+        ("v2", "x86_64_v2"), ("v3", "x86_64_v3"), ("aarch64", "aarch64"))},
+    "dispatch": ([RUST / "elf.s", RUST / "dispatch.s", RUST / "end.s"], CHOICES),
+    "dispatch for AArch64": ([ASM / "dispatch.S"], OR_NULL),
+    **{build: ([ASM / f"{build}.S"], (*FUNCTIONS, *MESSAGES)) for build in ("functions_x86_64", "functions_aarch64")}}
 WASM = "wasm"
 
 

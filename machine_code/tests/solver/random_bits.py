@@ -101,7 +101,6 @@ def reason(content, contracts):
             proofs.prove(content, symbol, proofs.CONTRACTS[number])
     except (Refused, ValueError) as refused:
         return str(refused)
-    return None
 
 
 def with_kernel(content, level):

@@ -16,14 +16,13 @@ import wrong_messages
 import wrong_module
 from contracts.functions import N
 from contracts.library import FUNCTIONS, CheckRaw
-from contracts.messages import MESSAGES
 from programs import BYTE, COMMITTED, LOAD, edited, program, prove
 from solver.questions import Refused
 from tests.library import linked as assembled
+from wrong_edits import OUTSIDE, PASSES, SECRET
 
-PASSES, SECRET = "a character is passed that may be no digit", "a branch depends on bytes"
 BELOW, UNWRITTEN = "an access below the stack pointer", "a byte of the stack that was not written"
-OUTSIDE, NOT_IN_STACK, AT_HEAD = "may lie outside", "the stack pointer is not in the stack", "at the head of a loop: "
+NOT_IN_STACK, AT_HEAD = "the stack pointer is not in the stack", "at the head of a loop: "
 # Goes on if and only if ten times a tenth of a length is at most the length, and returns true otherwise.
 TENTH = ("mov rax, rsi; movabs r8, {}; mul r8; shr rdx, {}; lea rax, [rdx+rdx*4]; add rax, rax; cmp rax, rsi; jbe 5f; "
          "mov eax, 1; ret; 5: ")
@@ -281,17 +280,13 @@ for function, what, old, new, said, *name in wrong_for_c.WRONG:
     call = "decoder_update" if function == "decoder_decode_after" else function
     make = functools.partial(edited, "functions_x86_64", function, old, new)
     _add(f"for c {function} {what}", call, make, said, contracts=FUNCTIONS, name=next(iter(name), None))
-for function in wrong_for_c.RIGHT:
-    make = functools.partial(edited, "functions_x86_64", function, "", "")
-    _add(f"for c {function} as it is", function, make, contracts=FUNCTIONS)
 for what, body, said in wrong_messages.OF_MESSAGES:
     _add(f"of messages {what}", "error_message", functools.partial(wrong_messages.message, body), said,
          contracts=wrong_messages.CONTRACTS)
 for function, what, old, new, said, *name in wrong_messages.OF_DISPATCHERS:
-    _add(f"of dispatchers {function} {what}", function, functools.partial(wrong_messages.dispatcher, old, new), said,
-         contracts=wrong_messages.CONTRACTS, name=next(iter(name), None))
-for contract in wrong_messages.CONTRACTS[: -len(MESSAGES)]:
-    _add(f"of dispatchers {contract.function} {contract.name} as it is", contract.function, wrong_messages.dispatcher,
-         contracts=wrong_messages.CONTRACTS, name=contract.name)
+    key = function, *(name or ["every call"])
+    contract = next(each for each in wrong_messages.CONTRACTS if (each.function, each.name) == key)
+    make = functools.partial(wrong_messages.dispatcher, contract.passed, old, new)
+    _add(f"of dispatchers {' '.join(key)} {what}", function, make, said, contracts=[contract])
 if os.environ.get("CONST_HEX_PARTS"):
     TestWrong.test_zz_each_part_refuses_a_row = TestWrong.each_part_refuses_a_row

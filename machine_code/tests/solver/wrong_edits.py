@@ -1,10 +1,10 @@
 """Wrong edits of the committed assembly and of the module."""
 
-NEITHER = "neither true nor false"
-PASSES, SECRET = "a character is passed that may be no digit", "a branch depends on bytes"
-OUTSIDE, UNWRITTEN = "may lie outside", "output is read"
-CALL_FILL, CALL_CHECK = "call SYMBOL(const_hex_kernel_fill)", "call SYMBOL(const_hex_kernel_check)"
-CALL_READ, STACK = "call SYMBOL(const_hex_kernel_read)", "the stack of a function that is called"
+from wrong_for_c import CALL_CHECK, CALL_READ, PASSES
+
+NEITHER, SECRET, OUTSIDE = "neither true nor false", "a branch depends on bytes", "may lie outside"
+UNWRITTEN, STACK = "output is read", "the stack of a function that is called"
+CALL_FILL = "call SYMBOL(const_hex_kernel_fill)"
 # An instruction that no other function of the module has than what searches in a chunk.
 SEARCH = "i32.store8 offset=5"
 # After a chunk was decoded that has some digits; and the starts where no digit waits: with an output, and with none.
@@ -98,7 +98,7 @@ WRONG = [
     ("other bits of what a kernel returns", ARM_C, "check_raw", "bl SYMBOL(const_hex_kernel_check)",
      "bl SYMBOL(const_hex_kernel_check); lsr x0, x0, #32", f"{PASSES}|neither true nor false"),
     # Dispatchers
-    ("a byte more on the stack of a kernel", "dispatch", "kernel_check", "je \\name\\()_v3",
+    ("a byte more on the stack of a kernel", "dispatch", "check", "je \\name\\()_v3",
      "push rax; je \\name\\()_v3; pop rax", STACK, "every call", "kernel"),
     ("the local error is too high", ARM, "decode", "sp, #16", "sp, #24", "may lie outside of stack",
      "the error is NULL", "or_null"),

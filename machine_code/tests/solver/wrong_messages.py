@@ -1,10 +1,8 @@
-"""Wrong messages and dispatchers: small programs for const_hex_error_message, and changes of c/asm/dispatch.S."""
-
-import re
+"""Wrong messages and dispatchers: small programs for const_hex_error_message, and changes of both dispatchers."""
 
 from contracts.dispatch import CHOICES, OR_NULL
 from contracts.messages import MESSAGES
-from tests.library import ASM, linked as assembled
+from tests.library import DISPATCHER, RUST, linked as assembled
 
 MESSAGE = """
     .intel_syntax noprefix
@@ -53,9 +51,8 @@ OF_MESSAGES = [
 NONNULL, CALL_IT = "\tjne\t\\name\\()_nonnull\n", "\tcall\t\\name\\()_nonnull\n"
 IS_3 = "\tcmp\tBYTE PTR [rip + choice], 3\n\tje\t\\name\\()_v3\n"
 IS_2 = "\tcmp\tBYTE PTR [rip + choice], 2\n\tje\t\\name\\()_v2\n"
-LOCAL = "mov\t\\error, rsp"
 NULL, NOT_NULL = "the error is NULL", "the error is not NULL"
-OTHER_BUILD = "the build is not the one for this CPU"
+LOCAL, OTHER_BUILD = "mov\t\\error, rsp", "not the one for this CPU"
 # The function, what is wrong, what is changed, and what is said of it; of which contract.
 OF_DISPATCHERS = [
     ("check", "it calls twice", CALL_IT, CALL_IT + CALL_IT, "it calls twice", NULL),
@@ -78,23 +75,24 @@ OF_DISPATCHERS = [
      "not the one that is stored"),
     ("kernel_fill", "asked again", IS_2, "", "asked although a kernel is stored"),
     ("kernel_fill", "another kernel is stored", "choice], al", "choice], 2", "another kernel is stored"),
-    ("kernel_fill", "v3 for a CPU without LZCNT", "\tje\t3f\n", "\tnop\n", "not the one for this CPU"),
     ("kernel_fill", "an argument is lost", "push\trdx", "push\trcx", "argument 2 is another"),
     ("kernel_fill", "another byte is kept", IS_3, IS_3.replace("choice", "choice + 1"), "a place that has no constant"),
-    ("kernel_build", "no look at POPCNT", "0x982201", "0x182201", OTHER_BUILD),
-    ("kernel_build", "no look at AVX2", "ebx, 0x128", "ebx, 0x108", OTHER_BUILD),
-    ("kernel_build", "no look at LZCNT", "\tje\t3f\n", "\tnop\n", OTHER_BUILD),
-    ("kernel_build", "no look at the registers of AVX", "\tcmp\teax, 6\n\tjne", "\tcmp\teax, 2\n\tjb", OTHER_BUILD),
-    ("kernel_build", "no look at the number of leaves", "cmp\teax, 7", "cmp\teax, 6", OTHER_BUILD),
-    ("kernel_build", "v2 for a CPU with v3", "mov\teax, 3", "mov\teax, 2", OTHER_BUILD),
-    ("kernel_build", "v3 for a CPU with v2", "mov\teax, 2", "mov\teax, 3", OTHER_BUILD),
-    ("kernel_build", "no look at OSXSAVE", "0x38401000", "0x30401000", "a CPU that may not have it"),
-    ("kernel_build", "another leaf", "mov\teax, 7", "mov\teax, 6", "another leaf of cpuid"),
-    ("kernel_build", "another part of a leaf", "xor\tecx, ecx\n\tcpuid", "mov\tecx, 1\n\tcpuid", "part of one"),
-    ("kernel_build", "other registers", "xor\tecx, ecx\n\txgetbv", "mov\tecx, 1\n\txgetbv",
+    ("fill", "another place of portable code", "jmp\t\\portable", "inc\t\\portable\n\tjmp\t\\portable", "is not fixed"),
+    ("fill", "no look at POPCNT", "0x982201", "0x182201", OTHER_BUILD),
+    ("fill", "no look at AVX2", "ebx, 0x128", "ebx, 0x108", OTHER_BUILD),
+    ("fill", "no look at LZCNT", "\tje\t3f\n", "\tnop\n", OTHER_BUILD),
+    ("fill", "no look at the registers of AVX", "\tcmp\teax, 6\n\tjne", "\tcmp\teax, 2\n\tjb", OTHER_BUILD),
+    ("fill", "no look at the number of leaves", "cmp\teax, 7", "cmp\teax, 6", OTHER_BUILD),
+    ("fill", "v2 for a CPU with v3", "mov\teax, 3", "mov\teax, 2", OTHER_BUILD),
+    ("fill", "v3 for a CPU with v2", "mov\teax, 2", "mov\teax, 3", OTHER_BUILD),
+    ("fill", "no look at OSXSAVE", "0x38401000", "0x30401000", "a CPU that may not have it"),
+    ("fill", "another leaf", "mov\teax, 7", "mov\teax, 6", "another leaf of cpuid"),
+    ("fill", "another part of a leaf", "xor\tecx, ecx\n\tcpuid", "mov\tecx, 1\n\tcpuid", "part of one"),
+    ("fill", "other registers", "xor\tecx, ecx\n\txgetbv", "mov\tecx, 1\n\txgetbv",
      "another register of xgetbv"),
-    ("kernel_build", "AVX", "\tpush\trbx", "\tvzeroupper\n\tpush\trbx", "is not what the assembler"),
+    ("fill", "AVX", "\tpush\trbx", "\tvzeroupper\n\tpush\trbx", "is not what the assembler"),
 ]
+OF_DISPATCHERS += [(each.function, "as it is", "", "", None, each.name) for each in (*OR_NULL, *CHOICES)]
 CONTRACTS = [*OR_NULL, *CHOICES, *MESSAGES]
 
 
@@ -102,7 +100,7 @@ def message(body):
     return assembled(MESSAGE.format(body))
 
 
-def dispatcher(old="", new=""):
-    text = re.sub('#include "(.*[.]s)"', lambda file: (ASM / file[1]).read_text(), (ASM / "dispatch.S").read_text())
+def dispatcher(of_rust, old="", new=""):
+    text = "\n".join((RUST / f"{name}.s").read_text() for name in ("elf", "dispatch", "end")) if of_rust else DISPATCHER
     assert old in text, old
     return assembled(text.replace(old, new))

@@ -9,6 +9,11 @@
 	.endm
 	.macro end name
 	.endm
+	.macro variable name
+	.bss
+\name:
+	.zero 1
+	.endm
 	.macro constant name, alignment
 	.section .rdata$\name, "dr"
 	.p2align \alignment

@@ -14,6 +14,12 @@
 	.macro end name
 	.size \name, . - \name
 	.endm
+	/* A byte of zero. */
+	.macro variable name
+	.section .bss.\name, "aw", %nobits
+\name:
+	.zero 1
+	.endm
 	.macro constant name, alignment
 	.section .rodata.\name, "a", %progbits
 	.p2align \alignment

@@ -3,6 +3,7 @@
 	.purgem hidden
 	.purgem function
 	.purgem end
+	.purgem variable
 	.purgem constant
 	.purgem adrp_label
 	.purgem add_label

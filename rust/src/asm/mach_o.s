@@ -11,6 +11,9 @@
 	.endm
 	.macro end name
 	.endm
+	.macro variable name
+	.zerofill __DATA,__bss,\name,1,0
+	.endm
 	.macro constant name, alignment
 	.section __TEXT,__const
 	.p2align \alignment
