@@ -10,11 +10,6 @@ use Rattle.const_hex.specs.declared.error.FromHexError.TheVariants.{OddLength, I
 abbrev pub counted : ℕ → ℕ
 counted n = min n (2 ^ 64 - 1)
 
--- no byte, or one
-abbrev pub listed : Option ℕ → List ℕ
-listed None = []
-listed (Some b) = b ∷ []
-
 -- the digit that waits for the second digit of its byte, if there is one
 abbrev pub waiting_digit : Decoder → List ℕ
 waiting_digit d = if d.state == 1 then d.byte ∷ [] else []

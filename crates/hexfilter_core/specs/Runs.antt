@@ -1,6 +1,5 @@
 -- What a run makes of its input, its errors, and what the exit status of the program says.
 use Rattle.std.specs.Prelude.{◌≡◌, ◌≢◌, ◌⊎◌, ℕ, if◌then◌else◌, Bool, true, false, List, [], ◌++◌, Option, None, Some, Result, Ok, Err, codes, get_or, bytes_eq}
-use Rattle.std.specs.Borrow.{Bor}
 use Rattle.std.specs.Io.KnownBytes.{Appends, Consumes, IsAtEnd}
 use Rattle.std.specs.IoError.{error_kind}
 use Rattle.std.specs.declared.io.ErrorKind.TheVariants.{Interrupted}
@@ -108,8 +107,3 @@ abbrev pub file_name : List (List ℕ) → Option ℕ → Option (List ℕ)
 file_name arguments None = None
 file_name arguments (Some i) =
     let name : List ℕ = get_or arguments i (codes "-") in if bytes_eq name (codes "-") then None else Some name
-
--- the bytes of a name
-abbrev pub bytes_of : Option (Bor (List ℕ)) → Option (List ℕ)
-bytes_of None = None
-bytes_of (Some name) = Some name.now

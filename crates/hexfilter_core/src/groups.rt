@@ -1,7 +1,6 @@
 //! A text in groups.
 
-ghost use Rattle.std.specs.Prelude.{◌≡◌, ◌≢◌, ◌+◌, ◌*◌, ◌≤◌, ◌<◌, ◌++◌, ◌∷◌, [], List, ℕ, length, take};
-ghost use Rattle.const_hex.specs.Prelude.{listed};
+ghost use Rattle.std.specs.Prelude.{◌≡◌, ◌≢◌, ◌+◌, ◌*◌, ◌≤◌, ◌<◌, ◌++◌, ◌∷◌, [], List, ℕ, length, take, option_to_list};
 ghost use Rattle.hexfilter_core.specs.Dumps.{PutsInto, groups_from};
 
 use crate::mode::Groups;
@@ -146,7 +145,7 @@ fn separate(groups: Groups, column: usize, output: &mut [u8], end: usize) -> (us
 pub(crate) fn put(byte: Option<u8>, output: &mut [u8], end: usize) -> usize
     requires { end < length output.old }
     ensures within { result ≤ end + 1 }
-    ensures front { take result output.new ≡ take end output.old ++ listed byte }
+    ensures front { take result output.new ≡ take end output.old ++ option_to_list byte }
     ensures length { length output.new ≡ length output.old }
 {
     match byte {

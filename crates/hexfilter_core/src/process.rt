@@ -1,9 +1,9 @@
 //! The whole program, from its arguments to its exit status.
 
-ghost use Rattle.std.specs.Prelude.{◌≡◌, ◌++◌, ◌∷◌, [], List, ℕ, None, Some, Option, Bool, not, ◌&&◌, Ok, Err, IfOk, OnErr, OnOk, codes, map, string_bytes, is_ok};
+ghost use Rattle.std.specs.Prelude.{◌≡◌, ◌++◌, ◌∷◌, [], List, ℕ, None, Some, Option, Bool, not, ◌&&◌, Ok, Err, IfOk, OnErr, OnOk, codes, map, string_bytes, is_ok, option_copied};
 ghost use Rattle.std.specs.Io.KnownBytes.{Appends};
 ghost use Rattle.std.specs.Process.{exit_status};
-ghost use Rattle.hexfilter_core.specs.Runs.{EndsIf, Mode, Prints, WritesBeginning, bytes_of, file_name, status_of};
+ghost use Rattle.hexfilter_core.specs.Runs.{EndsIf, Mode, Prints, WritesBeginning, file_name, status_of};
 ghost use Rattle.hexfilter_core.specs.Options.{Help, Run, UsageError, Version, request_for};
 
 use crate::error::RunError;
@@ -71,7 +71,7 @@ pub trait Host: Eprint {
     /// Whether standard output goes to the file with that name or, without a name, to the file that is standard input,
     /// and this file has bytes.
     fn is_output(&self, name: Option<&str>) -> bool
-        ensures { result ≡ is_written self.now (bytes_of name.entry) };
+        ensures { result ≡ is_written self.now (option_copied name.entry) };
 }
 
 /// Does what the arguments after the program's name ask for, with `input` and `output` as standard input and output.
@@ -125,7 +125,7 @@ pub fn program<H: Host, R: Read, W: Write>(
 
 /// The name of the file that the argument with that index names, unless that is standard input.
 fn file_name(arguments: &[String], index: Option<usize>) -> Option<&str>
-    ensures { bytes_of result ≡ file_name (map string_bytes arguments.now) index }
+    ensures { option_copied result ≡ file_name (map string_bytes arguments.now) index }
 {
     match arguments.get(index?) {
         Some(name) if name.as_str() != "-" => Some(name.as_str()),
@@ -162,11 +162,11 @@ fn run_on<H: Host, R: Read, W: Write>(
     input: &mut R,
     output: &mut W,
 ) -> Result<(), RunError>
-    ensures input { bytes_of name.entry ≡ None → EndsIf (not (H.is_written host.now None)) mode (status_of result)
+    ensures input { option_copied name.entry ≡ None → EndsIf (not (H.is_written host.now None)) mode (status_of result)
         (R.remaining input.old) (R.remaining input.new) (W.contents output.old) (W.contents output.new) }
-    ensures file { (n : List ℕ) → bytes_of name.entry ≡ Some n → (input.new ≡ input.old) × ((left : Option (List ℕ))
-        × EndsIf (not (H.is_written host.now (Some n)) && H.can_open host.now n) mode (status_of result)
-        (H.bytes host.now n) left (W.contents output.old) (W.contents output.new)) }
+    ensures file { (n : List ℕ) → option_copied name.entry ≡ Some n → (input.new ≡ input.old)
+        × ((left : Option (List ℕ)) × EndsIf (not (H.is_written host.now (Some n)) && H.can_open host.now n) mode
+        (status_of result) (H.bytes host.now n) left (W.contents output.old) (W.contents output.new)) }
 {
     if host.is_output(name) {
         // It would grow while it is read.

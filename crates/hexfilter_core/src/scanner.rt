@@ -1,8 +1,7 @@
 //! The text of an input: the input without what is left out.
 
-ghost use Rattle.std.specs.Prelude.{◌≡◌, ◌+◌, ◌≤◌, ◌<◌, ◌∷◌, [], List, ℕ, false, length, min, take, not, nat_lt};
+ghost use Rattle.std.specs.Prelude.{◌≡◌, ◌+◌, ◌≤◌, ◌<◌, ◌∷◌, [], List, ℕ, false, length, min, take, not, nat_lt, option_to_list};
 ghost use Rattle.std.specs.List.{All, prefix_len};
-ghost use Rattle.const_hex.specs.Prelude.{listed};
 ghost use Rattle.hexfilter_core.specs.Stages.{HasAdded, HasScanned};
 ghost use Rattle.hexfilter_core.specs.Dumps.{StandsAfter, is_whitespace, kept, next};
 
@@ -69,7 +68,7 @@ impl Scanner {
     /// Reads a byte, and returns what it adds to the text.
     fn next(&mut self, reading: Reading, byte: u8) -> Option<u8>
         ensures { (x : List ℕ) → HasScanned reading self.old x
-            → HasAdded reading self.new x (byte ∷ []) (listed result) }
+            → HasAdded reading self.new x (byte ∷ []) (option_to_list result) }
     {
         let (added, column) = step(reading, self.column, byte);
         self.column = column;
@@ -117,7 +116,7 @@ fn copy_block(chunk: &[u8], output: &mut [u8]) -> usize
 
 /// What a byte adds to the text, and how many characters then came since the last separator.
 fn step(reading: Reading, column: usize, byte: u8) -> (Option<u8>, usize)
-    ensures kept { listed result.0 ≡ kept reading column byte }
+    ensures kept { option_to_list result.0 ≡ kept reading column byte }
     ensures next { result.1 ≡ next reading column byte }
 {
     let groups = reading.groups;

@@ -1,7 +1,6 @@
 //! What a run makes of its input, chunk after chunk.
 
-ghost use Rattle.std.specs.Prelude.{◌≡◌, ◌*◌, ◌+◌, ◌≤◌, ◌<◌, ◌++◌, [], List, ℕ, Bool, if◌then◌else◌, length, take, false, ◌/◌, ◌∷◌, Option, None, Some, IfOk, OnErr};
-ghost use Rattle.const_hex.specs.Prelude.{listed};
+ghost use Rattle.std.specs.Prelude.{◌≡◌, ◌*◌, ◌+◌, ◌≤◌, ◌<◌, ◌++◌, [], List, ℕ, Bool, if◌then◌else◌, length, take, false, ◌/◌, ◌∷◌, Option, None, Some, IfOk, OnErr, option_to_list};
 ghost use Rattle.hexfilter_core.specs.Dumps.{Groups, PutsInto, encoded, ended, full_text, AllDigits, Reading, body_of, chunk_size, text_of};
 ghost use Rattle.hexfilter_core.specs.Stages.{HasDecoded, HasWritten, Reaches, HasMade};
 ghost use Rattle.std.specs.Io.KnownBytes.{IsAtEnd};
@@ -123,7 +122,7 @@ impl Stage {
 
     /// The newline of a last line that has characters.
     fn newline(&self, groups: Groups, is_end: bool) -> Option<u8>
-        ensures { listed result ≡ (if is_end then ended groups self.now.column else []) }
+        ensures { option_to_list result ≡ (if is_end then ended groups self.now.column else []) }
     {
         if is_end && groups.separator == b'\n' && self.column > 0 {
             return Some(b'\n');

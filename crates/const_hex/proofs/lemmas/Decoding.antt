@@ -1,5 +1,5 @@
 -- A text in chunks: what a `Decoder` has read after one more, with or without an error.
-use Rattle.std.proofs.Common.{◌≡◌, ◌≤◌, ◌*◌, ◌/◌, ℕ, List, ◌++◌, length, take, drop, refl, arith, ◌+◌, ◌-◌, ◌%◌, ◌≢◌, [], ◌∷◌, get_or, slice_index, None, Ok, sym, ap, ◌∙◌, length-append, length-drop}
+use Rattle.std.proofs.Common.{◌≡◌, ◌≤◌, ◌*◌, ◌/◌, ℕ, List, ◌++◌, length, take, drop, refl, arith, ◌+◌, ◌-◌, ◌%◌, ◌≢◌, [], ◌∷◌, slice_index, None, Ok, sym, ap, ◌∙◌, length-append, length-drop}
 use Rattle.std.proofs.lemmas.Grind.{common_steps}
 use Rattle.std.proofs.lemmas.List.{take-append-drop, take-append-le, drop-append-le, append_assoc, append-nil, get_or_append_left, get_or-append-add, length-take, take_all, take_at, drop_all, drop_at}
 use Rattle.std.proofs.lemmas.List.Elements.{All-drop, All-take}
@@ -29,11 +29,6 @@ partial_pairs old u new n within sized p =
       rest = rw (drop-append-le p.done new other in_new, p.rest, ← drop-append-le p.done front other in_old)
           (rw (take-append-drop n old) refl);
     }
-
--- the same for an even text
-pub partial_front : (old u new : List ℕ) (n : ℕ) → n ≤ length old → length u ≡ 2 * n → Partial (take n old) u new
-    → Partial old u (new ++ drop n old)
-partial_front old u new n within sized p = partial_pairs old u new n within (omega (arith, sized)) p
 
 -- ---- pairs, and what follows
 
@@ -76,11 +71,6 @@ pub last_refused : (old u new : List ℕ) → (AllDigits (drop (2 * length old) 
 last_refused old u new bad h l s =
     Partial-after old u new (length old) _ refl h l (omega arith) (rw (take_all (length old) new (omega arith)) s)
     (rw (drop_all (length old) new (omega arith), drop_all (length old) old (omega arith)) (none_decoded [] _ bad))
-
--- the first byte, and what follows it
-pub first_and_rest : (u : List ℕ) → 1 ≤ length u → u ≡ get_or u 0 0 ∷ drop 1 u
-first_and_rest [] h = absurd (omega (arith, h))
-first_and_rest (c ∷ u) h = refl
 
 -- ---- what a decoder that has read t reads on
 

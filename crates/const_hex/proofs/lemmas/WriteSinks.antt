@@ -1,10 +1,11 @@
 -- Texts that are passed to a writer in pieces.
-use Rattle.std.proofs.Common.{◌≡◌, ℕ, ◌+◌, ◌-◌, ◌≤◌, true, false, List, [], ◌∷◌, ◌++◌, length, take, drop, Option, refl, sym, ap, ◌∙◌, arith, inl, inr, min, Some, None, is_some, IfSome, ◌≢◌}
+use Rattle.std.proofs.Common.{◌≡◌, ℕ, ◌+◌, ◌-◌, ◌≤◌, true, false, List, [], ◌∷◌, ◌++◌, length, take, drop, Option, sym, ap, ◌∙◌, arith, inl, inr, min, Some, None, is_some, IfSome, ◌≢◌}
 use Rattle.std.proofs.lemmas.Bool.{cases_Bool, false_from_ne_true}
 use Rattle.std.proofs.KnownBytes.{Appends-kept, Appends-nil, Appends-trans}
 use Rattle.std.proofs.Math.Seq.{take-add, take-append-add}
 use Rattle.std.proofs.lemmas.List.{append_assoc, drop_all, take_min, take_rest, take-append-drop, take-append-le, length-drop, length-take}
 use Rattle.std.proofs.lemmas.List.Folds.{concat-append}
+use mathlib.Core.List.{append-eq-nil_iff}
 use Rattle.std.specs.Io.KnownBytes.{Appends}
 use Rattle.std.specs.List.{concat}
 use Rattle.std.specs.IoError.{error_kind}
@@ -29,10 +30,6 @@ write_step a b c bytes done n p q =
     (Appends-trans a b c (take done bytes) (take n (drop done bytes)) p (rw (take_rest bytes done) at q))
 
 pub ruleset writes = (step_within, write_step, Appends-kept)
-
-both_empty : (a b : List ℕ) → a ++ b ≡ [] → (a ≡ []) × (b ≡ [])
-both_empty [] b e = (refl, e)
-both_empty (x ∷ a) b e = cc e
 
 -- there is no error
 no_error : (e : Option Error) → is_some e ≡ false → IfSome e (λ x. error_kind x ≢ Interrupted)
@@ -61,7 +58,7 @@ module _ {W : Type 0} (contents : W → Option (List ℕ)) where
       | inl first ↦ rw (stays first) (h.retried u)
       | inr before ↦ k.retried before
     ];
-    nothing = λ e. let none = both_empty a b e in k.nothing none.1 ∙ h.nothing none.0;
+    nothing = λ e. let none = append-eq-nil_iff.0 e in k.nothing none.1 ∙ h.nothing none.0;
   }
 
   -- after a failure no piece is offered

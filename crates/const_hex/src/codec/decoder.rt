@@ -1,7 +1,7 @@
 //! Decoding a text that arrives in chunks.
 
-ghost use Rattle.std.specs.Prelude.{◌≡◌, ◌≢◌, ℕ, List, [], ◌∷◌, None, ◌++◌, ◌*◌, ◌+◌, ◌/◌, ◌%◌, ◌≤◌, ◌↔◌, Some, Ok, Err, true, false, length, take, drop, slice_index, IsOk, OnErr, IfSome, IsTrue};
-ghost use Rattle.const_hex.specs.Prelude.{AllDigits, FirstBad, IsDigit, Partial, Spells, IsOdd, Reads, body_of, HasRead, counted, error_of, listed, position_of, waiting_digit, zero_decoder, ChecksChunk, DecodesChunk, FromHexError, OddLength, InvalidStringLength, InvalidHexCharacter};
+ghost use Rattle.std.specs.Prelude.{◌≡◌, ◌≢◌, ℕ, List, [], ◌∷◌, None, ◌++◌, ◌*◌, ◌+◌, ◌/◌, ◌%◌, ◌≤◌, ◌↔◌, Some, Ok, Err, true, false, length, take, drop, slice_index, IsOk, OnErr, IfSome, IsTrue, option_to_list};
+ghost use Rattle.const_hex.specs.Prelude.{AllDigits, FirstBad, IsDigit, Partial, Spells, IsOdd, Reads, body_of, HasRead, counted, error_of, position_of, waiting_digit, zero_decoder, ChecksChunk, DecodesChunk, FromHexError, OddLength, InvalidStringLength, InvalidHexCharacter};
 
 use crate::codec::body::{decode_body, find_first_bad, invalid_character, is_prefix, strip_prefix};
 use crate::error::FromHexError;
@@ -212,7 +212,7 @@ impl Decoder {
     /// The digit that waits for its other half.
     #[inline(always)]
     fn waiting(&self) -> Option<u8>
-        ensures { listed result ≡ waiting_digit self.now }
+        ensures { option_to_list result ≡ waiting_digit self.now }
     {
         if self.state == WAITING {
             Some(self.byte)
@@ -227,8 +227,8 @@ impl Decoder {
     fn next_digits<'a>(&self, chunk: &'a [u8]) -> (Option<u8>, &'a [u8])
         ensures whole { (t pairs : List ℕ) → position_of self.now ≡ counted (length t)
             → body_of t ≡ pairs ++ waiting_digit self.now → length pairs % 2 ≡ 0
-            → body_of (t ++ chunk.now) ≡ pairs ++ (listed result.0 ++ result.1.now) }
-        ensures waits { AllDigits (waiting_digit self.now) → AllDigits (listed result.0) }
+            → body_of (t ++ chunk.now) ≡ pairs ++ (option_to_list result.0 ++ result.1.now) }
+        ensures waits { AllDigits (waiting_digit self.now) → AllDigits (option_to_list result.0) }
         ensures shorter { length result.1.now ≤ length chunk.now }
     {
         if self.index == 0 {
@@ -244,7 +244,7 @@ impl Decoder {
     #[inline(always)]
     fn advance(&mut self, count: usize, waiting: Option<u8>)
         ensures index { position_of self.new ≡ counted (position_of self.old + count) }
-        ensures waiting { waiting_digit self.new ≡ listed waiting }
+        ensures waiting { waiting_digit self.new ≡ option_to_list waiting }
         ensures no_error { error_of self.new ≡ None }
     {
         self.index = self.index.saturating_add(count);
@@ -281,7 +281,7 @@ impl Decoder {
 /// How many pairs there are.
 #[inline(always)]
 fn count_pairs(waiting: Option<u8>, digits: &[u8]) -> usize
-    ensures { result ≡ length (listed waiting ++ digits.now) / 2 }
+    ensures { result ≡ length (option_to_list waiting ++ digits.now) / 2 }
 {
     (digits.len() + usize::from(waiting.is_some())) / 2
 }
@@ -289,8 +289,8 @@ fn count_pairs(waiting: Option<u8>, digits: &[u8]) -> usize
 /// The digit after so many pairs, if there is one.
 #[inline(always)]
 fn left_over(waiting: Option<u8>, digits: &[u8], count: usize) -> Option<u8>
-    requires { count ≡ length (listed waiting ++ digits.now) / 2 }
-    ensures { listed result ≡ drop (2 * count) (listed waiting ++ digits.now) }
+    requires { count ≡ length (option_to_list waiting ++ digits.now) / 2 }
+    ensures { option_to_list result ≡ drop (2 * count) (option_to_list waiting ++ digits.now) }
 {
     match (waiting, digits) {
         (None, [.., last]) if digits.len() > 2 * count => Some(*last),
@@ -303,12 +303,12 @@ fn left_over(waiting: Option<u8>, digits: &[u8], count: usize) -> Option<u8>
 /// Decodes the pairs into the output and returns true. Returns false if some byte is not a digit.
 #[inline(always)]
 fn decode_next<K: Kernel>(waiting: Option<u8>, digits: &[u8], output: &mut [u8]) -> bool
-    requires { length output.old ≡ length (listed waiting ++ digits.now) / 2 }
+    requires { length output.old ≡ length (option_to_list waiting ++ digits.now) / 2 }
     ensures digits { IsTrue result → AllDigits digits.now }
-    ensures spells { IsTrue result
-        → Spells (take (2 * length output.old) (listed waiting ++ digits.now)) output.new }
+    ensures spells { IsTrue result → Spells
+        (take (2 * length output.old) (option_to_list waiting ++ digits.now)) output.new }
     ensures refused { result ≡ false
-        → Partial output.old (listed waiting ++ digits.now) output.new }
+        → Partial output.old (option_to_list waiting ++ digits.now) output.new }
 {
     match waiting {
         Some(high) => decode_after::<K>(high, digits, output),

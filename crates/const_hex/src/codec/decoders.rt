@@ -101,7 +101,7 @@ pub fn decode_to_front(input: &[u8], output: &mut [u8]) -> Result<usize, FromHex
 /// assert_eq!(rt; &bytes, b"kiwi..");
 /// ```
 #[inline]
-#[tactic(auto, using(crate::proofs::lemmas::Decoding::partial_front))]
+#[tactic(auto, using(crate::proofs::lemmas::Decoding::partial_pairs))]
 pub fn decode_to_front_with<K: Kernel>(
     input: &[u8],
     output: &mut [u8],

@@ -1,7 +1,7 @@
 -- Digits in a vector: their values and the test of each lane by one look-up, and the test of all lanes. The numbers
 -- are those of lanes16.rt and lanes.rt, which docs/DESIGN.md explains under "Checking and decoding one vector": adding
 -- 208 subtracts `0`, 143 (0x8F) is the part of a byte that looks up its limit, and 216 (0xD8) are the bits of a mark.
-use Rattle.std.proofs.Common.{◌≡◌, ℕ, zero, suc, ◌+◌, ◌-◌, ◌*◌, ◌/◌, ◌%◌, ◌<◌, ◌≤◌, ◌↔◌, Bool, true, eqb, cond, ltb, ltb→lt, ◌||◌, T, List, [], ◌∷◌, ◌++◌, length, replicate, get_or, bit_and, bit_or, refl, subst, arith, w8, Fits, IsTrue, Some, is_some}
+use Rattle.std.proofs.Common.{◌≡◌, ℕ, zero, suc, ◌+◌, ◌-◌, ◌*◌, ◌/◌, ◌%◌, ◌<◌, ◌≤◌, ◌↔◌, Bool, true, eqb, cond, ltb, ltb→lt, ◌||◌, T, List, [], ◌∷◌, ◌++◌, length, replicate, get_or, bit_and, bit_or, refl, subst, arith, w8, Fits, IsTrue, Some, is_some, is_none}
 use Rattle.std.specs.List.{AllZip}
 use Rattle.std.specs.Int.{bit_at}
 use Rattle.std.proofs.lemmas.Bool.{agree_below, agree_below_at}
@@ -14,7 +14,7 @@ use lib.Lanes.{zip2, fold_l, Each1, number_l, digits_l}
 use mir.Val.{zeroes}
 use Rattle.const_hex_arch.specs.{hex_value, IsDigit, AllDigits, IsUnmarked, AllUnmarked, IsValueOf, IsPartOf, IsLimitOf}
 use Rattle.const_hex_arch.proofs.lemmas.Standard.{holds_below, every_below}
-use Rattle.const_hex_arch.proofs.lemmas.LaneValues.{same_value, is_none, same_if_some, sub8, min_l}
+use Rattle.const_hex_arch.proofs.lemmas.LaneValues.{same_value, same_if_some, sub8, min_l}
 use Rattle.const_hex_arch.proofs.lemmas.Digits.{digits_append}
 
 -- the bits that mark a lane

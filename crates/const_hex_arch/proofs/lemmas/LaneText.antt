@@ -128,11 +128,6 @@ pub concat_pair : (vs : List (List ℕ)) → length vs ≡ 2 → concat vs ≡ g
 concat_pair (a ∷ b ∷ []) e = ap (λ x. a ++ x) (append-nil b)
 concat_pair _ e = absurd (omega arith)
 
--- 2 * n lanes, in their halves
-pub in_halves : (n : ℕ) (t : List ℕ) → length t ≡ 2 * n
-    → concat (pick_l 0 (t ++ t) (range_with_len 0 n) ∷ pick_l 0 (t ++ t) (range_with_len n n) ∷ []) ≡ t
-in_halves n t long = rw append-nil (halves n t long)
-
 -- the texts of both halves of a vector of 2 * n lanes
 pub text_of_halves : (n : ℕ) (up : Bool) (v a b : List ℕ) → length v ≡ 2 * n
     → a ≡ hex_text up (pick_l 0 (v ++ v) (range_with_len 0 n))

@@ -1,13 +1,14 @@
 -- Digits in vectors of any number of lanes: their values, and the bytes that they make.
-use Rattle.std.proofs.Common.{◌≡◌, ℕ, ◌+◌, ◌-◌, ◌%◌, ◌^◌, ◌<◌, ◌≤◌, Bool, true, false, cond, eqb, ltb, T, ◌||◌, List, [], ◌∷◌, map, length, replicate, get_or, bit_and, refl, ap, arith, w8, Fits, Option, Some, None, IsSome, eqb→eq, zero, suc, ◌*◌, ◌/◌, ◌++◌, take, drop, sym, ◌∙◌, le-leb, length-append}
+use Rattle.std.proofs.Common.{◌≡◌, ℕ, ◌+◌, ◌-◌, ◌%◌, ◌^◌, ◌<◌, ◌≤◌, Bool, true, false, cond, eqb, ltb, T, ◌||◌, List, [], ◌∷◌, map, length, replicate, get_or, bit_and, refl, ap, arith, w8, Fits, Option, Some, None, IsSome, is_none, eqb→eq, zero, suc, ◌*◌, ◌/◌, ◌++◌, take, drop, sym, ◌∙◌, le-leb, length-append}
 use Rattle.std.specs.List.{AllZip}
+use Rattle.std.proofs.lemmas.Bool.{false≢true}
 use Rattle.std.proofs.lemmas.Bool.Decides.{nat_tests}
 use Rattle.std.proofs.lemmas.List.Elements.{All-head, All-tail}
 use lib.Lanes.{zip2, sel_l, top, Each1, number_l, digits_l}
 use Rattle.std.proofs.lemmas.Grind.{common_steps}
 use Rattle.std.proofs.lemmas.List.{map-append}
 use Rattle.const_hex_arch.specs.{hex_value, IsDigit, AllDigits, AllNibbles, as_value, IsValueOf, Spells, byte_pairs}
-use Rattle.const_hex_arch.proofs.lemmas.Standard.{every_below, false_is_true, every_pair}
+use Rattle.const_hex_arch.proofs.lemmas.Standard.{every_below, every_pair}
 use Rattle.const_hex_arch.proofs.lemmas.Digits.{digits_append}
 use Rattle.const_hex_arch.proofs.lemmas.Texts.{IsPair-of}
 
@@ -23,13 +24,9 @@ same_value-true None None t = refl
 same_value-true (Some a) (Some b) t = ap Some (eqb→eq a b t)
 same_value-true _ _ t = absurd t
 
-abbrev pub is_none : Option ℕ → Bool
-is_none None = true
-is_none (Some v) = false
-
 pub same_if_some : (o p : Option ℕ) → T (is_none o || same_value o p) → IsSome o → o ≡ p
 same_if_some (Some v) p t s = same_value-true (Some v) p t
-same_if_some _ p t s = absurd (false_is_true s)
+same_if_some _ p t s = absurd (false≢true s)
 
 -- ---- the operations on a vector
 

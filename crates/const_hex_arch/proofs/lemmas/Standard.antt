@@ -1,12 +1,8 @@
 -- What the standard library could have.
-use Rattle.std.proofs.Common.{◌≡◌, ◌↔◌, false, true, ℕ, zero, suc, ◌-◌, ◌<◌, Bool, ◌&&◌, T, eqb, eqb→eq, inl, inr, subst, arith, eq-zero-or-pos}
+use Rattle.std.proofs.Common.{◌≡◌, true, ℕ, zero, suc, ◌-◌, ◌<◌, Bool, ◌&&◌, T, eqb, eqb→eq, inl, inr, subst, arith, eq-zero-or-pos}
 use lib.Ieee.Fits.{and_l, and_r}
-
-pub false_is_true : false ≡ true → ⊥
-false_is_true e = cc
-
-pub through : {A B C : Type 0} → A ↔ B → B ↔ C → A ↔ C
-through p q = (λ a. q.0 (p.0 a), λ c. p.1 (q.1 c))
+-- under a name that `using(..)` in a source file can write
+pub use mathlib.Core.Logic.Iff.{trans as through}
 
 -- ---- tables: a test that computes to true at each number below n
 

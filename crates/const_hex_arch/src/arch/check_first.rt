@@ -42,7 +42,7 @@ impl<K: Kernel> Kernel for CheckFirst<K> {
     // Not `always`: `decode_body` calls this in a branch that is never taken for most kernels. With
     // its body in that branch, the decoders would be too large to be inlined.
     #[inline]
-    #[tactic(auto, using(crate::proofs::lemmas::FirstInvalid::none_decoded, crate::proofs::lemmas::Standard::false_is_true))]
+    #[tactic(auto, using(crate::proofs::lemmas::FirstInvalid::none_decoded))]
     fn decode_checked(input: &[u8], output: &mut [u8]) -> bool {
         if !K::check(input) {
             return false;

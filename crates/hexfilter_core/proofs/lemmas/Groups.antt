@@ -1,6 +1,7 @@
 -- Parts of groups, and of a text that is encoded part after part.
 use Rattle.std.proofs.Common.{◌≡◌, ℕ, ◌+◌, ◌-◌, ◌<◌, ◌≤◌, List, [], ◌∷◌, ◌++◌, length, min, take, drop, get_or, slice_set, refl, sym, ap, ◌∙◌, arith, append_assoc, length-append, Bool, false, Result, take-add, length-set, length-take, length-take-le, length-drop, take-take, take_all, append-nil, OnErr, OnOk}
 use Rattle.std.proofs.lemmas.Bool.Decides.{nat_tests}
+use Rattle.std.proofs.lemmas.List.{take_more_set}
 use borrow.Rule.Slice.PartMut.{put_mid}
 use Rattle.hexfilter_core.proofs.lemmas.Texts.{take_put}
 use Rattle.hexfilter_core.specs.Dumps.{Groups, PutsInto, groups_from, encoded, ended}
@@ -68,10 +69,6 @@ puts_more g c d e text done count out new end m k within started enough first mo
     ∙ ap (λ l. take end out ++ l) next
     ∙ sym (append_assoc (take end out) (take k new) (groups_from g e rest)))
 
-first_set : (out : List ℕ) (s : ℕ) → 0 < length out → take 1 (slice_set out 0 s) ≡ s ∷ []
-first_set [] s h = absurd (omega arith)
-first_set (b ∷ out) s h = refl
-
 -- one group after a separator
 pub puts_one : (g : Groups) (text out new : List ℕ) → 0 < g.size → g.size ≤ 16 → 16 ≤ length text → 17 ≤ length out
     → new ≡ take 16 text
@@ -84,7 +81,7 @@ puts_one g text out new some short many space copied rest =
     let added : n + 1 ≡ 1 + n = omega arith in
     let end : 0 + length (take n text) ≡ n = omega (arith, size) in
     let put = take_put 1 16 n (slice_set out 0 s) new (omega (arith, length-set out 0 s, space)) (omega (arith, all, short)) in
-    let front = first_set out s (omega (arith, space)) in
+    let front = take_more_set out 0 s (omega (arith, space)) in
     let kept : take n new ≡ take n text = rw copied (take-take n 16 text short) in
     after_group g (take n text ++ rest) some (omega (arith, size, some, length-append (take n text) rest))
     ∙ ap (λ l. s ∷ l) (within_group g 0 (take n text) rest (omega (arith, size)))

@@ -1,7 +1,7 @@
 use Rattle.std.proofs.Common.{◌≡◌, ◌*◌, suc, [], ◌∷◌, refl, arith, get_or, length, take, drop}
-use Rattle.std.proofs.lemmas.List.{take_rest}
+use Rattle.std.proofs.lemmas.List.{drop_more, take_rest}
 use Rattle.const_hex_arch.proofs.lemmas.Texts.{Spells-append}
-use Rattle.const_hex.proofs.lemmas.Decoding.{Partial-longer, first_and_rest, rest_refused, partial_front}
+use Rattle.const_hex.proofs.lemmas.Decoding.{Partial-longer, rest_refused, partial_pairs}
 use Rattle.const_hex.proofs.codec.decoder.decode_after.Goals as goal
 
 pub returns-then-decode_body-clause-spells : goal.returns-then-decode_body-clause-spells
@@ -11,7 +11,7 @@ returns-then-decode_body-clause-spells g c = λ h.
     let m = length c.split_at_mut-first.result.1.now in
     let twice : 2 * length c.args.output.now ≡ suc (suc (2 * m)) =
     omega (arith, c.requires, c.split_at_mut-first.ensures.back_len) in
-    rw (first_and_rest digits (omega arith), twice)
+    rw (drop_more digits 0 0 (omega arith), twice)
     (Spells-append (c.args.high ∷ get_or digits 0 0 ∷ []) _ (take (2 * m) rest) _ (c.if-decode_body.ensures.spells refl)
     (rw (take_rest digits 1) at (c.decode_digits.ensures.spells h)))
 
@@ -19,7 +19,7 @@ pub returns-then-decode_body-clause-refused : goal.returns-then-decode_body-clau
 returns-then-decode_body-clause-refused g c = λ h.
     let digits = c.args.digits.now in
     let rest = drop 1 digits in
-    rw (first_and_rest digits (omega arith))
+    rw (drop_more digits 0 0 (omega arith))
     (rest_refused (c.args.high ∷ get_or digits 0 0 ∷ []) rest c.args.output.now _ _ 1 (omega arith)
     (c.if-decode_body.ensures.spells refl) (omega (arith, c.requires))
     (rw (c.split_at_mut-first.ensures.back, take_rest digits 1) at (c.decode_digits.ensures.refused h)))
@@ -28,6 +28,6 @@ pub returns-else-decode_body-clause-refused : goal.returns-else-decode_body-clau
 returns-else-decode_body-clause-refused g c = λ h.
     let digits = c.args.digits.now in
     let pair = rw c.split_at_mut-first.ensures.front at (c.if-decode_body.ensures.refused refl) in
-    rw (c.split_at_mut-first.ensures.back, first_and_rest digits (omega arith))
+    rw (c.split_at_mut-first.ensures.back, drop_more digits 0 0 (omega arith))
     (Partial-longer _ (c.args.high ∷ get_or digits 0 0 ∷ []) _ (drop 1 digits)
-    (partial_front c.args.output.now _ c.decode_body.new.output 1 (omega (arith, c.requires)) refl pair))
+    (partial_pairs c.args.output.now _ c.decode_body.new.output 1 (omega (arith, c.requires)) refl pair))

@@ -1,5 +1,4 @@
 use Rattle.std.proofs.Common.{refl, arith, length, ◌*◌}
-use Rattle.const_hex_arch.proofs.lemmas.Standard.{false_is_true}
 use Rattle.const_hex_arch.proofs.lemmas.Digits.{digits_parts}
 use Rattle.const_hex_arch.proofs.lemmas.Texts.{Spells-digits}
 use Rattle.const_hex.proofs.lemmas.Decoding.{last_refused, pairs_refused}
@@ -12,7 +11,7 @@ returns-then-decode_body-clause-digits g c = λ h.
     (Spells-digits _ _ s, rw c.split_at.ensures.back at (c.check_last.ensures.0 h))
 
 pub returns-then-decode_body-clause-refused : goal.returns-then-decode_body-clause-refused
-returns-then-decode_body-clause-refused g c = grind (arith, last_refused, false_is_true)
+returns-then-decode_body-clause-refused g c = grind (arith, last_refused)
 
 pub returns-else-decode_body-clause-refused : goal.returns-else-decode_body-clause-refused
 returns-else-decode_body-clause-refused g c = grind (arith, pairs_refused)

@@ -1,7 +1,7 @@
 use Rattle.std.proofs.Common.{◌≡◌, ◌+◌, ◌-◌, ◌*◌, ◌≤◌, length, refl, arith, take_all}
+use Rattle.std.proofs.lemmas.Bool.{false≢true}
 use borrow.Rule.Slice.PartMut.{put_mid}
 use Rattle.const_hex_arch.proofs.lemmas.FirstInvalid.{none_decoded}
-use Rattle.const_hex_arch.proofs.lemmas.Standard.{false_is_true}
 use Rattle.const_hex_arch.proofs.lemmas.Steps.{IsDecoded, decoded_step, decoded_less, kept_step, refused_step, spells_rest, refused_rest}
 use Rattle.const_hex_arch.proofs.arch.loops.decode_in_steps.Goals as goal
 use Rattle.const_hex_arch.proofs.arch.loops.decode_in_steps.Goals.{Joined-output-at-ge16, else-loop-output-test, then-loop-output-test+then-not-decode_two_steps+else-not-this-2, then-output-at-ge16+else-not-decode_step-2, else-output-at-ge16}
@@ -22,12 +22,12 @@ loop-output-2-preserved g c =
 pub returns-then-not-decode_step-clause-refused : goal.returns-then-not-decode_step-clause-refused
 returns-then-not-decode_step-clause-refused g c = λ _.
     let is = c.if-not-decode_step.ensures in
-    refused_step _ _ _ _ c.loop-output-2.invariant c.requires (is.unchanged refl) (λ d. false_is_true (is.digits.1 d))
+    refused_step _ _ _ _ c.loop-output-2.invariant c.requires (is.unchanged refl) (λ d. false≢true (is.digits.1 d))
 
 pub returns-then-not-decode_step-2-clause-refused : goal.returns-then-not-decode_step-2-clause-refused
 returns-then-not-decode_step-2-clause-refused g c = λ _.
     let is = c.if-not-decode_step-2.ensures in
-    refused_step _ _ _ _ c.loop-output-2.invariant c.requires (is.unchanged refl) (λ d. false_is_true (is.digits.1 d))
+    refused_step _ _ _ _ c.loop-output-2.invariant c.requires (is.unchanged refl) (λ d. false≢true (is.digits.1 d))
 
 -- before the remainder
 decoded : (g : _) (c : Joined-output-at-ge16 g) → (length c.if-output-at-ge16.output ≤ c.if-output-at-ge16.at + 16)
@@ -59,21 +59,21 @@ returns-then-decode_step-clause-spells g c = λ _.
     (c.if-decode_step.ensures.spells refl)
 
 pub returns-then-output-le16-clause-refused : goal.returns-then-output-le16-clause-refused
-returns-then-output-le16-clause-refused g c = grind (arith, none_decoded, false_is_true)
+returns-then-output-le16-clause-refused g c = grind (arith, none_decoded)
 
 pub returns-then-not-this-2-clause-refused : goal.returns-then-not-this-2-clause-refused
 returns-then-not-this-2-clause-refused g c = λ _.
     let is = c.if-not-decode_two_steps.ensures in
-    refused_step _ _ _ _ c.loop-output.invariant c.requires (is.unchanged refl) (λ d. false_is_true (is.digits.1 d))
+    refused_step _ _ _ _ c.loop-output.invariant c.requires (is.unchanged refl) (λ d. false≢true (is.digits.1 d))
 
 pub returns-else-this-ne0-clause-refused : goal.returns-else-this-ne0-clause-refused
-returns-else-this-ne0-clause-refused g c = grind (arith, none_decoded, false_is_true)
+returns-else-this-ne0-clause-refused g c = grind (arith, none_decoded)
 
 pub returns-else-this-ne0-2-clause-refused : goal.returns-else-this-ne0-2-clause-refused
 returns-else-this-ne0-2-clause-refused g c = λ _.
     let before = decoded g (goal.at.returns-else-this-ne0-2-clause-refused g c).Joined-output-at-ge16 in
     let is = c.if-decode_step.ensures in
-    refused_step _ _ _ _ before.1 c.requires (is.unchanged refl) (λ d. false_is_true (is.digits.1 d))
+    refused_step _ _ _ _ before.1 c.requires (is.unchanged refl) (λ d. false≢true (is.digits.1 d))
 
 pub returns-then-this-ne0-2 : goal.returns-then-this-ne0-2
 returns-then-this-ne0-2 g c =

@@ -1,5 +1,4 @@
-use Rattle.std.proofs.Common.{◌+◌, ◌-◌, ◌<◌, length, refl, arith}
-use Rattle.const_hex.specs.Prelude.{listed}
+use Rattle.std.proofs.Common.{◌+◌, ◌-◌, ◌<◌, length, refl, arith, option_to_list}
 use Rattle.hexfilter_core.proofs.lemmas.Texts.{added_byte, added_run, part_size}
 use Rattle.hexfilter_core.proofs.scanner.Scanner.text.Goals as goal
 
@@ -32,7 +31,7 @@ runs-preserved c =
       so_far = λ x is.
           let run = added_run _ _ _ x chunk _ c.runs.end done (i.so_far x is) _ n _ i.within (omega (arith, space))
           (omega (arith, ran.length, ran.within, size, space)) ran.added in
-          added_byte _ _ _ x chunk _ (c.runs.end + n) (done + n) run _ (listed c.next-added.result) c.put-end.result
-          inside c.put-end.ensures.front
+          added_byte _ _ _ x chunk _ (c.runs.end + n) (done + n) run _ (option_to_list c.next-added.result)
+          c.put-end.result inside c.put-end.ensures.front
           (c.next-added.ensures _ run.scanned);
     }
