@@ -143,6 +143,7 @@ impl<const N: usize, const PREFIX: bool, const LEN: usize> Buffer<N, PREFIX, LEN
     }
 
     /// As `write_text`, for an array.
+    // For `format` and `format_upper`, whose proofs follow the steps of a call with an array.
     #[inline]
     fn write_array(&mut self, input: &[u8; N], upper: bool) -> Lent<'_>
         requires { LEN ≡ text_length PREFIX N }

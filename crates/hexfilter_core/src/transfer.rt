@@ -40,7 +40,7 @@ pub(crate) fn too_many_reads() -> RunError
 }
 
 /// Writes all the bytes. A call that a signal interrupts is made again.
-// `WriteSink` of const_hex has the same loop, but passes on only text.
+// `WriteSink` of const_hex has the same loop, but is private there, and does not exist in Rust.
 #[tactic(auto, using(const_hex::proofs::lemmas::WriteSinks::writes))]
 pub(crate) fn write_piece<W: Write>(output: &mut W, piece: &[u8]) -> Result<(), RunError>
     ensures ok { OnOk result (Appends (W.contents output.old) (W.contents output.new) piece.now) }

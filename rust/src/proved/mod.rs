@@ -56,7 +56,7 @@ pub use self::formatting::text::*;
 //    2  before it reads a part, or ends
 //   54  deleted: attribute
 //  520  deleted: clause
-//  149  deleted: ghost item
+//  146  deleted: ghost item
 //    5  deleted: model
 //    1  each value may be dropped
 //    7  kernels that no target uses are left out, callers that nothing exports, and a sink that allocates

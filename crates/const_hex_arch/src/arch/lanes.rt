@@ -118,7 +118,7 @@ pub(crate) fn decode<const N: usize, V: LaneOps<N>>(
     V::merge(values::<N, V>(first), values::<N, V>(second), second_row)
 }
 
-/// As [`decode`], by [`unhex`], for lanes that were tested before.
+/// As [`decode`], by [`unhex`], which looks up no limits, for lanes that were tested before.
 #[inline(always)]
 #[tactic(auto, using(crate::proofs::lemmas::LaneValues::merge_spells))]
 pub(crate) fn decode_digits<const N: usize, V: LaneOps<N>>(

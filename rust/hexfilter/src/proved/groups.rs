@@ -39,6 +39,8 @@ pub(crate) fn put_groups(
 
 /// Puts whole groups into the output, each after a separator, until at most `SHORT` characters are left. Returns how many
 /// were put there, and how many bytes these are with their separators.
+// Faster than a group at a time: by rustc 1.95 for x86-64, hexfilter takes 2.0 million instructions in place of 13.9
+// to write 262,144 bytes in groups of 1, and 1.7 in place of 3.5 in groups of 4.
 #[inline(never)]
 fn put_short(groups: Groups, text: &[u8], output: &mut [u8]) -> (usize, usize) {
     let mut done = 0;

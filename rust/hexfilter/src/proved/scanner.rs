@@ -63,6 +63,8 @@ impl Scanner {
     }
 
     /// Copies bytes before the next that is left out or is below 33, or fewer. Returns how many.
+    // Faster than a byte at a time: by rustc 1.95 for x86-64, hexfilter takes 1.3 million instructions in place of
+    // 11.6 to decode 262,144 bytes with `--ignore-whitespace`, and 6.1 in place of 20.4 from groups of 4.
     #[inline(always)]
     fn run(&mut self, reading: Reading, chunk: &[u8], output: &mut [u8]) -> usize {
         let count = copy_block(chunk, output);

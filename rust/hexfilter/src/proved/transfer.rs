@@ -28,7 +28,7 @@ pub(crate) fn too_many_reads() -> RunError {
 }
 
 /// Writes all the bytes. A call that a signal interrupts is made again.
-// `WriteSink` of const_hex has the same loop, but passes on only text.
+// `WriteSink` of const_hex has the same loop, but is private there, and does not exist in Rust.
 pub(crate) fn write_piece<W: Write>(output: &mut W, piece: &[u8]) -> Result<(), RunError> {
     let mut done = 0;
     'writes: for _ in 0..u64::MAX {

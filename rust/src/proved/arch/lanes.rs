@@ -87,7 +87,7 @@ pub(crate) fn decode<const N: usize, V: LaneOps<N>>(
     V::merge(values::<N, V>(first), values::<N, V>(second), second_row)
 }
 
-/// As [`decode`], by [`unhex`], for lanes that were tested before.
+/// As [`decode`], by [`unhex`], which looks up no limits, for lanes that were tested before.
 #[inline(always)]
 pub(crate) fn decode_digits<const N: usize, V: LaneOps<N>>(
     first: Simd<u8, N>,
