@@ -160,7 +160,7 @@ struct Digits<'a, const UPPER: bool, const PREFIX: bool>(&'a [u8]);
 impl<const UPPER: bool, const PREFIX: bool> Serialize for Digits<'_, UPPER, PREFIX> {
     #[inline]
     fn serialize<S: Serializer>(&self, serializer: S) -> Result<S::Ok, S::Error> {
-        // What has a longer text is printed.
+        // What has a longer text is printed. A short one would take 150 instructions more so (rustc 1.95, x86-64).
         match self.0.len() <= 128 {
             true => {
                 let mut space = Space::<{ 2 + 2 * 128 }>::new();

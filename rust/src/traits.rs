@@ -179,6 +179,8 @@ to_hex! {
 }
 
 /// Collects the digits of bytes.
+// The last arm alone would take 764 instructions in place of 274 for 16 bytes to a `Vec<char>`, and 396 in place of 271
+// for one byte to a `String` (rustc 1.95, x86-64).
 #[inline]
 fn digits<const UPPER: bool, T: FromIterator<char>>(bytes: &[u8]) -> T {
     match bytes {

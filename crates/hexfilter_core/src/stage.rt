@@ -196,6 +196,8 @@ impl Stage {
             let count = self.scanner.text(reading, part, text);
             return decode_text(&mut self.decoder, reading, &text[..count], output);
         }
+        // Not by the scanner, which would copy the part: by rustc 1.95 for x86-64, hexfilter takes 0.5 million
+        // instructions in place of 0.8 to decode 262,144 digits.
         decode_text(&mut self.decoder, reading, part, output)
     }
 

@@ -83,6 +83,7 @@ pub(crate) fn check_pair<const N: usize, V: LaneOps<N>>(first: &[u8], second: &[
 }
 
 /// As `check_step`, for the text of two steps, by one test.
+// Not by `check_pair` of its halves, which would make the proof of `check_in_steps` longer.
 #[inline(always)]
 #[tactic(auto, using(crate::proofs::lemmas::Standard::through))]
 pub(crate) fn check_two_steps<const N: usize, V: LaneOps<N>>(text: &[u8]) -> bool
