@@ -129,6 +129,5 @@ class OrNull(Dispatched):
         state.store(given, split(fresh("g", 128)))
 
 
-OR_NULL = [OrNull(name, FUNCTIONS[name].parameters, is_null) for name in sorted(WITH_ERROR)
-           for is_null in (False, True)]
+OR_NULL = [OrNull(name, FUNCTIONS[name].parameters, is_null) for name in sorted(WITH_ERROR) for is_null in (0, 1)]
 CHOICES = [choice(name, parameters) for choice in (Kernel, OfRust) for name, parameters in KERNELS.items()]

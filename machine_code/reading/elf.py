@@ -141,7 +141,7 @@ def _read_relocations(image, dynamic):
     for tag, start, size in (PLTGOT, 8, 16), (TLSDESC_GOT, 0, 8):
         if tag in dynamic:
             image.change(dynamic[tag] + start, size)
-    place = 0
+    place = -1 << 64  # Bits before an address lie nowhere.
     for [entry] in struct.iter_unpack("<Q", image.content(dynamic.get(RELR, 0), dynamic.get(RELR_SIZE, 0))):
         place, bits, count = (place, entry >> 1, 63) if entry & 1 else (entry, 1, 1)
         for number in range(count):

@@ -107,6 +107,9 @@ def _read_imports(image, address):
 def _read_exports(image, address, size):
     """Adds functions as the loader finds them, in a table of names that is sorted."""
     limit, count, places, names, numbers = image.numbers("<IIIII", address + 20)
+    # Others may write to what is exported, and nothing says how large it is.
+    for place in image.numbers(f"<{limit}I", places):
+        image.shared += [range(part.address, part.address + part.size) for part in [image.segment_at(place)] if part]
     names = [image.name_of(name) for name in image.numbers(f"<{count}I", names)]
     if names != sorted(set(names)):
         raise ValueError("a table of names that is not sorted, or has one twice")

@@ -12,7 +12,6 @@ import unittest
 
 TOP = pathlib.Path(__file__).resolve().parents[2]
 ASM, RUST = TOP / "c" / "asm", TOP / "rust" / "src" / "asm"
-# That for C, with what it includes, and a short name for the byte that is kept.
 DISPATCHER = (ASM / "dispatch.S").read_text().replace('#include "../../rust/src/asm/dispatch.s"', (
     RUST / "dispatch.s").read_text()).replace("const_hex_1_0_0_choice", "choice")
 MODULE = os.environ.get("CONST_HEX_MODULE", TOP / "js" / "src" / "const_hex.wasm")

@@ -109,11 +109,6 @@ def chain(index, name=None):
     return changed
 
 
-def of_threads(**changes):
-    """The header of the stack becomes that of variables of threads."""
-    return lambda file: (segment(6, 0x6474E551, **changes)(file), put("<I", STACK, 7)(file))
-
-
 def other_call(file):
     """A call of a function goes to another one."""
     start, old, new = [file.value(f"const_hex_{name}") for name in ("check_raw", "kernel_check", "kernel_read")]
@@ -122,6 +117,7 @@ def other_call(file):
     file.put("<i", place, file.numbers("<i", place)[0] + new - old)
 
 
+of_threads = lambda **changes: lambda file: (segment(6, 0x6474E551, **changes)(file), put("<I", STACK, 7)(file))
 WRITTEN, ENDS, PLAIN = "a place that has no constant, or may be written", "it leaves the code", "is no plain function"
 VERSION, CHECK, FILL = "const_hex_version", "const_hex_kernel_check", "const_hex_kernel_fill_v3"
 CLOSED, KNOWN, PLACES = "is no part of a segment", "twice or not known here", "another kind, or has two places"
@@ -240,6 +236,7 @@ CHANGED_MORE = [
     ("packed relocations", "packed", lambda file: None, CHECK, "accepted"),
     ("a packed relocation of the choice", "packed", packed(0, 1, 1), CHECK, WRITTEN),
     ("a packed bit for the choice", "packed", packed(-8, 3, 1), CHECK, WRITTEN),
+    ("a packed bit without a word", "packed", put("<Q", lambda file: file.table(36), 3), CHECK, "writes to -0x1"),
     ("a packed bit for the choice after 63 words", "packed", packed(-512, 1, 3), CHECK, WRITTEN),
 ]
 C, DISPATCH, FALSE = "functions_x86_64", "dispatch", "mov $1, %eax; ret"

@@ -59,12 +59,12 @@ class Pe(File):
         return next(place for place in range(first, first + 18 * count, 18) if self.numbers("<II", place) == (0, start))
 
 
-def linked_for_windows(kernel=""):
-    """A DLL with the Rust crate's kernels, and functions that have the names of those for C, of which the first may
-    be exported by the name of a kernel, too."""
+def linked_for_windows(export=""):
+    """A DLL with the Rust crate's kernels, and functions that have the names of those for C, and perhaps one more name
+    that is exported."""
     stubs = "".join(f'.globl {name}\n{name}: ret\n.section .drectve, "yn"\n.ascii " -export:{name}"\n.text\n'
                     for name in NAMES)
-    stubs += f'.section .drectve, "yn"\n.ascii " -export:{kernel}={NAMES[0]}"\n' if kernel else ""
+    stubs += f'.globl {CHOICE}\n.section .drectve, "yn"\n.ascii " -export:{export}"\n' if export else ""
     text = "".join((RUST / f"{part}.s").read_text() for part in ("coff", "x86_64_v2", "x86_64_v3", "dispatch", "end"))
     with tempfile.TemporaryDirectory() as folder:
         pathlib.Path(folder, "source.s").write_text(f".intel_syntax noprefix\n{text}.text\n{stubs}")
@@ -375,7 +375,11 @@ class TestPe(unittest.TestCase):
 
     def test_another_function_by_the_name_of_a_kernel(self):
         with self.assertRaisesRegex(ValueError, f"{FILL} {OTHER_KIND}"):
-            library.whole(linked_for_windows(FILL))
+            library.whole(linked_for_windows(f"{FILL}={NAMES[0]}"))
+
+    def test_a_variable_of_others_over_the_byte(self):
+        file = linked_for_windows(f"counter={CHOICE},data")
+        self.assertEqual(read(file, FILL, kept=place_of(Pe(file), CHOICE)), NO_CHOICE)
 
 
 @unittest.skipUnless(shutil.which(LLD) and shutil.which("clang"), "clang or ld64.lld is missing")
