@@ -186,7 +186,8 @@ PES = [
     ("a name twice", put("<I", names(), number_at(names(4))), "not sorted"),
     ("a name that is relocated", base_relocation(number_at(names()), 12), NOWHERE),
     ("a name that is missing", put("<I", content(0, 24), 9), "does not find const_hex_version"),
-    ("a function of another file", put("<I", EXPORTED, lambda file: place_of(file, ".edata") + 40), OTHER_KIND),
+    ("a function of another file", lambda file: (put("<I", EXPORTED, lambda file: place_of(file, ".edata") + 40)(file),
+                                                 head("<II", 12, 0, 0)(file)), OTHER_KIND),
     ("another function by a name", put("<I", EXPORTED, 4096), OTHER_KIND),
 ]
 

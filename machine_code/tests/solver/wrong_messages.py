@@ -88,8 +88,7 @@ OF_DISPATCHERS = [
     ("fill", "no look at OSXSAVE", "0x38401000", "0x30401000", "a CPU that may not have it"),
     ("fill", "another leaf", "mov\teax, 7", "mov\teax, 6", "another leaf of cpuid"),
     ("fill", "another part of a leaf", "xor\tecx, ecx\n\tcpuid", "mov\tecx, 1\n\tcpuid", "part of one"),
-    ("fill", "other registers", "xor\tecx, ecx\n\txgetbv", "mov\tecx, 1\n\txgetbv",
-     "another register of xgetbv"),
+    ("fill", "other registers", "xor\tecx, ecx\n\txgetbv", "mov\tecx, 1\n\txgetbv", "another register of xgetbv"),
     ("fill", "AVX", "\tpush\trbx", "\tvzeroupper\n\tpush\trbx", "is not what the assembler"),
 ]
 OF_DISPATCHERS += [(each.function, "as it is", "", "", None, each.name) for each in (*OR_NULL, *CHOICES)]
