@@ -50,10 +50,9 @@ class Image:
             raise ValueError("the headers do not lie at the start of the first segment")
         self.first = self.first if self.segments else address // self.page * self.page
         self.size = address + size - self.first
-        # Loaders count with 32 bits what lies in tables, and overflow near 2^64. No process has what lies above 2^47.
-        if in_file > size or self.size >> 32 or (address + size) >> 47 or len(data) < offset + in_file:
-            raise ValueError("a segment that is larger in the file than in memory, or not in it, or ends after 4 GB "
-                             "or 2^47")
+        # Loaders count with 32 bits what lies in tables, and overflow near 2^64. Stacks lie above 2^46.
+        if in_file > size or self.size >> 32 or (address + size) >> 46 or len(data) < offset + in_file:
+            raise ValueError("a segment larger in the file than in memory, or not in it, or ends after 4 GB or 2^46")
         self.segments.append(Segment(address, size, data[offset : offset + in_file], kind))
 
     def add_symbol(self, name, place, is_plain=True):

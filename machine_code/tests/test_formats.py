@@ -6,6 +6,7 @@ import re
 import shutil
 import struct
 import subprocess
+import sys
 import tempfile
 import unittest
 
@@ -60,8 +61,7 @@ class Pe(File):
 
 
 def linked_for_windows(export=""):
-    """A DLL with the Rust crate's kernels, and functions that have the names of those for C, and perhaps one more name
-    that is exported."""
+    """A DLL with the Rust crate's kernels, functions that have the names of those for C, and perhaps one more export."""
     stubs = "".join(f'.globl {name}\n{name}: ret\n.section .drectve, "yn"\n.ascii " -export:{name}"\n.text\n'
                     for name in NAMES)
     stubs += f'.globl {CHOICE}\n.section .drectve, "yn"\n.ascii " -export:{export}"\n' if export else ""
@@ -87,8 +87,7 @@ def content(number, more=0):
     return lambda file: file.offset(file.numbers("<I", file.table(number))[0]) + more
 
 
-def number_at(place):
-    return lambda file: file.numbers("<I", place(file))[0]
+number_at = lambda place: lambda file: file.numbers("<I", place(file))[0]
 
 
 def names(more=0):
@@ -373,6 +372,11 @@ class TestPe(unittest.TestCase):
         file = Pe(self.right)
         change(file)
         self.assertRegex(read(bytes(file), FILL, CONSTANT_OF_FILL, kept and place_of(file, kept)), wanted)
+
+    def test_functions_for_c(self):
+        command = [sys.executable, pathlib.Path(__file__).parents[1] / "prove", "/dev/stdin"]
+        said = subprocess.run(command, input=self.right, capture_output=True).stdout
+        self.assertIn(b"by another ABI", said)
 
     def test_another_function_by_the_name_of_a_kernel(self):
         with self.assertRaisesRegex(ValueError, f"{FILL} {OTHER_KIND}"):
