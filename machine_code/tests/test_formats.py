@@ -61,7 +61,7 @@ class Pe(File):
 
 
 def linked_for_windows(export=""):
-    """A DLL with the Rust crate's kernels, functions that have the names of those for C, and perhaps one more export."""
+    """A DLL with the Rust crate's kernels, functions with the names of those for C, and perhaps one more export."""
     stubs = "".join(f'.globl {name}\n{name}: ret\n.section .drectve, "yn"\n.ascii " -export:{name}"\n.text\n'
                     for name in NAMES)
     stubs += f'.globl {CHOICE}\n.section .drectve, "yn"\n.ascii " -export:{export}"\n' if export else ""
@@ -155,7 +155,8 @@ PES = [
     ("a relocation of the relocations", base_relocation(".reloc"), NOWHERE),
     ("a relocation of the headers", base_relocation(lambda file: 256), MUST_NOT),
     ("a relocation of exports", base_relocation(".edata", 16), NOWHERE),
-    ("a block of relocations of a part of a word", put("<I", content(5, 4), 11), "a part of a word"),
+    ("a block of relocations of a part of a word", lambda file: (
+        put("<I", content(5, 4), 10)(file), file.put("<I", file.table(5) + 4, 10)), "a part of a word"),
     ("a block of relocations beyond their end", put("<I", lambda file: file.table(5) + 4, 8), "beyond their end"),
     ("relocations without an end", put("<I", content(5, 4), 0), "a part of a word"),
     ("a number for threads over a constant", put("<Q", content(9, 16), lambda file: (

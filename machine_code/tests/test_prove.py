@@ -67,7 +67,6 @@ class TestProve(unittest.TestCase):
         for argv, refused, wanted in (
             (["/dev/null"], None, "0 passed, 1 failed"), (["nowhere"], None, "0 passed, 1 failed"),
             ([self.file], None, "43 passed, 0 failed"), ([self.file], "version", "42 passed, 1 failed"),
-            # Each of two files counts, also if they are the same.
             ([self.file, self.other, "/dev/null"], "version", "84 passed, 3 failed"),
             ([self.file, "--call", "version"], None, "1 passed, 0 failed; --call has left out 42 of 43 proofs"),
             ([self.file, "--call", "kernel_fill"], None, "5 passed, 0 failed; --call has left out 38 of 43 proofs"),
