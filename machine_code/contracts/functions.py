@@ -91,7 +91,7 @@ def must_be_a_front(state):
 class Function:
     """A function with its arguments. `symbol` is how its name looks; what others call by its contract has less stack.
     `regions` are what it may access, some of which depend on how many bytes a size_t has. `empty` are its buffers, with
-    their sizes, for which NULL may be passed if they are empty; `passed` is what functions do that are arguments."""
+    their sizes, for which NULL may be passed if they are empty. `passed` has what a function does that is an argument."""
 
     is_called = is_local = may_leak = is_unrolled = False
     is_in_module = True
