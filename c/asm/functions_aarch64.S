@@ -9,62 +9,61 @@
 	stp x29, x30, [sp, #-48]!
 	cmp x0, #0x0
 	mov w8, #0x1000
-	str x21, [sp, #16]
-	csel x8, x8, xzr, eq
+	stp x22, x21, [sp, #16]
+	csel x9, x8, xzr, eq
 	stp x20, x19, [sp, #32]
 	mov x29, sp
 	tbnz w1, #0, 3f
-	add x19, x0, x8
+	subs x8, x1, #0x2
+	add x19, x0, x9
 	mov x21, x2
-	subs x9, x1, #0x2
-	mov x8, x1
-	mov x0, x19
-	b.cc 2f
-	ldrh w8, [x19]
-	mov w10, #0x7830
-	add x11, x19, #0x2
-	orr w8, w8, #0x2000
-	cmp w8, w10
-	csel x8, x9, x1, eq
-	csel x0, x11, x19, eq
-2:
+	b.cs 5f
+	mov x22, x1
 	mov x20, x1
-	mov x1, x8
+	mov x0, x19
 	bl SYMBOL(const_hex_kernel_check)
-	tbz w0, #0, 5f
-	mov w8, #0x1
-	ldp x20, x19, [sp, #32]
-	mov w0, w8
-	ldr x21, [sp, #16]
-	ldp x29, x30, [sp], #48
-	ret
-3:
-	mov w9, wzr
-	mov x0, xzr
-	mov w10, #0x1
-4:
-	mov w8, wzr
-	stp w10, w9, [x2]
-	str x0, [x2, #8]
-	ldp x20, x19, [sp, #32]
-	mov w0, w8
-	ldr x21, [sp, #16]
-	ldp x29, x30, [sp], #48
-	ret
-5:
+	tbnz w0, #0, 6f
+2:
 	mov x0, x19
 	mov x1, x20
 	bl const_hex_body_locate_invalid
-	cmp x0, x20
-	b.cs 6f
-	ldrb w9, [x19, x0]
-	b 7f
-6:
-	mov w9, wzr
-7:
+	sub x8, x22, x20
+	and w9, w0, #0xff
 	mov w10, #0x3
+	add x8, x8, x1
 	mov x2, x21
-	b 4b
+	b 4f
+3:
+	mov w9, wzr
+	mov x8, xzr
+	mov w10, #0x1
+4:
+	mov w0, wzr
+	stp w10, w9, [x2]
+	str x8, [x2, #8]
+	ldp x20, x19, [sp, #32]
+	ldp x22, x21, [sp, #16]
+	ldp x29, x30, [sp], #48
+	ret
+5:
+	ldrh w9, [x19]
+	mov w10, #0x7830
+	add x11, x19, #0x2
+	mov x22, x1
+	orr w9, w9, #0x2000
+	cmp w9, w10
+	csel x20, x8, x1, eq
+	csel x19, x11, x19, eq
+	mov x0, x19
+	mov x1, x20
+	bl SYMBOL(const_hex_kernel_check)
+	tbz w0, #0, 2b
+6:
+	mov w0, #0x1
+	ldp x20, x19, [sp, #32]
+	ldp x22, x21, [sp, #16]
+	ldp x29, x30, [sp], #48
+	ret
 	end SYMBOL(const_hex_check_nonnull)
 
 /* const_hex_c::const_hex_check_raw */
@@ -87,74 +86,69 @@
 	stp x29, x30, [sp, #-48]!
 	mov w8, #0x1000
 	cmp x0, #0x0
-	str x21, [sp, #16]
-	csel x9, x8, xzr, eq
+	stp x22, x21, [sp, #16]
+	csel x10, x8, xzr, eq
 	cmp x2, #0x0
 	stp x20, x19, [sp, #32]
 	csel x8, x8, xzr, eq
 	mov x29, sp
-	tbnz w1, #0, 3f
-	add x19, x0, x9
+	tbnz w1, #0, 2f
 	subs x9, x1, #0x2
-	mov x10, x1
-	mov x0, x19
-	b.cc 2f
+	add x19, x0, x10
+	b.cs 3f
+	mov x20, x1
+	b 4f
+2:
+	mov w9, wzr
+	mov x8, xzr
+	mov w10, #0x1
+	b 6f
+3:
 	ldrh w10, [x19]
 	mov w11, #0x7830
-	mov x0, x19
+	mov x20, x1
 	orr w10, w10, #0x2000
 	cmp w10, w11
-	mov x10, x1
-	b.ne 2f
-	add x0, x19, #0x2
-	mov x10, x9
-2:
-	cmp x3, x10, lsr #1
 	b.ne 4f
-	mov x20, x1
+	add x19, x19, #0x2
+	mov x20, x9
+4:
+	cmp x3, x20, lsr #1
+	b.ne 5f
+	mov x22, x1
 	add x1, x2, x8
+	mov x0, x19
 	mov x2, x3
 	mov x21, x4
 	bl SYMBOL(const_hex_kernel_read)
-	tbz w0, #0, 6f
-	mov w8, #0x1
+	tbz w0, #0, 7f
+	mov w0, #0x1
 	ldp x20, x19, [sp, #32]
-	mov w0, w8
-	ldr x21, [sp, #16]
+	ldp x22, x21, [sp, #16]
 	ldp x29, x30, [sp], #48
 	ret
-3:
-	mov w9, wzr
-	mov x0, xzr
-	mov w10, #0x1
-	b 5f
-4:
-	mov w9, wzr
-	mov x0, xzr
-	mov w10, #0x2
 5:
-	mov w8, wzr
+	mov w9, wzr
+	mov x8, xzr
+	mov w10, #0x2
+6:
+	mov w0, wzr
 	stp w10, w9, [x4]
-	str x0, [x4, #8]
+	str x8, [x4, #8]
 	ldp x20, x19, [sp, #32]
-	mov w0, w8
-	ldr x21, [sp, #16]
+	ldp x22, x21, [sp, #16]
 	ldp x29, x30, [sp], #48
 	ret
-6:
+7:
 	mov x0, x19
 	mov x1, x20
 	bl const_hex_body_locate_invalid
-	cmp x0, x20
-	b.cs 7f
-	ldrb w9, [x19, x0]
-	b 8f
-7:
-	mov w9, wzr
-8:
+	sub x8, x22, x20
+	and w9, w0, #0xff
 	mov w10, #0x3
+	add x8, x8, x1
 	mov x4, x21
-	b 5b
+	b 6b
 	end SYMBOL(const_hex_decode_exact_nonnull)
 
 /* const_hex_c::const_hex_decode_nonnull */
@@ -163,83 +157,78 @@
 	stp x29, x30, [sp, #-64]!
 	cmp x0, #0x0
 	mov w8, #0x1000
-	str x23, [sp, #16]
-	csel x9, x8, xzr, eq
+	stp x24, x23, [sp, #16]
+	csel x10, x8, xzr, eq
 	cmp x2, #0x0
 	stp x22, x21, [sp, #32]
 	csel x8, x8, xzr, eq
 	stp x20, x19, [sp, #48]
 	mov x29, sp
-	tbnz w1, #0, 3f
-	add x19, x0, x9
+	tbnz w1, #0, 2f
 	subs x9, x1, #0x2
-	mov x10, x1
-	mov x0, x19
-	b.cc 2f
-	ldrh w10, [x19]
-	mov w11, #0x7830
-	mov x0, x19
-	orr w10, w10, #0x2000
-	cmp w10, w11
-	mov x10, x1
-	b.ne 2f
-	add x0, x19, #0x2
-	mov x10, x9
-2:
-	lsr x20, x10, #1
-	cmp x3, x20
-	b.cs 5f
-	mov w9, wzr
-	mov x0, xzr
-	str xzr, [x4]
-	mov w10, #0x2
+	add x19, x0, x10
+	b.cs 3f
+	mov x20, x1
 	b 4f
-3:
+2:
 	mov w9, wzr
-	mov x0, xzr
+	mov x8, xzr
 	str xzr, [x4]
 	mov w10, #0x1
+	b 5f
+3:
+	ldrh w10, [x19]
+	mov w11, #0x7830
+	mov x20, x1
+	orr w10, w10, #0x2000
+	cmp w10, w11
+	b.ne 4f
+	add x19, x19, #0x2
+	mov x20, x9
 4:
-	mov w8, wzr
-	stp w10, w9, [x5]
-	str x0, [x5, #8]
-	ldp x20, x19, [sp, #48]
-	mov w0, w8
-	ldp x22, x21, [sp, #32]
-	ldr x23, [sp, #16]
-	ldp x29, x30, [sp], #64
-	ret
+	lsr x21, x20, #1
+	cmp x3, x21
+	b.cs 6f
+	mov w9, wzr
+	mov x8, xzr
+	str xzr, [x4]
+	mov w10, #0x2
 5:
-	mov x23, x1
-	add x1, x2, x8
-	mov x2, x20
-	mov x22, x4
-	mov x21, x5
-	bl SYMBOL(const_hex_kernel_read)
-	tbz w0, #0, 6f
-	str x20, [x22]
-	mov w8, #0x1
+	mov w0, wzr
+	stp w10, w9, [x5]
+	str x8, [x5, #8]
 	ldp x20, x19, [sp, #48]
-	mov w0, w8
 	ldp x22, x21, [sp, #32]
-	ldr x23, [sp, #16]
+	ldp x24, x23, [sp, #16]
 	ldp x29, x30, [sp], #64
 	ret
 6:
+	mov x24, x1
+	add x1, x2, x8
 	mov x0, x19
-	mov x1, x23
-	bl const_hex_body_locate_invalid
-	cmp x0, x23
-	b.cs 7f
-	ldrb w9, [x19, x0]
-	b 8f
+	mov x2, x21
+	mov x23, x4
+	mov x22, x5
+	bl SYMBOL(const_hex_kernel_read)
+	cbz w0, 7f
+	str x21, [x23]
+	mov w0, #0x1
+	ldp x20, x19, [sp, #48]
+	ldp x22, x21, [sp, #32]
+	ldp x24, x23, [sp, #16]
+	ldp x29, x30, [sp], #64
+	ret
 7:
-	mov w9, wzr
-8:
+	mov x0, x19
+	mov x1, x20
+	bl const_hex_body_locate_invalid
+	sub x8, x24, x20
+	and w9, w0, #0xff
 	mov w10, #0x3
-	mov x5, x21
-	str xzr, [x22]
-	b 4b
+	add x8, x8, x1
+	mov x5, x22
+	str xzr, [x23]
+	b 5b
 	end SYMBOL(const_hex_decode_nonnull)
 
 /* const_hex_c::const_hex_decoder_finish_nonnull */
@@ -741,83 +730,68 @@
 
 /* const_hex::codec::body::locate_invalid */
 	function const_hex_body_locate_invalid
-	cbz x1, 2f
+	adrp_label x10, const_hex_constant_7
+	add_label x10, x10, const_hex_constant_7
+	cbz x1, 3f
 	ldrb w9, [x0]
-	adrp_label x8, const_hex_constant_7
-	add_label x8, x8, const_hex_constant_7
-	ldrb w10, [x8, x9]
-	cmp w10, #0xff
-	b.eq 4f
-	cmp x1, #0x1
-	b.ne 5f
-	mov x10, xzr
-	mov w9, #0x1
-	b 13f
+	ldrb w8, [x10, x9]
+	cmp w8, #0xff
+	b.eq 6f
+	subs x8, x1, #0x4
+	csel x9, xzr, x8, cc
+	mov x8, xzr
+	b.cc 4f
 2:
-	mov x9, xzr
-	mov x10, xzr
+	add x11, x0, x8
+	ldrb w12, [x11]
+	ldrb w13, [x11, #1]
+	ldrb w12, [x10, x12]
+	ldrb w13, [x10, x13]
+	orr w12, w13, w12
+	tbnz w12, #7, 4f
+	ldrb w12, [x11, #2]
+	ldrb w11, [x11, #3]
+	ldrb w12, [x10, x12]
+	ldrb w11, [x10, x11]
+	orr w11, w11, w12
+	tbnz w11, #7, 8f
+	add x8, x8, #0x4
+	cmp x8, x9
+	b.ls 2b
+	b 4f
 3:
-	sub x8, x1, x9
-	add x0, x8, x10
-	ret
+	mov x8, xzr
 4:
-	mov x0, xzr
-	ret
+	cmp x8, x1
+	b.cs 9f
 5:
-	ldrb w10, [x0, #1]
-	orr w9, w9, w10, lsl #8
-	mov w10, #0x7830
-	orr w9, w9, #0x2000
-	cmp w9, w10
-	b.ne 6f
-	sub x9, x1, #0x2
-	add x0, x0, #0x2
-	subs x11, x9, #0x4
-	mov x10, xzr
-	csel x11, xzr, x11, cc
-	b.cs 7f
-	b 12f
-6:
-	mov x9, x1
-	subs x11, x1, #0x4
-	mov x10, xzr
-	csel x11, xzr, x11, cc
-	b.cc 12f
-7:
-	mov x10, xzr
-8:
-	add x12, x0, x10
-	ldrb w13, [x12]
-	ldrb w14, [x12, #1]
-	ldrb w13, [x8, x13]
-	ldrb w14, [x8, x14]
-	orr w13, w14, w13
-	tbnz w13, #7, 12f
-	ldrb w13, [x12, #2]
-	ldrb w12, [x12, #3]
-	ldrb w13, [x8, x13]
-	ldrb w12, [x8, x12]
-	orr w12, w12, w13
-	tbnz w12, #7, 9f
-	add x10, x10, #0x4
-	cmp x10, x11
-	b.ls 8b
-	b 12f
-9:
-	add x10, x10, #0x2
-12:
-	cmp x10, x9
-	b.cs 3b
-13:
-	ldrb w11, [x0, x10]
-	ldrb w11, [x8, x11]
+	ldrb w9, [x0, x8]
+	ldrb w11, [x10, x9]
 	cmp w11, #0xff
-	b.eq 3b
-	add x10, x10, #0x1
-	cmp x9, x10
-	b.ne 13b
-	sub x8, x1, x9
-	add x0, x8, x9
+	b.eq 7f
+	add x8, x8, #0x1
+	cmp x1, x8
+	b.ne 5b
+	mov w9, wzr
+	mov w0, w9
+	ret
+6:
+	mov x8, xzr
+	mov w0, w9
+	mov x1, x8
+	ret
+7:
+	mov w0, w9
+	mov x1, x8
+	ret
+8:
+	add x8, x8, #0x2
+	cmp x8, x1
+	b.cc 5b
+9:
+	mov w9, wzr
+	mov w0, w9
+	mov x1, x8
 	ret
 	end const_hex_body_locate_invalid
 

@@ -15,53 +15,44 @@
 	xor    eax,eax
 	test   rdi,rdi
 	sete   cl
-	xor    r15d,r15d
 	test   sil,0x1
-	jne    4f
-	mov    r12,rdx
+	jne    2f
 	mov    al,cl
 	shl    eax,0xc
 	add    rdi,rax
-	mov    rax,rsi
-	mov    rcx,rdi
 	cmp    rsi,0x2
-	jb     2f
-	movzx  edx,WORD PTR [rdi]
-	or     edx,0x2000
-	mov    rax,rsi
-	mov    rcx,rdi
-	cmp    edx,0x7830
-	jne    2f
-	lea    rax,[rsi-0x2]
-	lea    rcx,[rdi+0x2]
+	jb     4f
+	movzx  eax,WORD PTR [rdi]
+	or     eax,0x2000
+	cmp    eax,0x7830
+	jne    4f
+	mov    r15,rdx
+	mov    r12,rsi
+	lea    rbx,[rsi-0x2]
+	add    rdi,0x2
+	jmp    5f
 2:
-	mov    r14,rsi
-	mov    rbx,rdi
-	mov    rdi,rcx
-	mov    rsi,rax
+	xor    eax,eax
+	mov    ecx,0x1
+	xor    r12d,r12d
+3:
+	mov    DWORD PTR [rdx],ecx
+	mov    DWORD PTR [rdx+0x4],eax
+	mov    QWORD PTR [rdx+0x8],r12
+	xor    eax,eax
+	jmp    6f
+4:
+	mov    r15,rdx
+	mov    r12,rsi
+	mov    rbx,rsi
+5:
+	mov    r14,rdi
+	mov    rsi,rbx
 	call   SYMBOL(const_hex_kernel_check)
 	mov    ecx,eax
 	mov    al,0x1
 	test   cl,cl
-	jne    6f
-	mov    rdi,rbx
-	mov    rsi,r14
-	call   const_hex_body_locate_invalid
-	mov    ecx,0x3
-	cmp    rax,r14
-	jae    3f
-	movzx  r15d,BYTE PTR [rbx+rax*1]
-3:
-	mov    rdx,r12
-	jmp    5f
-4:
-	mov    ecx,0x1
-	xor    eax,eax
-5:
-	mov    DWORD PTR [rdx],ecx
-	mov    DWORD PTR [rdx+0x4],r15d
-	mov    QWORD PTR [rdx+0x8],rax
-	xor    eax,eax
+	je     7f
 6:
 	add    rsp,0x8
 	pop    rbx
@@ -69,6 +60,16 @@
 	pop    r14
 	pop    r15
 	ret
+7:
+	mov    rdi,r14
+	mov    rsi,rbx
+	call   const_hex_body_locate_invalid
+	sub    r12,rbx
+	add    r12,rdx
+	movzx  eax,al
+	mov    ecx,0x3
+	mov    rdx,r15
+	jmp    3b
 	end SYMBOL(const_hex_check_nonnull)
 
 /* const_hex_c::const_hex_check_raw */
@@ -93,71 +94,64 @@
 	push   r12
 	push   rbx
 	push   rax
-	xor    eax,eax
+	xor    r10d,r10d
 	test   rdi,rdi
 	sete   r11b
-	xor    r9d,r9d
+	xor    eax,eax
 	test   rdx,rdx
-	sete   r10b
+	sete   r9b
 	test   sil,0x1
-	jne    4f
-	mov    al,r11b
-	shl    eax,0xc
-	add    rdi,rax
-	mov    r11,rsi
-	mov    rax,rdi
+	jne    3f
+	mov    r10b,r11b
+	shl    r10d,0xc
+	add    rdi,r10
 	cmp    rsi,0x2
-	jb     2f
-	movzx  ebx,WORD PTR [rdi]
-	or     ebx,0x2000
-	mov    r11,rsi
-	mov    rax,rdi
-	cmp    ebx,0x7830
-	jne    2f
-	lea    r11,[rsi-0x2]
-	lea    rax,[rdi+0x2]
+	jb     6f
+	movzx  r10d,WORD PTR [rdi]
+	or     r10d,0x2000
+	cmp    r10d,0x7830
+	jne    6f
+	lea    rbx,[rsi-0x2]
+	add    rdi,0x2
+	mov    r10,rbx
+	shr    r10,1
+	cmp    r10,rcx
+	je     7f
 2:
-	shr    r11,1
-	xor    r15d,r15d
-	cmp    r11,rcx
-	jne    5f
-	mov    r14,rsi
-	mov    rbx,rdi
-	mov    r12,r8
-	mov    r9b,r10b
-	shl    r9d,0xc
-	add    rdx,r9
-	mov    rdi,rax
+	xor    eax,eax
+	mov    ecx,0x2
+	jmp    4f
+3:
+	xor    eax,eax
+	mov    ecx,0x1
+4:
+	xor    r12d,r12d
+5:
+	mov    DWORD PTR [r8],ecx
+	mov    DWORD PTR [r8+0x4],eax
+	mov    QWORD PTR [r8+0x8],r12
+	xor    eax,eax
+	jmp    8f
+6:
+	mov    rbx,rsi
+	mov    r10,rbx
+	shr    r10,1
+	cmp    r10,rcx
+	jne    2b
+7:
+	mov    r12,rsi
+	mov    r15,r8
+	mov    al,r9b
+	shl    eax,0xc
+	add    rdx,rax
+	mov    r14,rdi
 	mov    rsi,rdx
 	mov    rdx,rcx
 	call   SYMBOL(const_hex_kernel_read)
 	mov    ecx,eax
 	mov    al,0x1
 	test   cl,cl
-	jne    8f
-	mov    rdi,rbx
-	mov    rsi,r14
-	call   const_hex_body_locate_invalid
-	mov    ecx,0x3
-	cmp    rax,r14
-	jae    3f
-	movzx  r15d,BYTE PTR [rbx+rax*1]
-3:
-	mov    r8,r12
-	jmp    7f
-4:
-	xor    r15d,r15d
-	mov    ecx,0x1
-	jmp    6f
-5:
-	mov    ecx,0x2
-6:
-	xor    eax,eax
-7:
-	mov    DWORD PTR [r8],ecx
-	mov    DWORD PTR [r8+0x4],r15d
-	mov    QWORD PTR [r8+0x8],rax
-	xor    eax,eax
+	je     9f
 8:
 	add    rsp,0x8
 	pop    rbx
@@ -165,6 +159,16 @@
 	pop    r14
 	pop    r15
 	ret
+9:
+	mov    rdi,r14
+	mov    rsi,rbx
+	call   const_hex_body_locate_invalid
+	sub    r12,rbx
+	add    r12,rdx
+	movzx  eax,al
+	mov    ecx,0x3
+	mov    r8,r15
+	jmp    5b
 	end SYMBOL(const_hex_decode_exact_nonnull)
 
 /* const_hex_c::const_hex_decode_nonnull */
@@ -177,66 +181,68 @@
 	push   r12
 	push   rbx
 	push   rax
-	xor    eax,eax
+	xor    r11d,r11d
 	test   rdi,rdi
 	sete   bl
-	xor    r10d,r10d
+	xor    eax,eax
 	test   rdx,rdx
-	sete   r11b
+	sete   r10b
 	test   sil,0x1
 	jne    3f
-	mov    al,bl
-	shl    eax,0xc
-	add    rdi,rax
-	mov    rbx,rsi
-	mov    rax,rdi
+	mov    r11b,bl
+	shl    r11d,0xc
+	add    rdi,r11
 	cmp    rsi,0x2
-	jb     2f
-	movzx  ebp,WORD PTR [rdi]
-	or     ebp,0x2000
-	mov    rbx,rsi
-	mov    rax,rdi
-	cmp    ebp,0x7830
-	jne    2f
+	jb     4f
+	movzx  r11d,WORD PTR [rdi]
+	or     r11d,0x2000
+	cmp    r11d,0x7830
+	jne    4f
 	lea    rbx,[rsi-0x2]
-	lea    rax,[rdi+0x2]
+	add    rdi,0x2
+	mov    r14,rbx
+	shr    r14,1
+	cmp    rcx,r14
+	jb     5f
 2:
-	shr    rbx,1
-	cmp    rcx,rbx
-	jae    6f
-	mov    QWORD PTR [r8],0x0
-	xor    ecx,ecx
-	mov    edx,0x2
-	jmp    4f
-3:
-	mov    QWORD PTR [r8],0x0
-	xor    ecx,ecx
-	mov    edx,0x1
-4:
-	xor    eax,eax
-5:
-	mov    DWORD PTR [r9],edx
-	mov    DWORD PTR [r9+0x4],ecx
-	mov    QWORD PTR [r9+0x8],rax
-	xor    eax,eax
-	jmp    7f
-6:
-	mov    r13,rsi
-	mov    r14,rdi
-	mov    r12,r8
-	mov    r15,r9
-	mov    r10b,r11b
-	shl    r10d,0xc
-	add    rdx,r10
-	mov    rdi,rax
+	mov    r13,r8
+	mov    rbp,rsi
+	mov    r12,r9
+	mov    al,r10b
+	shl    eax,0xc
+	add    rdx,rax
+	mov    r15,rdi
 	mov    rsi,rdx
-	mov    rdx,rbx
+	mov    rdx,r14
 	call   SYMBOL(const_hex_kernel_read)
 	test   al,al
-	je     8f
-	mov    QWORD PTR [r12],rbx
+	je     9f
+	mov    QWORD PTR [r13+0x0],r14
 	mov    al,0x1
+	jmp    8f
+3:
+	mov    QWORD PTR [r8],0x0
+	xor    eax,eax
+	mov    ecx,0x1
+	jmp    6f
+4:
+	mov    rbx,rsi
+	mov    r14,rbx
+	shr    r14,1
+	cmp    rcx,r14
+	jae    2b
+5:
+	mov    QWORD PTR [r8],0x0
+	xor    eax,eax
+	mov    ecx,0x2
+6:
+	xor    ebp,ebp
 7:
+	mov    DWORD PTR [r9],ecx
+	mov    DWORD PTR [r9+0x4],eax
+	mov    QWORD PTR [r9+0x8],rbp
+	xor    eax,eax
+8:
 	add    rsp,0x8
 	pop    rbx
 	pop    r12
@@ -245,22 +251,17 @@
 	pop    r15
 	pop    rbp
 	ret
-8:
-	mov    rdi,r14
-	mov    rsi,r13
-	call   const_hex_body_locate_invalid
-	cmp    rax,r13
-	jae    9f
-	movzx  ecx,BYTE PTR [r14+rax*1]
-	mov    QWORD PTR [r12],0x0
-	jmp    12f
 9:
-	mov    QWORD PTR [r12],0x0
-	xor    ecx,ecx
-12:
-	mov    edx,0x3
-	mov    r9,r15
-	jmp    5b
+	mov    rdi,r15
+	mov    rsi,rbx
+	call   const_hex_body_locate_invalid
+	sub    rbp,rbx
+	add    rbp,rdx
+	movzx  eax,al
+	mov    QWORD PTR [r13+0x0],0x0
+	mov    ecx,0x3
+	mov    r9,r12
+	jmp    7b
 	end SYMBOL(const_hex_decode_nonnull)
 
 /* const_hex_c::const_hex_decoder_finish_nonnull */
@@ -827,81 +828,67 @@
 
 /* const_hex::codec::body::locate_invalid */
 	function const_hex_body_locate_invalid
-	mov    rax,rsi
 	test   rsi,rsi
-	je     2f
-	movzx  ecx,BYTE PTR [rdi]
-	lea    rdx,[rip + const_hex_constant_8]
-	cmp    BYTE PTR [rcx+rdx*1],0xff
-	je     4f
-	cmp    rax,0x1
-	jne    5f
-	mov    ecx,0x1
-	xor    esi,esi
-	jmp    13f
+	je     3f
+	movzx  eax,BYTE PTR [rdi]
+	lea    rcx,[rip + const_hex_constant_8]
+	cmp    BYTE PTR [rax+rcx*1],0xff
+	je     7f
+	xor    edx,edx
+	mov    rax,rsi
+	sub    rax,0x4
+	cmovb  rax,rdx
+	jb     4f
+	mov    edx,0x2
+	.byte 0xf, 0x1f, 0x0  /* nop    DWORD PTR [rax] */
 2:
-	xor    ecx,ecx
-	xor    esi,esi
+	movzx  r8d,BYTE PTR [rdi+rdx*1-0x2]
+	movzx  r9d,BYTE PTR [rdi+rdx*1-0x1]
+	movzx  r9d,BYTE PTR [r9+rcx*1]
+	or     r9b,BYTE PTR [r8+rcx*1]
+	js     8f
+	movzx  r8d,BYTE PTR [rdi+rdx*1]
+	movzx  r9d,BYTE PTR [rdi+rdx*1+0x1]
+	movzx  r9d,BYTE PTR [r9+rcx*1]
+	or     r9b,BYTE PTR [r8+rcx*1]
+	js     4f
+	lea    r8,[rdx+0x4]
+	add    rdx,0x2
+	cmp    rdx,rax
+	mov    rdx,r8
+	jbe    2b
+	add    r8,0xfffffffffffffffe
+	mov    rdx,r8
+	cmp    rdx,rsi
+	jb     5f
+	jmp    9f
 3:
-	sub    rax,rcx
-	add    rax,rsi
-	ret
+	xor    edx,edx
 4:
-	xor    eax,eax
-	ret
+	cmp    rdx,rsi
+	jae    9f
+	.byte 0x66, 0x66, 0x66, 0x66, 0x66, 0x2e, 0xf, 0x1f, 0x84, 0x0, 0x0, 0x0, 0x0, 0x0  /* data16 data16 data16 data16 cs nop WORD PTR [rax+rax*1+0x0] */
 5:
-	movzx  ecx,WORD PTR [rdi]
-	or     ecx,0x2000
-	cmp    ecx,0x7830
-	jne    6f
-	lea    rcx,[rax-0x2]
-	add    rdi,0x2
-	jmp    7f
+	movzx  eax,BYTE PTR [rdi+rdx*1]
+	lea    rcx,[rip + const_hex_constant_8]
+	cmp    BYTE PTR [rax+rcx*1],0xff
+	je     6f
+	inc    rdx
+	cmp    rsi,rdx
+	jne    5b
+	xor    eax,eax
+	mov    rdx,rsi
 6:
-	mov    rcx,rax
+	ret
 7:
-	xor    esi,esi
-	mov    r8,rcx
-	sub    r8,0x4
-	cmovb  r8,rsi
-	jb     12f
-	mov    esi,0x2
-	.byte 0x66, 0xf, 0x1f, 0x44, 0x0, 0x0  /* nop    WORD PTR [rax+rax*1+0x0] */
+	xor    edx,edx
+	ret
 8:
-	movzx  r9d,BYTE PTR [rdi+rsi*1-0x2]
-	movzx  r10d,BYTE PTR [rdi+rsi*1-0x1]
-	movzx  r10d,BYTE PTR [r10+rdx*1]
-	or     r10b,BYTE PTR [r9+rdx*1]
-	js     9f
-	movzx  r9d,BYTE PTR [rdi+rsi*1]
-	movzx  r10d,BYTE PTR [rdi+rsi*1+0x1]
-	movzx  r10d,BYTE PTR [r10+rdx*1]
-	or     r10b,BYTE PTR [r9+rdx*1]
-	js     12f
-	lea    r9,[rsi+0x4]
-	add    rsi,0x2
-	cmp    rsi,r8
-	mov    rsi,r9
-	jbe    8b
-	add    r9,0xfffffffffffffffe
-	mov    rsi,r9
-	jmp    12f
+	add    rdx,0xfffffffffffffffe
+	cmp    rdx,rsi
+	jb     5b
 9:
-	add    rsi,0xfffffffffffffffe
-12:
-	cmp    rsi,rcx
-	jae    3b
-	.byte 0x66, 0x66, 0x66, 0x66, 0x2e, 0xf, 0x1f, 0x84, 0x0, 0x0, 0x0, 0x0, 0x0  /* data16 data16 data16 cs nop WORD PTR [rax+rax*1+0x0] */
-13:
-	movzx  r8d,BYTE PTR [rdi+rsi*1]
-	cmp    BYTE PTR [r8+rdx*1],0xff
-	je     3b
-	inc    rsi
-	cmp    rcx,rsi
-	jne    13b
-	mov    rsi,rcx
-	sub    rax,rcx
-	add    rax,rsi
+	xor    eax,eax
 	ret
 	end const_hex_body_locate_invalid
 

@@ -86,18 +86,18 @@ def judged(state, text, count):
     return [(way, result) for way, result in ((true, 1), (false, 0)) if way]
 
 
-def first_invalid_from(state, text, first, count):
-    """The states after a search from an index on, with the index of the first character that is no digit, which may be
-    any, and the character; or, if all are digits, the length and 0."""
+def first_invalid_from(state, text, count):
+    """The states after a search, with the index of the first character that is no digit, which may be any, and the
+    character; or, if all are digits, the length and 0."""
     start = offset_in(state, "input", text)
     some, index = any_below(state, count)
     if some:
         require(is_in("input", text), "a search in what is no input")
         some.load(simple(text + index), 1)
-    if none := state.with_digits(start + first, count - first):
+    if none := state.with_digits(start, count):
         yield none, count, byte(0)
     index = fresh("p", 64)
-    some = state.when(z3.And(z3.ULE(first, index), z3.ULT(index, count)))
+    some = state.when(z3.ULT(index, count))
     some = some and some.with_no_digit(start + index)
-    if some := some and some.with_digits(start + first, index - first, are_named=False):
+    if some := some and some.with_digits(start, index, are_named=False):
         yield some, index, some.byte_of_input(start + index)

@@ -151,19 +151,13 @@ class Function:
                 if not self.is_any_valid and state.holds(z3.UGE(offset, state.body))]
 
 
-def by_prefix(state, start=word(0), length=N, least=2):
-    """The state where a text in the input, of at least so many characters, has a prefix, and the one where it has none,
-    each with the index of its digits."""
-    has_prefix = z3.And(z3.UGE(length, least), is_prefix(*[state.byte_of_input(start + index) for index in (0, 1)]))
+def with_prefix_or_without(state):
+    """The start where the text has a prefix, and the one where it has none."""
+    has_prefix = z3.And(z3.UGE(N, 2), is_prefix(*[state.byte_of_input(word(index)) for index in (0, 1)]))
     for condition, first in (has_prefix, 2), (z3.Not(has_prefix), 0):
         if way := state.when(condition):
-            yield way, word(first)
-
-
-def with_prefix_or_without(state, **least):
-    """The same of the text of a function, as starts of it."""
-    for way, way.body in by_prefix(state, **least):
-        yield way
+            way.body = word(first)
+            yield way
 
 
 def must_be_true_if(state, condition, message):

@@ -64,7 +64,7 @@ class Fill(Kernel):
         if some:
             write(some, output + 2 * index, digits_of(*some.load(input + index, 1), self.is_upper))
             self.has_written(state, output, n)
-        yield state, None
+        yield state,
 
 
 def must_be_digits_of(state, offset, lane, is_upper):

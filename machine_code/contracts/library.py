@@ -8,9 +8,9 @@ import re
 
 import z3
 
-from contracts.callees import first_invalid_from, offset_in
+from contracts.callees import first_invalid_from
 from contracts.functions import (FAILED, FOUND, INVALID_CHARACTER, INVALID_LENGTH, N, ODD_LENGTH, Function, base,
-                                 by_prefix, first_invalid, in_size_t, is_digit, is_prefix, moved, must_be_a_front,
+                                 first_invalid, in_size_t, is_digit, is_prefix, moved, must_be_a_front,
                                  must_be_digits, must_be_true_if, must_be_unchanged, must_be_written, must_fail,
                                  must_have, of_32_bits, size_max, with_prefix_or_without)
 from contracts.kernels import Check as CheckKernel, Fill, must_be_decoded, must_be_digits_of
@@ -116,24 +116,20 @@ class CheckRaw(CheckKernel):
 
 
 class FirstInvalid(Function):
-    """locate_invalid(text, length): the index of the first invalid character, or the length if there is none."""
+    """locate_invalid(text, length): the first invalid character, and its index; 0 and the length if there is none."""
 
     is_called = is_local = may_leak = True
     symbol, function, name = "const_hex_body_locate_invalid", "locate_invalid", "any text"
     requires = z3.ULT(N, 1 << 63),
     regions, arguments = (TEXT,), (base("input"), N)
 
-    def cases(self, state):
-        return with_prefix_or_without(state)
-
     def returns(self, state):
-        index, _ = first_invalid(state)
-        state.must(state.result(8 * state.WORD) == in_size_t(state, index), "another index")
+        index, character = first_invalid(state)
+        state.must(state.result(8) == character, "another character")
+        state.must(state.result(64, 1) == index, "another index")
 
     def called(self, state, input, n):
-        for way, first in by_prefix(state, offset_in(state, "input", input), n):
-            for other, index, _ in first_invalid_from(way, input, first, n):
-                yield other, index
+        return ((way, character, index) for way, index, character in first_invalid_from(state, input, n))
 
 
 class Text(Exported):
@@ -362,12 +358,12 @@ class DecoderFail(FirstInvalid):
     def called(self, state, result, decoder, before, input, n):
         require(set(names(result)).isdisjoint(names(decoder)), "a decoder in the place of what is found")
         position = simple(z3.ZeroExt(64 - 8 * state.WORD, joined(state.load(decoder, state.WORD))))
-        for way, *invalid in first_invalid_from(state, input, 0, n):
+        for way, *invalid in first_invalid_from(state, input, n):
             for address, numbers in zip((result, decoder), self.outcomes(way, position, before, *invalid)):
                 # What comes after these numbers may be anything.
                 lane = [part for number in numbers for part in split(number)]
                 way.store(address, lane + [fresh("g", 8) for _ in range(2 * way.WORD - len(lane))])
-            yield way, None
+            yield way,
 
 
 FUNCTIONS = (Version(), EncodedSize(), *[Encode(flags) for flags in (*range(8), None)], CheckRaw(), FirstInvalid(),

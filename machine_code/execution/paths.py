@@ -124,12 +124,11 @@ def called(state, effect):
     after, ways = [], list(effect(state))
     if not ways:
         raise ValueError("a contract of what is called leaves no state")
-    for other, result in ways:
+    for other, *results in ways:
         to = other.return_address()
         other.forget()
         other.loop = None
-        if result is not None:
-            other.put_result(result)
+        other.put_results(results)
         other.drop_below()
         after += returned(other, to)
     return after

@@ -354,10 +354,9 @@ class State:
         return [self.general[name] for name in self.ARGUMENTS[:count]] + [
             self.cell("stack", self.top() + self.frame(index), 8) for index in range(len(self.ARGUMENTS), count)]
 
-    def result(self, bits=None):
-        """So many bits of the result, or those that callers may look at if it is a bool."""
-        register, of_bool = self.RESULT
-        return simple(z3.Extract((bits or of_bool) - 1, 0, self.general[register]))
+    def result(self, bits=None, number=0):
+        """So many bits of a result, or those that callers may look at if it is a bool."""
+        return simple(z3.Extract((bits or self.BOOL) - 1, 0, self.general[self.RESULTS[number]]))
 
     def must_call(self):
         """What a function needs that is called by its contract: its stack, which is aligned."""
@@ -382,8 +381,8 @@ class State:
             self.vectors[number] = lane[:count] + [fresh("g", 8) for _ in lane[count:]]
         self.flags = None
 
-    def put_result(self, result):
-        """A bool has some bits, and nothing is known of the others."""
-        register, bits = self.RESULT
-        result = result if z3.is_expr(result) else z3.Concat(fresh("g", 64 - bits), z3.BitVecVal(result, bits))
-        self.general[register] = simple(result)
+    def put_results(self, results):
+        """A number has some bits, and nothing is known of the others. So has a bool."""
+        for register, result in zip(self.RESULTS, results):
+            result = result if z3.is_expr(result) else z3.BitVecVal(result, self.BOOL)
+            self.general[register] = simple(z3.Extract(63, 0, z3.Concat(fresh("g", 64), result)))

@@ -81,7 +81,7 @@ class State(state.State):
 
     TOP, STACK, STACK_OF_CALLED, STACK_OF_DISPATCH, RETURN, VECTORS, WIDTH = "sp", 2000, 64, 2032, 0, 32, 16
     GENERAL = tuple(f"x{number}" for number in range(31)) + ("sp",)
-    ARGUMENTS, RESULT = tuple(f"x{number}" for number in range(8)), ("x0", 32)
+    ARGUMENTS, RESULTS, BOOL = tuple(f"x{number}" for number in range(8)), ("x0", "x1"), 32
     KEPT, KEPT_VECTORS = ("sp", *(f"x{number}" for number in range(19, 30))), dict.fromkeys(range(8, 16), 8)
 
     def enter(self):

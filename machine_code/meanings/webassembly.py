@@ -114,7 +114,7 @@ class State(state.State):
 
     # What is called by its contract has no stack.
     TOP, STACK, STACK_OF_CALLED, RETURN, VECTORS, WIDTH, WORD = "global 0", 4096, 0, 0, 0, 16, 4
-    GENERAL, ARGUMENTS, RESULT = (), tuple(f"argument {index}" for index in range(7)), ("result", 32)
+    GENERAL, ARGUMENTS, RESULTS, BOOL = (), tuple(f"argument {index}" for index in range(7)), ("result",), 32
     KEPT = "global 0",
 
     def enter(self):

@@ -83,7 +83,7 @@ class State(state.State):
 
     TOP, STACK, STACK_OF_CALLED, STACK_OF_DISPATCH, RETURN, VECTORS, WIDTH = "rsp", 1912, 72, 2040, 8, 16, 32
     GENERAL = tuple(dict.fromkeys(name for name, _, _ in GENERAL.values()))
-    ARGUMENTS, RESULT = ("rdi", "rsi", "rdx", "rcx", "r8", "r9"), ("rax", 8)
+    ARGUMENTS, RESULTS, BOOL = ("rdi", "rsi", "rdx", "rcx", "r8", "r9"), ("rax", "rdx"), 8
     KEPT = ("rbx", "rbp", "r12", "r13", "r14", "r15")
 
     def enter(self):

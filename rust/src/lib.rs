@@ -83,7 +83,7 @@ pub use crate::serde::{deserialize, serialize, serialize_upper};
 pub use crate::traits::ToHexExt;
 pub use crate::traits::{FromHex, ToHex};
 
-use crate::proved::codec::body::{find_invalid_character, strip_even};
+use crate::proved::codec::body::{self, find_invalid_character, strip_even};
 use crate::proved::codec::encoders::encode_full_to_slice;
 use crate::proved::codec::{checks, decoders};
 #[cfg(feature = "alloc")]
@@ -217,16 +217,18 @@ pub fn decode<T: AsRef<[u8]>>(data: T) -> Result<Vec<u8>, FromHexError> {
     let mut bytes = Vec::new();
     match kernel::decode_append(digits, &mut bytes) {
         true => Ok(bytes),
-        false => Err(invalid(text, bytes)),
+        false => Err(invalid(text.len() - digits.len(), digits, bytes)),
     }
 }
 
-/// Returns the error for an invalid text, and drops the vector for its bytes.
+/// Returns the error for invalid digits, before which a text has so many bytes, and drops the vector for what they
+/// decode to.
 // A function of its own, so that the code for a valid text need not keep the text in registers.
 #[cfg(feature = "alloc")]
 #[cold]
-fn invalid(text: &[u8], _: Vec<u8>) -> FromHexError {
-    find_invalid_character(text)
+fn invalid(before: usize, digits: &[u8], _: Vec<u8>) -> FromHexError {
+    let (byte, index) = body::locate_invalid(digits);
+    body::invalid_character(byte, before + index)
 }
 
 /// Appends the bytes that a text decodes to to a vector, and returns their number, or the errors of [`check`].
@@ -247,7 +249,7 @@ pub fn decode_append<T: AsRef<[u8]>>(data: T, output: &mut Vec<u8>) -> Result<us
     let digits = strip_even(text)?;
     match kernel::decode_append(digits, output) {
         true => Ok(digits.len() / 2),
-        false => Err(find_invalid_character(text)),
+        false => Err(find_invalid_character(text, digits)),
     }
 }
 
@@ -299,7 +301,7 @@ pub fn decode_to_array<T: AsRef<[u8]>, const N: usize>(input: T) -> Result<[u8; 
     if digits.len() != N << 1 {
         return Err(FromHexError::InvalidStringLength);
     }
-    kernel::Space::new().bytes(digits).ok_or_else(|| find_invalid_character(text))
+    kernel::Space::new().bytes(digits).ok_or_else(|| find_invalid_character(text, digits))
 }
 
 /// Returns `Ok` if a text can be decoded, or else [`FromHexError::OddLength`] or

@@ -34,10 +34,11 @@ pub fn check(input: &[u8]) -> Result<(), FromHexError>
 pub fn check_with<K: Kernel>(input: &[u8]) -> Result<(), FromHexError>
     ensures { ChecksText input.now result }
 {
-    if K::check(strip_even(input)?) {
+    let body = strip_even(input)?;
+    if K::check(body) {
         Ok(())
     } else {
-        Err(find_invalid_character(input))
+        Err(find_invalid_character(input, body))
     }
 }
 

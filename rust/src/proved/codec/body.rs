@@ -41,30 +41,25 @@ pub(crate) const fn are_digits(first: u8, second: u8) -> bool {
     value_at(first) | value_at(second) < 128
 }
 
-/// The error that names the first byte after the prefix that is not a digit, and its position in the
-/// whole text. The text must have such a byte, and an even length.
+/// The error that names the first byte of a text's body that is not a digit, and its position in the
+/// whole text. The text must have an even length.
 #[inline(always)]
-pub(crate) const fn find_invalid_character(text: &[u8]) -> FromHexError {
-    let index = locate_invalid(text);
-    let byte = if index < text.len() { text[index] } else { 0 };
-    invalid_character(byte, index)
+pub(crate) const fn find_invalid_character(text: &[u8], body: &[u8]) -> FromHexError {
+    let (byte, index) = locate_invalid(body);
+    invalid_character(byte, index + (text.len() - body.len()))
 }
 
-/// The position in the text of the first byte after the prefix that is not a digit. If there is none,
-/// the length of the text.
-// A first byte that is not a digit is asked for before anything else: no prefix begins with it. The
-// result is no error: that would not fit into a register.
+/// As `find_first_bad`, for a text that a kernel has refused.
+// It asks for the first byte before anything else.
 #[cold]
 #[inline(never)]
-const fn locate_invalid(text: &[u8]) -> usize {
+pub(crate) const fn locate_invalid(text: &[u8]) -> (u8, usize) {
     if let [first, ..] = text {
         if value_at(*first) == NIL {
-            return 0;
+            return (*first, 0);
         }
     }
-    let body = strip_prefix(text);
-    let (_, index) = find_first_bad(body);
-    index + (text.len() - body.len())
+    find_first_bad(text)
 }
 
 /// The error that names a byte and its position.

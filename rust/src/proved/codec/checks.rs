@@ -19,10 +19,11 @@ pub fn check(input: &[u8]) -> Result<(), FromHexError> {
 /// As [`check`], by a kernel of the caller's choice. Does not allocate.
 #[inline]
 pub fn check_with<K: Kernel>(input: &[u8]) -> Result<(), FromHexError> {
-    if K::check(strip_even(input)?) {
+    let body = strip_even(input)?;
+    if K::check(body) {
         Ok(())
     } else {
-        Err(find_invalid_character(input))
+        Err(find_invalid_character(input, body))
     }
 }
 

@@ -28,7 +28,7 @@ pub fn decode_to_slice(input: &[u8], output: &mut [u8]) -> Result<(), FromHexErr
         return Err(FromHexError::InvalidStringLength);
     }
     if !decode_body::<FixedKernel>(body, output) {
-        return Err(find_invalid_character(input));
+        return Err(find_invalid_character(input, body));
     }
     Ok(())
 }
@@ -42,7 +42,7 @@ pub fn decode_to_slice_with<K: Kernel>(input: &[u8], output: &mut [u8]) -> Resul
         return Err(FromHexError::InvalidStringLength);
     }
     if !decode_body::<K>(body, output) {
-        return Err(find_invalid_character(input));
+        return Err(find_invalid_character(input, body));
     }
     Ok(())
 }
@@ -80,7 +80,7 @@ pub fn decode_to_front_with<K: Kernel>(
         return Err(FromHexError::InvalidStringLength);
     }
     if !decode_body::<K>(body, &mut output[..count]) {
-        return Err(find_invalid_character(input));
+        return Err(find_invalid_character(input, body));
     }
     Ok(count)
 }
@@ -116,7 +116,7 @@ pub const fn const_decode_to_array<const N: usize>(input: &[u8]) -> Result<[u8; 
     'pairs: while index < N {
         let (first, second) = (body[2 * index], body[2 * index + 1]);
         if !are_digits(first, second) {
-            return Err(find_invalid_character(input));
+            return Err(find_invalid_character(input, body));
         }
         bytes[index] = value_at(first) * 16 + value_at(second);
         index += 1;

@@ -5,8 +5,8 @@ use Rattle.const_hex.proofs.codec.checks.check_with.Goals as goal
 pub returns-then-check : goal.returns-then-check
 returns-then-check g c =
     ChecksText-from_Checks c.args.input.now (Ok tt)
-    (Reads-digits c.args.input.now c.in_ok-strip_even.ensures.even.0
-    (rw (← c.in_ok-strip_even.ensures.body) (c.check.ensures.0 c.if-check.true)))
+    (Reads-digits c.args.input.now c.in_ok-body.ensures.even.0
+    (rw (← c.in_ok-body.ensures.body) (c.check.ensures.0 c.if-check.true)))
 
 pub returns-else-check : goal.returns-else-check
 returns-else-check g c = ChecksText-from_Checks c.args.input.now _ (search rules)
