@@ -42,7 +42,7 @@ WRONG = [
     ("63 bytes are decoded as 64", "aarch64", "read", "cmp x2, #0x40", "cmp x2, #0x3f", OUTSIDE),
     # Functions for C
     *(("256 for false", ARM_C, function, f"mov {to}, wzr", f"mov {to}, #0x100", said) for function, to, said in (
-        ("check", "w8", NEITHER), ("decoder_finish", "w0", "is complete"), ("encode", "w0", "whether the text fits"))),
+        ("check", "w0", NEITHER), ("decoder_finish", "w0", "is complete"), ("encode", "w0", "whether the text fits"))),
     *(("a byte before those in front of it", C, function, CALL_READ, HOLE, "left out before what is written")
       for function in ("decode_exact", "decoder_update")),
     ("a call in a loop", C, "check_raw", CALL_CHECK,
@@ -61,17 +61,16 @@ WRONG = [
      "test rsi,rsi; je 1f; mov al,[rdi]; sub rsp,16; mov [rsp],al; mov byte ptr [rsp+1],0x7a; push rdi; push rsi; "
      f"lea rdi,[rsp+16]; mov esi,2; {CALL_CHECK}; pop rsi; pop rdi; add rsp,16; 1: {CALL_CHECK}",
      "a text that is never valid"),
-    ("the search counts in 32 bits", C, FIND, "lea r9,[rsi+0x4]", "lea r9d,[rsi+0x4]", "head of a loop|nothing counts"),
-    ("the search begins behind any 0", C, FIND, "cmp ecx,0x7830", "cmp cl,0x30", PASSES),
-    ("the search tests three of four", C, FIND, "or r10b,BYTE PTR [r9+rdx*1]; js 12f", "test r10b,r10b; js 12f",
-     PASSES),
-    ("what a kernel returns is not tested", C, "decode_exact", "jne 8f", "jmp 8f", PASSES),
+    ("the search counts in 32 bits", C, FIND, "lea r8,[rdx+0x4]", "lea r8d,[rdx+0x4]", "head of a loop|nothing counts"),
+    ("any 0 begins a prefix", C, "check", "cmp eax,0x7830", "cmp al,0x30", f"{PASSES}|{SECRET}"),
+    ("the search tests three of four", C, FIND, "or r9b,BYTE PTR [r8+rcx*1]; js 4f", "test r9b,r9b; js 4f", PASSES),
+    ("what a kernel returns is not tested", C, "decode_exact", "je 9f", "", PASSES),
     ("the other bits of what a kernel returns", C, "decode_exact", "test cl,cl", "test ecx,ecx", f"{PASSES}|{SECRET}"),
     ("a kernel writes to an input", C, "decode_exact", CALL_READ, f"mov rsi,rdi; {CALL_READ}", "to what is no output"),
     ("what a kernel has left after an invalid character is read", C, "decode_exact", CALL_READ,
      f"push rsi; push rsi; {CALL_READ}; pop rsi; pop rsi; cmp al,0; jne 1f; mov cl,[rsi]; 1:",
      f"{UNWRITTEN}|{OUTSIDE}"),
-    ("a register that a kernel changes", C, "decode", "mov QWORD PTR [r12],rbx", "mov QWORD PTR [r12],rdx",
+    ("a register that a kernel changes", C, "decode", "[r13+0x0],r14", "[r13+0x0],rdx",
      "written is wrong at 0"),
     ("the decoder forgets an error", C, FAIL, "PTR [rsi+0x9],0x2", "PTR [rsi+0x9],0x0", "decoder is wrong at 9"),
     ("positions of another decoder", C, FAIL, "", "mov r11d,r8d; shr r11d,16; test r11d,r11d; je 1f; "
