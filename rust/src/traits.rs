@@ -180,9 +180,9 @@ to_hex! {
 }
 
 /// Collects the digits of bytes.
-// The last arm is not for few bytes: without optimization it would take 18602 instructions in place of 5904 for 32 bytes
-// to a `Vec<char>`, and with it 612 in place of 323. Nor is more space, which would then be copied. An iterator over the
-// array of two digits would take 1051 in place of 975 for one byte to a `String` (rustc 1.95, x86-64).
+// The last arm alone would take 612 instructions in place of 323 for 32 bytes to a `Vec<char>`, and without optimization
+// 18602 in place of 5822. Space is copied then, so few bytes have little of it. For one byte, an iterator over the array
+// of its digits would take 1069 in place of 910 then (rustc 1.95, x86-64).
 #[inline]
 fn digits<const UPPER: bool, T: FromIterator<char>>(bytes: &[u8]) -> T {
     match bytes.len() {
