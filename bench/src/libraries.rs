@@ -123,7 +123,8 @@ macro_rules! with_names_of_const_hex {
         $cases.decoding("check_raw", $name, |text, _| $library::check_raw(text).then_some(()).ok_or(()));
         $cases.decoding("const_check", $name, |text, _| $library::const_check(text));
         $cases.encoding("serialize", $name, |bytes, _| {
-            let mut json = Vec::new();
+            // With space for all of it, since what a larger vector takes depends on the calls before.
+            let mut json = Vec::with_capacity(2 * bytes.len() + 4);
             $library::serialize(bytes, &mut serde_json::Serializer::new(&mut json)).unwrap();
             json
         });

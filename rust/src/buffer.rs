@@ -61,7 +61,7 @@ impl<const N: usize, const PREFIX: bool> Buffer<N, PREFIX> {
     /// Returns a buffer with the text of `array`.
     // Not by the proved `Buffer`, which has a parameter for the length of its text: Rust 1.63 cannot compute
     // that from `N`. Nor by an encoder, since a constant of Rust 1.63 cannot write to a `&mut [u8]`.
-    const fn of(array: &[u8; N], upper: bool) -> Self {
+    pub(crate) const fn of(array: &[u8; N], upper: bool) -> Self {
         let mut buffer = Self::new();
         let mut index = 0;
         while index < N {

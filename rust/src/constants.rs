@@ -92,5 +92,5 @@ const fn panic_at(position: usize) -> ! {
 /// ```
 #[inline]
 pub const fn const_encode<const N: usize, const PREFIX: bool>(array: &[u8; N]) -> Buffer<N, PREFIX> {
-    Buffer::new().const_format(array)
+    Buffer::of(array, false)
 }

@@ -1,12 +1,13 @@
 //! Traits of types that are read from hexadecimal text, or written as it.
 
 use crate::kernel::Space;
-use crate::proved::{tables::digits_at, FixedKernel, Kernel};
+use crate::proved::tables::digits_at;
 use crate::FromHexError;
 #[cfg(all(feature = "alloc", target_has_atomic = "ptr"))]
 use alloc::sync::Arc;
 #[cfg(feature = "alloc")]
 use alloc::{borrow::Cow, borrow::ToOwned, boxed::Box, rc::Rc, string::String, vec::Vec};
+use core::iter::from_fn;
 
 /// Defines the trait `FromHex` and its impls, over the functions of the module `codec`.
 macro_rules! from_hex {
@@ -179,85 +180,37 @@ to_hex! {
 }
 
 /// Collects the digits of bytes.
-// The last arm alone would take 764 instructions in place of 274 for 16 bytes to a `Vec<char>`, and 396 in place of 271
-// for one byte to a `String` (rustc 1.95, x86-64).
+// The last arm alone would take 612 instructions in place of 323 for 32 bytes to a `Vec<char>`, and without optimization
+// 18602 in place of 5822. Space is copied then, so few bytes have little of it. For one byte, an iterator over the array
+// of its digits would take 1069 in place of 910 then (rustc 1.95, x86-64).
 #[inline]
 fn digits<const UPPER: bool, T: FromIterator<char>>(bytes: &[u8]) -> T {
-    match bytes {
-        [byte] => digits_at::<true>(UPPER, *byte).iter().map(character).collect(),
-        _ if bytes.len() <= PART => {
-            let mut space = Space::<{ 2 * PART }>::new();
-            space.text(bytes, false, UPPER).iter().map(character).collect()
+    match bytes.len() {
+        1 => {
+            let (digits, mut at) = (digits_at::<true>(UPPER, bytes[0]), 0);
+            let next = || {
+                if at == 2 {
+                    return None;
+                }
+                at += 1;
+                Some(character(digits[at - 1]))
+            };
+            from_fn(next).collect()
         }
-        _ => Characters::<UPPER>::new(bytes).collect(),
+        0..=32 => digits_in::<64, UPPER, T>(bytes),
+        33..=2048 => digits_in::<4096, UPPER, T>(bytes),
+        _ => bytes.iter().flat_map(|byte| digits_at::<true>(UPPER, *byte)).map(character).collect(),
     }
+}
+
+/// Does the same in space for so many digits.
+#[inline]
+fn digits_in<const COUNT: usize, const UPPER: bool, T: FromIterator<char>>(bytes: &[u8]) -> T {
+    Space::<COUNT>::new().text(bytes, false, UPPER).iter().map(|digit| character(*digit)).collect()
 }
 
 /// The digit as a character. A string that sees here that it is ASCII need not find out how many bytes it has.
 #[inline(always)]
-fn character(digit: &u8) -> char {
+fn character(digit: u8) -> char {
     (digit & 0x7F) as char
-}
-
-/// How many bytes are encoded at a time.
-const PART: usize = 32;
-
-/// The digits of bytes: those of the text from `at` on, and those of `bytes`.
-struct Characters<'a, const UPPER: bool> {
-    bytes: &'a [u8],
-    text: [u8; 2 * PART],
-    at: usize,
-}
-
-impl<'a, const UPPER: bool> Characters<'a, UPPER> {
-    fn new(bytes: &'a [u8]) -> Self {
-        let (text, at) = ([0; 2 * PART], 2 * PART);
-        Characters { bytes, text, at }
-    }
-
-    /// Encodes the next bytes, and returns whether there were some. Their digits are the last ones of the text.
-    #[inline]
-    fn encode(&mut self) -> bool {
-        let (part, rest) = self.bytes.split_at(self.bytes.len().min(PART));
-        self.bytes = rest;
-        self.at = 2 * PART - 2 * part.len();
-        FixedKernel::fill(part, UPPER, &mut self.text[self.at..]);
-        !part.is_empty()
-    }
-}
-
-impl<const UPPER: bool> Iterator for Characters<'_, UPPER> {
-    type Item = char;
-
-    #[inline]
-    fn next(&mut self) -> Option<char> {
-        if self.at == self.text.len() && !self.encode() {
-            return None;
-        }
-        let digit = self.text.get(self.at)?;
-        self.at += 1;
-        Some(character(digit))
-    }
-
-    #[inline]
-    fn size_hint(&self) -> (usize, Option<usize>) {
-        let count = self.text.len() - self.at + 2 * self.bytes.len();
-        (count, Some(count))
-    }
-
-    #[inline]
-    fn fold<A, F: FnMut(A, char) -> A>(mut self, mut result: A, mut f: F) -> A {
-        for digit in &self.text[self.at..] {
-            result = f(result, character(digit));
-        }
-        while self.encode() {
-            let mut text = &self.text[self.at..];
-            while let [first, second, rest @ ..] = text {
-                result = f(result, character(first));
-                result = f(result, character(second));
-                text = rest;
-            }
-        }
-        result
-    }
 }

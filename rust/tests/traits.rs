@@ -101,12 +101,15 @@ fn characters_one_by_one() {
             let (least, most) = characters.size_hint();
             let mut text: String = characters.by_ref().take(FIRST).collect();
             text.extend(characters);
-            assert_eq!((least, most), (text.len(), Some(text.len())));
+            // Of the digits of one byte the number is not known.
+            if text.len() != 2 {
+                assert_eq!((least, most), (text.len(), Some(text.len())));
+            }
             Split(text)
         }
     }
-    let bytes: Vec<u8> = (0..100).collect();
-    for length in 0..100 {
+    let bytes: Vec<u8> = (0..2050).map(|index| index as u8).collect();
+    for length in (0..100).chain(2046..2051) {
         let text: String = bytes[..length].iter().map(|byte| format!("{byte:02x}")).collect();
         assert_eq!(bytes[..length].encode_hex::<Split<0>>().0, text);
         assert_eq!(bytes[..length].encode_hex::<Split<1>>().0, text);

@@ -90,7 +90,7 @@ const PAIRS_UPPER: &[u8; 512] = b"\
 /// assert_eq!(rt; const_hex::digit_at(false, 11), b'b');
 /// assert_eq!(rt; const_hex::digit_at(true, 11), b'B');
 /// ```
-#[inline]
+#[inline(always)]
 pub fn digit_at(upper: bool, v: u8) -> u8
     requires { v < 16 }
     ensures { result ≡ hex_digit upper v }
@@ -108,7 +108,7 @@ pub fn digit_at(upper: bool, v: u8) -> u8
 /// assert_eq!(rt; const_hex::value_at(b'B'), 11);
 /// assert_eq!(rt; const_hex::value_at(b'g'), const_hex::NIL);
 /// ```
-#[inline]
+#[inline(always)]
 #[tactic(auto, using(crate::proofs::lemmas::Digits::in_table))]
 pub fn value_at(b: u8) -> u8
     ensures { result ≡ value_or_nil (hex_value b) }
@@ -117,7 +117,7 @@ pub fn value_at(b: u8) -> u8
 }
 
 /// Both digits of a byte: with `PAIRS` by one look-up in a table of pairs, and else by two in a table of digits.
-#[inline]
+#[inline(always)]
 pub(crate) fn digits_at<const PAIRS: bool>(upper: bool, b: u8) -> [u8; 2]
     ensures { result ≡ hex_digit upper (b / 16) ∷ hex_digit upper (b % 16) ∷ [] }
 {

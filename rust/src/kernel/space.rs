@@ -2,7 +2,7 @@
 
 use super::unchecked;
 use crate::proved::text_length;
-use core::{mem::MaybeUninit, slice};
+use core::{mem::MaybeUninit, ptr};
 
 /// Space for `N` bytes.
 pub struct Space<const N: usize>(MaybeUninit<[u8; N]>);
@@ -24,7 +24,7 @@ impl<const N: usize> Space<N> {
         // SAFETY: there is space for so many bytes, and all of them are written.
         unsafe {
             write_text(bytes, prefix, upper, text);
-            slice::from_raw_parts(text, length)
+            &*ptr::slice_from_raw_parts(text, length)
         }
     }
 

@@ -69,7 +69,7 @@ const PAIRS_UPPER: &[u8; 512] = b"\
     F0F1F2F3F4F5F6F7F8F9FAFBFCFDFEFF";
 
 /// The digit of a value below 16, in uppercase or lowercase.
-#[inline]
+#[inline(always)]
 pub const fn digit_at(upper: bool, v: u8) -> u8 {
     if upper {
         HEX_CHARS_UPPER[v as usize]
@@ -79,13 +79,13 @@ pub const fn digit_at(upper: bool, v: u8) -> u8 {
 }
 
 /// The value of a digit in either case, or [`NIL`] for a byte that is not a digit.
-#[inline]
+#[inline(always)]
 pub const fn value_at(b: u8) -> u8 {
     HEX_DECODE_LUT[b as usize]
 }
 
 /// Both digits of a byte: with `PAIRS` by one look-up in a table of pairs, and else by two in a table of digits.
-#[inline]
+#[inline(always)]
 pub(crate) const fn digits_at<const PAIRS: bool>(upper: bool, b: u8) -> [u8; 2] {
     let at = 2 * b as usize;
     if !PAIRS {

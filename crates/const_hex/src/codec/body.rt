@@ -10,7 +10,7 @@ use crate::error::FromHexError;
 use const_hex_arch::{CheckFirst, Kernel, NIL, value_at};
 
 /// The text without its prefix.
-#[inline]
+#[inline(always)]
 pub(crate) fn strip_prefix(text: &[u8]) -> &[u8]
     ensures body { result.now ≡ body_of text.now }
 {

@@ -7,7 +7,7 @@ use crate::proved::error::FromHexError;
 use crate::proved::{CheckFirst, Kernel, NIL, value_at};
 
 /// The text without its prefix.
-#[inline]
+#[inline(always)]
 pub(crate) const fn strip_prefix(text: &[u8]) -> &[u8] {
     match text {
         [first, second, rest @ ..] if is_prefix(*first, *second) => rest,
