@@ -13,17 +13,50 @@
 	csel x9, x8, xzr, eq
 	stp x20, x19, [sp, #32]
 	mov x29, sp
-	tbnz w1, #0, 3f
+	tbnz w1, #0, 2f
 	subs x8, x1, #0x2
 	add x19, x0, x9
 	mov x21, x2
-	b.cs 5f
+	b.cs 4f
 	mov x22, x1
 	mov x20, x1
-	mov x0, x19
-	bl SYMBOL(const_hex_kernel_check)
-	tbnz w0, #0, 6f
+	b 5f
 2:
+	mov w9, wzr
+	mov x8, xzr
+	mov w10, #0x1
+3:
+	mov w0, wzr
+	stp w10, w9, [x2]
+	str x8, [x2, #8]
+	ldp x20, x19, [sp, #32]
+	ldp x22, x21, [sp, #16]
+	ldp x29, x30, [sp], #48
+	ret
+4:
+	ldrb w9, [x19, #1]
+	mov w10, #0xdf00
+	ldrb w11, [x19]
+	mov x22, x1
+	mov x20, x1
+	and w9, w10, w9, lsl #8
+	mov w10, #0x5830
+	orr w9, w9, w11
+	cmp w9, w10
+	b.ne 5f
+	add x19, x19, #0x2
+	mov x20, x8
+5:
+	mov x0, x19
+	mov x1, x20
+	bl SYMBOL(const_hex_kernel_check)
+	tbz w0, #0, 6f
+	mov w0, #0x1
+	ldp x20, x19, [sp, #32]
+	ldp x22, x21, [sp, #16]
+	ldp x29, x30, [sp], #48
+	ret
+6:
 	mov x0, x19
 	mov x1, x20
 	bl const_hex_body_locate_invalid
@@ -32,38 +65,7 @@
 	mov w10, #0x3
 	add x8, x8, x1
 	mov x2, x21
-	b 4f
-3:
-	mov w9, wzr
-	mov x8, xzr
-	mov w10, #0x1
-4:
-	mov w0, wzr
-	stp w10, w9, [x2]
-	str x8, [x2, #8]
-	ldp x20, x19, [sp, #32]
-	ldp x22, x21, [sp, #16]
-	ldp x29, x30, [sp], #48
-	ret
-5:
-	ldrh w9, [x19]
-	mov w10, #0x7830
-	add x11, x19, #0x2
-	mov x22, x1
-	orr w9, w9, #0x2000
-	cmp w9, w10
-	csel x20, x8, x1, eq
-	csel x19, x11, x19, eq
-	mov x0, x19
-	mov x1, x20
-	bl SYMBOL(const_hex_kernel_check)
-	tbz w0, #0, 2b
-6:
-	mov w0, #0x1
-	ldp x20, x19, [sp, #32]
-	ldp x22, x21, [sp, #16]
-	ldp x29, x30, [sp], #48
-	ret
+	b 3b
 	end SYMBOL(const_hex_check_nonnull)
 
 /* const_hex_c::const_hex_check_raw */
@@ -104,10 +106,13 @@
 	mov w10, #0x1
 	b 6f
 3:
-	ldrh w10, [x19]
-	mov w11, #0x7830
+	ldrb w10, [x19, #1]
+	mov w11, #0xdf00
+	ldrb w12, [x19]
 	mov x20, x1
-	orr w10, w10, #0x2000
+	and w10, w11, w10, lsl #8
+	mov w11, #0x5830
+	orr w10, w10, w12
 	cmp w10, w11
 	b.ne 4f
 	add x19, x19, #0x2
@@ -177,10 +182,13 @@
 	mov w10, #0x1
 	b 5f
 3:
-	ldrh w10, [x19]
-	mov w11, #0x7830
+	ldrb w10, [x19, #1]
+	mov w11, #0xdf00
+	ldrb w12, [x19]
 	mov x20, x1
-	orr w10, w10, #0x2000
+	and w10, w11, w10, lsl #8
+	mov w11, #0x5830
+	orr w10, w10, w12
 	cmp w10, w11
 	b.ne 4f
 	add x19, x19, #0x2
@@ -281,29 +289,30 @@
 	cmp x11, #0x1
 	b.ne 3f
 	mov x10, x19
-	ldrb w12, [x0, #8]
+	mov w12, #0xdf00
+	ldrb w13, [x0, #8]
 	ldrb w11, [x10], #1
-	orr w11, w12, w11, lsl #8
-	mov w12, #0x7830
-	orr w11, w11, #0x2000
+	and w11, w12, w11, lsl #8
+	mov w12, #0x5830
+	orr w11, w11, w13
 	cmp w11, w12
 	b.ne 3f
 	sub x22, x2, #0x1
 	mov x19, x10
-	b 7f
+	b 6f
 2:
 	ldrb w8, [x0, #8]
 	ldr x9, [x0]
 	mov w10, #0x3
 	str xzr, [x5]
-	b 12f
+	b 9f
 3:
 	cmp w9, #0x1
 	b.ne 5f
 	add x26, x2, #0x1
 	lsr x20, x26, #1
 	cmp x4, x20
-	b.cc 8f
+	b.cc 7f
 	ldrb w23, [x0, #8]
 	mov x21, x0
 	add x3, x3, x8
@@ -319,40 +328,30 @@
 	cbz x8, 21f
 	and x9, x26, #0xfffffffffffffffe
 	cmp x8, x9
-	b.ne 15f
+	b.ne 14f
 	add x9, x19, x8
 	b 17f
 4:
 	subs x9, x2, #0x2
-	b.cs 6f
+	b.cs 15f
 5:
 	mov x22, x2
-	b 7f
 6:
-	ldrh w10, [x19]
-	mov w11, #0x7830
-	mov x22, x2
-	orr w10, w10, #0x2000
-	cmp w10, w11
-	b.ne 7f
-	add x19, x19, #0x2
-	mov x22, x9
-7:
 	lsr x20, x22, #1
 	cmp x4, x20
-	b.cs 13f
-8:
+	b.cs 12f
+7:
 	str xzr, [x5]
-9:
+8:
 	mov w8, wzr
 	mov x9, xzr
 	mov w10, #0x2
-12:
+9:
 	mov w0, wzr
 	stp w10, w8, [x6]
 	str x9, [x6, #8]
 	b 20f
-13:
+12:
 	mov x23, x2
 	mov x21, x0
 	add x1, x3, x8
@@ -364,7 +363,7 @@
 	cbz w0, 22f
 	and x9, x22, #0xfffffffffffffffe
 	mov x8, x23
-	tbz w22, #0, 14f
+	tbz w22, #0, 13f
 	ldrb w10, [x19, x9]
 	sub w11, w10, #0x41
 	sub w12, w10, #0x30
@@ -380,14 +379,27 @@
 	csel w10, w10, w11, cc
 	cmp w10, #0x9
 	b.hi 23f
-14:
+13:
 	cmp x9, x22
 	b.ne 16f
-15:
+14:
 	ldr x10, [x21]
 	mov w9, wzr
 	adds x8, x8, x10
 	b 19f
+15:
+	ldrb w10, [x19, #1]
+	mov w11, #0xdf00
+	ldrb w12, [x19]
+	mov x22, x2
+	and w10, w11, w10, lsl #8
+	mov w11, #0x5830
+	orr w10, w10, w12
+	cmp w10, w11
+	b.ne 6b
+	add x19, x19, #0x2
+	mov x22, x9
+	b 6b
 16:
 	add x9, x19, x22
 17:
@@ -430,22 +442,22 @@
 	cmp w8, #0x1
 	b.gt 24f
 	mov x6, x25
-	cbnz w8, 9b
+	cbnz w8, 8b
 	mov w10, #0x1
 	mov x9, x8
-	b 12b
+	b 9b
 24:
 	cmp w8, #0x2
 	mov x6, x25
 	b.ne 25f
 	mov w10, #0x3
 	mov w8, w11
-	b 12b
+	b 9b
 25:
 	mov w8, wzr
 	mov x9, xzr
 	mov w10, #0x4
-	b 12b
+	b 9b
 	end SYMBOL(const_hex_decoder_update_nonnull)
 
 /* const_hex_c::const_hex_encode */
@@ -737,9 +749,8 @@
 	ldrb w8, [x10, x9]
 	cmp w8, #0xff
 	b.eq 6f
-	subs x8, x1, #0x4
-	csel x9, xzr, x8, cc
 	mov x8, xzr
+	subs x9, x1, #0x4
 	b.cc 4f
 2:
 	add x11, x0, x8
@@ -861,13 +872,11 @@
 
 /* const_hex::codec::decoder::Decoder::fail */
 	function const_hex_decoder_fail
-	subs x9, x4, #0x4
-	mov x8, xzr
-	csel x10, xzr, x9, cc
+	subs x10, x4, #0x4
 	adrp_label x9, const_hex_constant_7
 	add_label x9, x9, const_hex_constant_7
-	b.cc 3f
 	mov x8, xzr
+	b.cc 3f
 2:
 	add x11, x3, x8
 	ldrb w12, [x11]

@@ -22,9 +22,13 @@
 	add    rdi,rax
 	cmp    rsi,0x2
 	jb     4f
-	movzx  eax,WORD PTR [rdi]
-	or     eax,0x2000
-	cmp    eax,0x7830
+	movzx  eax,BYTE PTR [rdi]
+	movzx  ecx,BYTE PTR [rdi+0x1]
+	and    ecx,0xffffffdf
+	shl    ecx,0x8
+	or     ecx,eax
+	movzx  eax,cx
+	cmp    eax,0x5830
 	jne    4f
 	mov    r15,rdx
 	mov    r12,rsi
@@ -107,9 +111,13 @@
 	add    rdi,r10
 	cmp    rsi,0x2
 	jb     6f
-	movzx  r10d,WORD PTR [rdi]
-	or     r10d,0x2000
-	cmp    r10d,0x7830
+	movzx  r10d,BYTE PTR [rdi]
+	movzx  r11d,BYTE PTR [rdi+0x1]
+	and    r11d,0xffffffdf
+	shl    r11d,0x8
+	or     r11d,r10d
+	movzx  r10d,r11w
+	cmp    r10d,0x5830
 	jne    6f
 	lea    rbx,[rsi-0x2]
 	add    rdi,0x2
@@ -194,9 +202,13 @@
 	add    rdi,r11
 	cmp    rsi,0x2
 	jb     4f
-	movzx  r11d,WORD PTR [rdi]
-	or     r11d,0x2000
-	cmp    r11d,0x7830
+	movzx  r11d,BYTE PTR [rdi]
+	movzx  ebx,BYTE PTR [rdi+0x1]
+	and    ebx,0xffffffdf
+	shl    ebx,0x8
+	or     ebx,r11d
+	movzx  r11d,bx
+	cmp    r11d,0x5830
 	jne    4f
 	lea    rbx,[rsi-0x2]
 	add    rdi,0x2
@@ -327,10 +339,11 @@
 	jne    3f
 	movzx  r10d,BYTE PTR [rdi+0x8]
 	movzx  r11d,BYTE PTR [rsi]
+	and    r11d,0xffffffdf
 	shl    r11d,0x8
 	or     r11d,r10d
-	or     r11d,0x2000
-	cmp    r11d,0x7830
+	movzx  r10d,r11w
+	cmp    r10d,0x5830
 	jne    3f
 	lea    r15,[rdx-0x1]
 	inc    rsi
@@ -374,9 +387,13 @@
 4:
 	cmp    rdx,0x2
 	jb     8f
-	movzx  eax,WORD PTR [rsi]
-	or     eax,0x2000
-	cmp    eax,0x7830
+	movzx  eax,BYTE PTR [rsi]
+	movzx  r10d,BYTE PTR [rsi+0x1]
+	and    r10d,0xffffffdf
+	shl    r10d,0x8
+	or     r10d,eax
+	movzx  eax,r10w
+	cmp    eax,0x5830
 	jne    8f
 	lea    r15,[rdx-0x2]
 	add    rsi,0x2
@@ -833,25 +850,23 @@
 	movzx  eax,BYTE PTR [rdi]
 	lea    rcx,[rip + const_hex_constant_8]
 	cmp    BYTE PTR [rax+rcx*1],0xff
-	je     7f
-	xor    edx,edx
-	mov    rax,rsi
-	sub    rax,0x4
-	cmovb  rax,rdx
-	jb     4f
+	je     4f
+	cmp    rsi,0x4
+	jb     5f
+	lea    rax,[rsi-0x4]
 	mov    edx,0x2
-	.byte 0xf, 0x1f, 0x0  /* nop    DWORD PTR [rax] */
+	.byte 0x66, 0x66, 0x66, 0x2e, 0xf, 0x1f, 0x84, 0x0, 0x0, 0x0, 0x0, 0x0  /* data16 data16 cs nop WORD PTR [rax+rax*1+0x0] */
 2:
 	movzx  r8d,BYTE PTR [rdi+rdx*1-0x2]
 	movzx  r9d,BYTE PTR [rdi+rdx*1-0x1]
 	movzx  r9d,BYTE PTR [r9+rcx*1]
 	or     r9b,BYTE PTR [r8+rcx*1]
-	js     8f
+	js     9f
 	movzx  r8d,BYTE PTR [rdi+rdx*1]
 	movzx  r9d,BYTE PTR [rdi+rdx*1+0x1]
 	movzx  r9d,BYTE PTR [r9+rcx*1]
 	or     r9b,BYTE PTR [r8+rcx*1]
-	js     4f
+	js     6f
 	lea    r8,[rdx+0x4]
 	add    rdx,0x2
 	cmp    rdx,rax
@@ -860,34 +875,39 @@
 	add    r8,0xfffffffffffffffe
 	mov    rdx,r8
 	cmp    rdx,rsi
-	jb     5f
-	jmp    9f
+	jb     7f
+	jmp    12f
 3:
 	xor    edx,edx
-4:
 	cmp    rdx,rsi
-	jae    9f
-	.byte 0x66, 0x66, 0x66, 0x66, 0x66, 0x2e, 0xf, 0x1f, 0x84, 0x0, 0x0, 0x0, 0x0, 0x0  /* data16 data16 data16 data16 cs nop WORD PTR [rax+rax*1+0x0] */
+	jb     7f
+	jmp    12f
+4:
+	xor    edx,edx
+	ret
 5:
+	xor    edx,edx
+6:
+	cmp    rdx,rsi
+	jae    12f
+	.byte 0x66, 0x90  /* xchg   ax,ax */
+7:
 	movzx  eax,BYTE PTR [rdi+rdx*1]
 	lea    rcx,[rip + const_hex_constant_8]
 	cmp    BYTE PTR [rax+rcx*1],0xff
-	je     6f
+	je     8f
 	inc    rdx
 	cmp    rsi,rdx
-	jne    5b
+	jne    7b
 	xor    eax,eax
 	mov    rdx,rsi
-6:
-	ret
-7:
-	xor    edx,edx
-	ret
 8:
+	ret
+9:
 	add    rdx,0xfffffffffffffffe
 	cmp    rdx,rsi
-	jb     5b
-9:
+	jb     7b
+12:
 	xor    eax,eax
 	ret
 	end const_hex_body_locate_invalid
@@ -964,25 +984,22 @@
 /* const_hex::codec::decoder::Decoder::fail */
 	function const_hex_decoder_fail
 	push   rbx
-	xor    eax,eax
-	mov    r9,r8
-	sub    r9,0x4
-	cmovb  r9,rax
+	cmp    r8,0x4
 	jb     3f
+	lea    r9,[r8-0x4]
 	mov    eax,0x2
-	.byte 0x66, 0x66, 0x2e, 0xf, 0x1f, 0x84, 0x0, 0x0, 0x0, 0x0, 0x0  /* data16 cs nop WORD PTR [rax+rax*1+0x0] */
 2:
 	movzx  r11d,BYTE PTR [rcx+rax*1-0x2]
 	movzx  ebx,BYTE PTR [rcx+rax*1-0x1]
 	lea    r10,[rip + const_hex_constant_8]
 	movzx  ebx,BYTE PTR [rbx+r10*1]
 	or     bl,BYTE PTR [r11+r10*1]
-	js     5f
+	js     6f
 	movzx  r11d,BYTE PTR [rcx+rax*1]
 	movzx  ebx,BYTE PTR [rcx+rax*1+0x1]
 	movzx  ebx,BYTE PTR [rbx+r10*1]
 	or     bl,BYTE PTR [r11+r10*1]
-	js     3f
+	js     4f
 	lea    r10,[rax+0x4]
 	add    rax,0x2
 	cmp    rax,r9
@@ -990,28 +1007,33 @@
 	jbe    2b
 	add    r10,0xfffffffffffffffe
 	mov    rax,r10
-3:
 	cmp    rax,r8
-	jae    6f
-	.byte 0x66, 0x90  /* xchg   ax,ax */
+	jb     5f
+	jmp    7f
+3:
+	xor    eax,eax
 4:
+	cmp    rax,r8
+	jae    7f
+	.byte 0x66, 0xf, 0x1f, 0x84, 0x0, 0x0, 0x0, 0x0, 0x0  /* nop    WORD PTR [rax+rax*1+0x0] */
+5:
 	movzx  r9d,BYTE PTR [rcx+rax*1]
 	lea    r10,[rip + const_hex_constant_8]
 	cmp    BYTE PTR [r9+r10*1],0xff
-	je     7f
+	je     8f
 	inc    rax
 	cmp    r8,rax
-	jne    4b
+	jne    5b
 	xor    r9d,r9d
 	mov    rax,r8
-	jmp    7f
-5:
+	jmp    8f
+6:
 	add    rax,0xfffffffffffffffe
 	cmp    rax,r8
-	jb     4b
-6:
-	xor    r9d,r9d
+	jb     5b
 7:
+	xor    r9d,r9d
+8:
 	add    rdx,QWORD PTR [rsi]
 	mov    rcx,0xffffffffffffffff
 	cmovb  rdx,rcx

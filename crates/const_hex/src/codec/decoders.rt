@@ -3,7 +3,9 @@
 ghost use Rattle.std.specs.Prelude.{◌≡◌, ◌*◌, false, length, IsTrue, Ok};
 ghost use Rattle.const_hex.specs.Prelude.{body_of, ReadsSized, all_digits, DecodesToSlice, DecodesToFront, DecodesToArray};
 
-use crate::codec::body::{are_digits, decode_body, find_invalid_character, strip_even};
+use crate::codec::body::{
+    are_digits, decode_body, find_invalid_character, strip_even, strip_prefix,
+};
 use crate::error::FromHexError;
 use const_hex_arch::{FixedKernel, Kernel, value_at};
 
@@ -152,10 +154,10 @@ pub fn decode_to_array<const N: usize>(input: &[u8]) -> Result<[u8; N], FromHexE
 pub fn const_decode_to_array<const N: usize>(input: &[u8]) -> Result<[u8; N], FromHexError>
     ensures { DecodesToArray N input.now result }
 {
-    let body = match strip_even(input) {
-        Ok(body) => body,
-        Err(error) => return Err(error),
-    };
+    if input.len() % 2 != 0 {
+        return Err(FromHexError::OddLength);
+    }
+    let body = strip_prefix(input);
     if body.len() != 2 * N {
         return Err(FromHexError::InvalidStringLength);
     }

@@ -25,13 +25,13 @@ pub(crate) const fn strip_even(text: &[u8]) -> Result<&[u8], FromHexError> {
 }
 
 /// Whether two bytes are `0x` or `0X`.
-// Constant time: both characters are compared as one number of 16 bits. If they were compared one
-// after the other, a valid text without a prefix would take another path when its first digit is
-// `0`.
+// Constant time: both characters are compared as one number of 16 bits, the first one as its lower byte. If
+// they were compared one after the other, a valid text without a prefix would take another path when its
+// first digit is `0`.
 #[inline(always)]
 pub(crate) const fn is_prefix(first: u8, second: u8) -> bool {
     let pair = u16::from_le_bytes([first, second]);
-    pair == u16::from_le_bytes(*b"0x") || pair == u16::from_le_bytes(*b"0X")
+    pair == 0x7830 || pair == 0x5830
 }
 
 /// Whether both bytes are digits.
@@ -94,7 +94,8 @@ pub(crate) const fn find_first_bad(text: &[u8]) -> (u8, usize) {
 #[inline(always)]
 const fn skip_digits(text: &[u8]) -> usize {
     let mut index = 0;
-    if let Some(last) = text.len().checked_sub(4) {
+    if text.len() >= 4 {
+        let last = text.len() - 4;
         'fours: while index <= last {
             if !are_digits(text[index], text[index + 1]) {
                 break;

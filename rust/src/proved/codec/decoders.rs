@@ -2,7 +2,9 @@
 //! Decoding a whole text.
 
 use crate::std_shim::prelude::*;
-use crate::proved::codec::body::{are_digits, decode_body, find_invalid_character, strip_even};
+use crate::proved::codec::body::{
+    are_digits, decode_body, find_invalid_character, strip_even, strip_prefix,
+};
 use crate::proved::error::FromHexError;
 use crate::proved::{FixedKernel, Kernel, value_at};
 
@@ -104,10 +106,10 @@ pub fn decode_to_array<const N: usize>(input: &[u8]) -> Result<[u8; N], FromHexE
 /// `decode_to_array`.
 #[inline]
 pub const fn const_decode_to_array<const N: usize>(input: &[u8]) -> Result<[u8; N], FromHexError> {
-    let body = match strip_even(input) {
-        Ok(body) => body,
-        Err(error) => return Err(error),
-    };
+    if input.len() % 2 != 0 {
+        return Err(FromHexError::OddLength);
+    }
+    let body = strip_prefix(input);
     if body.len() != 2 * N {
         return Err(FromHexError::InvalidStringLength);
     }

@@ -4,8 +4,8 @@ use Rattle.const_hex.proofs.lemmas.Searching.{has_value}
 use Rattle.const_hex.proofs.lemmas.RoundTrip.{DecodesToArray-from_ReadsSized}
 use Rattle.const_hex.proofs.codec.decoders.const_decode_to_array.Goals as goal
 
-pub returns-in-Err : goal.returns-in-Err
-returns-in-Err g c = DecodesToArray-from_ReadsSized g.row.N c.args.input.now _ (search rules)
+pub returns-then-input-ne0 : goal.returns-then-input-ne0
+returns-then-input-ne0 g c = DecodesToArray-from_ReadsSized g.row.N c.args.input.now _ (search rules)
 
 pub returns-then-body : goal.returns-then-body
 returns-then-body g c = DecodesToArray-from_ReadsSized g.row.N c.args.input.now _ (search rules)
@@ -18,9 +18,8 @@ pairs-preserved g c = search (rules, has_value, pair_more)
 
 pub returns : goal.returns
 returns g c =
-    let body = c.in-Ok.ensures.body in
-    let even = c.in-Ok.ensures.even in
-    let all = take_all (2 * c.pairs.index) c.in-Ok.body.now (omega (arith, even.1)) in
+    let body = c.strip_prefix-body.ensures.body in
+    let all = take_all (2 * c.pairs.index) c.strip_prefix-body.result.now (omega arith) in
     let spelled = rw (all, take_all c.pairs.index c.pairs.bytes (omega arith)) at c.pairs.invariant.front in
     DecodesToArray-from_ReadsSized g.row.N c.args.input.now _
-    (rw (← body) (omega (arith, even.1)), (even.0, rw (← body) spelled))
+    (rw (← body) (omega arith), (omega (arith, c.if-input-ne0.false), rw (← body) spelled))
