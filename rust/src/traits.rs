@@ -7,6 +7,7 @@ use crate::FromHexError;
 use alloc::sync::Arc;
 #[cfg(feature = "alloc")]
 use alloc::{borrow::Cow, borrow::ToOwned, boxed::Box, rc::Rc, string::String, vec::Vec};
+use core::iter::from_fn;
 
 /// Defines the trait `FromHex` and its impls, over the functions of the module `codec`.
 macro_rules! from_hex {
@@ -185,6 +186,14 @@ to_hex! {
 #[inline]
 fn digits<const UPPER: bool, T: FromIterator<char>>(bytes: &[u8]) -> T {
     match bytes.len() {
+        1 => {
+            let (digits, mut at) = (digits_at::<true>(UPPER, bytes[0]), 0);
+            let next = || {
+                at += 1;
+                digits.get(at - 1).map(|digit| character(*digit))
+            };
+            from_fn(next).collect()
+        }
         2..=32 => digits_in::<64, UPPER, T>(bytes),
         33..=2048 => digits_in::<4096, UPPER, T>(bytes),
         _ => (0..2 * bytes.len()).map(|at| character(digits_at::<true>(UPPER, bytes[at / 2])[at % 2])).collect(),
