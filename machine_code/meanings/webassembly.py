@@ -206,7 +206,7 @@ EFFECTS = {"br_if": (1, 0), "br_table": (1, 0), "select": (3, 1), "local.get": (
 
 
 def computes(name, takes, function, gives=1):
-    """Adds an instruction with operands: i, an i32 of which the lower half counts; n, a number; l, an i64; v, a vector."""
+    """Adds an instruction. Operands: i, an i32 of which the lower half counts; n, a number; l, an i64; v, a vector."""
     def handler(s, i):
         first = i.operands.height - len(takes)
         values = [s.take(_operand(i, height)) for height in range(first, i.operands.height)]
