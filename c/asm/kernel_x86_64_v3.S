@@ -4,7 +4,6 @@
 #ifdef __x86_64__
 #define const_hex_1_0_0_check_v3 SYMBOL(const_hex_kernel_check_v3)
 #define const_hex_1_0_0_constant_10_v3 SYMBOL(const_hex_kernel_constant_10_v3)
-#define const_hex_1_0_0_constant_11_v3 SYMBOL(const_hex_kernel_constant_11_v3)
 #define const_hex_1_0_0_constant_1_v3 SYMBOL(const_hex_kernel_constant_1_v3)
 #define const_hex_1_0_0_constant_2_v3 SYMBOL(const_hex_kernel_constant_2_v3)
 #define const_hex_1_0_0_constant_3_v3 SYMBOL(const_hex_kernel_constant_3_v3)

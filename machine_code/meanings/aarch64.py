@@ -1,8 +1,7 @@
 """AArch64: its operands as `objdump` writes them, what each instruction does, and the procedure call standard.
 
 If a meaning were wrong, code would be proved that does something else. test_meanings.py compares each form that occurs
-with QEMU. An instruction is refused unless the assembler, which knows what ARMv8.0 has, makes the same bytes of its
-text.
+with QEMU. An instruction is refused unless the assembler, which knows ARMv8.0, makes the same bytes of its text.
 """
 
 import re
@@ -13,7 +12,7 @@ from execution import state
 from execution.paths import Branch
 from execution.state import byte, chosen, joined, simple, split, word
 from meanings.lanes import (ADD, AND, MINIMUM, OR, SUBTRACT, SUBTRACT_SATURATED, XOR, bytes_of, conditions,
-                            difference_flags, each, holds, sum_flags, units)
+                            difference_flags, each, holds, logic_flags, sum_flags, units)
 from reading import assembled
 from reading.image import AARCH64
 from solver.questions import require
@@ -295,13 +294,12 @@ def jump_if_zero(s, i):
 
 
 # Loads and stores
-LOADS = "ldr", "ldur", "ldp", "ld1", "ldrb", "ldurb", "ldrh"
+LOADS = "ldr", "ldur", "ldp", "ld1", "ld1r", "ldrb", "ldurb", "ldrh"
 STORES = "str", "stur", "stp", "st2", "strb", "sturb", "strh"
 
 
 def accessed(s, i):
-    """The registers of a load or store, how many bytes are of each: all, or what the last letter says; the address, and
-    what the base is afterwards."""
+    """The registers of a load or store, how many bytes are of each, the address, and what the base is afterwards."""
     *registers, o = i.operands
     require(o.kind == "memory", "an address of another form")
     base = s.general[o.base]
@@ -309,7 +307,8 @@ def accessed(s, i):
         s.must(base & 15 == 0, "the stack pointer is not aligned")
     address = simple(base + (s.general[o.index] if o.index else o.offset))
     moved = simple(base + s.number(o.after, 8)) if o.after else address if o.is_moved else base
-    return registers, SIZES.get(i.mnemonic[-1], registers[0].size), address, {o.base: moved}
+    size = registers[0].lane if i.mnemonic == "ld1r" else registers[0].size
+    return registers, SIZES.get(i.mnemonic[-1], size), address, {o.base: moved}
 
 
 def load(s, i):
@@ -317,7 +316,8 @@ def load(s, i):
     lane = s.load(address, size * len(targets))
     s.general |= moved
     for number, target in enumerate(targets):
-        s.put_lane(target, lane[size * number :][:size] + [byte(0)] * (target.size - size))
+        rest = lane if i.mnemonic == "ld1r" else [byte(0)]
+        s.put_lane(target, (lane[size * number :][:size] + rest * target.size)[: target.size])
 
 
 def store(s, i):
@@ -332,7 +332,7 @@ def store(s, i):
 
 HANDLERS = {
     "add": either(general(ADD), by_units(ADD)), "adds": general(ADD, sum_flags),
-    "cmn": general(ADD, sum_flags, is_kept=False),
+    "cmn": general(ADD, sum_flags, is_kept=False), "tst": general(AND, logic_flags(AND), is_kept=False),
     "sub": either(general(SUBTRACT), by_units(SUBTRACT)), "subs": general(SUBTRACT, comparison_flags),
     "cmp": general(SUBTRACT, comparison_flags, is_kept=False), "and": either(general(AND), by_units(AND)),
     "orr": either(general(OR), by_units(OR)), "eor": general(XOR), "neg": general(lambda a: -a),

@@ -1,8 +1,7 @@
 """WebAssembly: the instructions of a module as `wasm2wat` writes them, what each does, and how a function is called.
 
-An operand on the stack is a register whose name says how many lie below it, since that is known of each instruction; so
-are a function's parameters and locals. An i32 is a number of 64 bits of which the lowest 32 count. If a meaning were
-wrong, code would be proved that does something else. test_webassembly.py compares each form that occurs with Node.
+An operand on the stack is a register whose name says how many lie below it; so are a function's parameters and locals.
+An i32 is a number of 64 bits of which the lowest 32 count. test_webassembly.py compares each form with Node.
 """
 
 import re
@@ -207,8 +206,7 @@ EFFECTS = {"br_if": (1, 0), "br_table": (1, 0), "select": (3, 1), "local.get": (
 
 
 def computes(name, takes, function, gives=1):
-    """Adds an instruction that takes operands: i is an i32 of which the lowest 32 bits count, n one that is a number, l
-    an i64, and v a vector. The function also takes the state and the numbers in the instruction."""
+    """Adds an instruction. Operands: i, an i32 of which the lower half counts; n, a number; l, an i64; v, a vector."""
     def handler(s, i):
         first = i.operands.height - len(takes)
         values = [s.take(_operand(i, height)) for height in range(first, i.operands.height)]
@@ -271,8 +269,7 @@ def branch_by(s, i):
 
 
 def select(s, i):
-    """Counts as a branch: it is run again in the states where it is known which operand is taken. A byte of the input
-    may decide that stands alone."""
+    """Counts as a branch, which runs again where it is known what is taken, unless a byte that stands alone decides."""
     operands = [_operand(i, i.operands.height - below) for below in (3, 2, 1)]
     condition = simple(s.exact(s.get(operands[-1])) != 0)
     truth = next((truth for truth in (True, False) if s.holds(condition == truth)), None)
@@ -353,3 +350,6 @@ for _name, _first in (("low", 0), ("high", 8)):
     computes(f"i16x8.extend_{_name}_i8x16_u", "v", lambda s, numbers, a, first=_first: [
         part for value in a[first:][:8] for part in (value, byte(0))])
 computes("v128.any_true", "v", lambda s, numbers, a: _if(s, simple(z3.Or(*[part != 0 for part in a]))))
+for _name, _size in {"i8x16": 1, "i16x8": 2}.items():
+    computes(f"{_name}.extract_lane_u", "v", lambda s, numbers, a, size=_size: joined(
+        a[size * numbers[0] :][:size] + [byte(0)] * (8 - size)))

@@ -392,7 +392,7 @@ VECTORS = {
     "movdqu": move_vector(False), "movdqa": move_vector(True), "movups": move_vector(False),
     "movaps": move_vector(True), "xorps": by_units(1, XOR), "movd": move_low(4), "movq": move_low(8),
     "pinsrb": insert(1), "pinsrw": insert(2), "pinsrd": insert(4), "pextrw": extract(2), "pextrd": extract(4),
-    "pextrq": extract(8), "ptest": test_vector, "pmovzxbw": widen,
+    "pextrq": extract(8), "pextrb": extract(1), "ptest": test_vector, "pmovzxbw": widen,
 }
 
 

@@ -74,8 +74,8 @@ def _function(name, text):
                         for index, kind in enumerate(HANDLERS[mnemonic].takes))
     if ".store" in mnemonic:
         return f'(func (export "{name}") {operands} {text})'
-    type_ = mnemonic.split(".")[0]
-    result = "i32" if mnemonic in ("v128.any_true", "i32.wrap_i64") else type_ if type_ in TYPES.values() else "v128"
+    type_ = "i32" if re.search("any_true|wrap_i64|extract_lane", mnemonic) else mnemonic.split(".")[0]
+    result = type_ if type_ in TYPES.values() else "v128"
     return f'(func (export "{name}") i32.const {RESULT} {operands} {text} {result}.store)'
 
 

@@ -15,12 +15,12 @@ MORE = {
         inc rax; dec ecx; cmovb rax, rcx; cmovne eax, ecx; paddb xmm0, xmm1; por xmm0, xmm1; punpckldq xmm0, xmm1
         shr eax, 3; not rax; not cl; movabs rax, 0x123456789abcdef0; movsxd rax, ecx; movsxd rax, dword ptr [rcx]
         xorps xmm0, xmm1; movaps xmm0, xmm1; movups xmm0, [rax]; movups [rax], xmm0; mul rcx; mul rax
-        setb al; setae al; sete al; setne al; setbe al; seta al; sets al
+        setb al; setae al; sete al; setne al; setbe al; seta al; sets al; pinsrb xmm0, eax, 3
         lea rax, [rip + more + 16]; movdqu xmm0, [rip + more + 16]
         .section .rodata.more; .balign 16; more: .skip 16; .ascii "0123456789abcdef" """,
     "x86_64_v3": """.intel_syntax noprefix
         vpbroadcastq ymm0, xmm1; vpbroadcastd ymm0, xmm1; vpunpckldq ymm0, ymm1, ymm2; vpunpcklqdq ymm0, ymm1, ymm2
-        vpermq ymm0, ymm1, 0x8d; vpxor ymm0, ymm1, ymm2; vinserti128 ymm0, ymm1, xmm2, 1
+        vpermq ymm0, ymm1, 0x8d; vpxor ymm0, ymm1, ymm2; vinserti128 ymm0, ymm1, xmm2, 1; vpinsrb xmm0, xmm1, eax, 3
         vinserti128 ymm0, ymm1, xmm2, 0; vextracti128 xmm0, ymm1, 0; vextracti128 [rax], ymm1, 0
         vpinsrd xmm0, xmm1, eax, 2; vxorps ymm0, ymm1, ymm2; vmovaps ymm0, ymm1; vmovups ymm0, [rax]""",
     "aarch64": """
@@ -32,7 +32,7 @@ MORE = {
         tbz x0, #63, 1f; nop; nop; 1: nop; tbnz w0, #3, 1f; nop; nop; 1: nop
         b.ls 1f; nop; nop; 1: nop; b.gt 1f; nop; nop; 1: nop
         cset w0, eq; cset w0, ne; cset w0, cs; cset w0, cc; cset w0, hi; cset w0, ls; cset w0, gt; cset w0, le
-        movi v0.8h, #49; movi v0.4s, #49; movi v0.8b, #49; xtn v0.4h, v1.4s; shl v0.8h, v1.8h, #3
+        movi v0.8h, #49; movi v0.4s, #49; movi v0.8b, #49; xtn v0.4h, v1.4s; shl v0.8h, v1.8h, #3; dup v0.2d, x1
         uzp1 v0.8h, v1.8h, v2.8h; uzp2 v0.8h, v1.8h, v2.8h; zip1 v0.8h, v1.8h, v2.8h; zip2 v0.8h, v1.8h, v2.8h
         st2 {v0.8h, v1.8h}, [x1]; st2 {v0.8b, v1.8b}, [x1], #16; ld1 {v0.8b, v1.8b}, [x1]
         adrp x0, more + 16; add x0, x0, :lo12:more + 16; ldr q0, [x0, :lo12:more + 16]

@@ -21,9 +21,9 @@ FIND, FAIL = "locate_invalid", "decoder_fail"
 WRONG = [
     # Kernels
     ("a digit of a table", "v3", "fill", "0x61, 0x62", "0x61, 0x64", "a wrong character at", "lowercase",
-     "const_hex_1_0_0_constant_10_v3"),
+     "const_hex_1_0_0_constant_9_v3"),
     ("a letter in the other case", "v3", "fill", "0x41", "0x61", "a wrong character at", "uppercase",
-     "const_hex_1_0_0_constant_10_v3"),
+     "const_hex_1_0_0_constant_9_v3"),
     ("a store is missing", "v3", "fill", "vmovdqu YMMWORD PTR [rcx+rdx*2+0x60],ymm2", "", "left out"),
     ("63 bytes are read as 64", "v3", "fill", "cmp rsi,0x3f", "cmp rsi,0x3e", OUTSIDE),
     ("a byte decides a jump in a round", "v3", "fill", "vpmovzxbw ymm2,XMMWORD PTR [rdi+rdx*1]; ",
@@ -34,8 +34,8 @@ WRONG = [
     ("a byte of the output decides a jump", "v2", "fill", "", "test rsi,rsi; je 1f; cmp BYTE PTR [rcx],0; 1:",
      UNWRITTEN),
     ("one of eight vectors is not tested", "v2", "read", "por xmm9,xmm6", "", "a wrong byte|before it is|passed"),
-    ("the lower bits of another constant", "aarch64", "fill", "add_label x9, x9, const_hex_1_0_0_constant_3",
-     "add_label x9, x9, const_hex_1_0_0_constant_3+16", "a wrong character at"),
+    ("the lower bits of another constant", "aarch64", "fill", "add_label x9, x9, const_hex_1_0_0_constant_4",
+     "add_label x9, x9, const_hex_1_0_0_constant_4+16", "a wrong character at"),
     ("a bit of the marks is not tested", "aarch64", "check", "movi v2.16b, #0xd8", "movi v2.16b, #0x58", PASSES),
     ("a result with other bits", "aarch64", "check", "cset w0, eq", "cset w0, eq; orr w0, w0, #0x100", NEITHER),
     ("the same half twice", "aarch64", "read", "uzp1 ", "uzp2 ", "a wrong byte at"),

@@ -1,7 +1,7 @@
 -- Digits in a vector: their values and the test of each lane by one look-up, and the test of all lanes. The numbers
 -- are those of lanes16.rt and lanes.rt, which docs/DESIGN.md explains under "Checking and decoding one vector": adding
 -- 208 subtracts `0`, 143 (0x8F) is the part of a byte that looks up its limit, and 216 (0xD8) are the bits of a mark.
-use Rattle.std.proofs.Common.{◌≡◌, ℕ, zero, suc, ◌+◌, ◌-◌, ◌*◌, ◌/◌, ◌%◌, ◌<◌, ◌≤◌, ◌↔◌, Bool, true, eqb, cond, ltb, ltb→lt, ◌||◌, T, List, [], ◌∷◌, ◌++◌, length, replicate, get_or, bit_and, bit_or, refl, subst, arith, w8, Fits, IsTrue, Some, is_some, is_none}
+use Rattle.std.proofs.Common.{◌≡◌, ℕ, zero, suc, ◌+◌, ◌-◌, ◌*◌, ◌/◌, ◌%◌, ◌<◌, ◌≤◌, ◌↔◌, Bool, true, eqb, cond, ltb, ltb→lt, ◌||◌, T, List, [], ◌∷◌, ◌++◌, length, take, replicate, get_or, slice_index_or, bit_and, bit_or, refl, ap, eqb→eq, subst, arith, w8, Fits, IsTrue, Some, is_some, is_none}
 use Rattle.std.specs.List.{AllZip}
 use Rattle.std.specs.Int.{bit_at}
 use Rattle.std.proofs.lemmas.Bool.{agree_below, agree_below_at}
@@ -12,10 +12,10 @@ use Rattle.std.proofs.lemmas.Nat.Bits.{bit_at_or}
 use Rattle.std.proofs.lemmas.Simd.{swz_l}
 use lib.Lanes.{zip2, fold_l, Each1, number_l, digits_l}
 use mir.Val.{zeroes}
-use Rattle.const_hex_arch.specs.{hex_value, IsDigit, AllDigits, IsUnmarked, AllUnmarked, IsValueOf, IsPartOf, IsLimitOf}
-use Rattle.const_hex_arch.proofs.lemmas.Standard.{holds_below, every_below}
+use Rattle.const_hex_arch.specs.{hex_value, IsDigit, AllDigits, IsUnmarked, AllUnmarked, IsValueOf, IsPartOf, IsLimitOf, IsMarkOf, IsPair}
+use Rattle.const_hex_arch.proofs.lemmas.Standard.{holds_below, every_below, every_pair}
 use Rattle.const_hex_arch.proofs.lemmas.LaneValues.{same_value, same_if_some, sub8, min_l}
-use Rattle.const_hex_arch.proofs.lemmas.Digits.{digits_append}
+use Rattle.const_hex_arch.proofs.lemmas.Digits.{digits_append, hex_value-small}
 
 -- the bits that mark a lane
 abbrev mark_bits : ℕ → ℕ
@@ -102,6 +102,13 @@ unmarked_are_digits (b ∷ v) (n ∷ ns) z =
     grind (arith, All-head IsDigit b v, All-tail IsDigit b v, All-cons IsDigit b v, unmarked_are_digits v ns z.1)
 unmarked_are_digits _ _ z = absurd z
 
+-- the mark of each lane
+pub marks_of_parts : (v ns : List ℕ) → AllZip IsPartOf v ns
+    → AllZip IsMarkOf v (zip2 sub8 (minus_48_l (length v) v) ns)
+marks_of_parts [] [] z = tt
+marks_of_parts (b ∷ v) (n ∷ ns) z = (z.0.1, marks_of_parts v ns z.1)
+marks_of_parts _ _ z = absurd z
+
 -- a lane of two together
 both_unmarked : (y z : ℕ) → IsUnmarked (bit_or y z) ↔ (IsUnmarked y × IsUnmarked z)
 both_unmarked y z = let bits = bit_at_or y z in omega (arith, bits 7, bits 6, bits 4, bits 3)
@@ -173,3 +180,70 @@ pub are_unmarked : (n : ℕ) (xs : List ℕ) → (length xs ≡ 8 * n) × Each1 
     → IsTrue (eqb (fold_l bit_or 0 (digits_l 18446744073709551616 n (number_l 256 (zip2 bit_and xs (replicate (8 * n) 216))))) 0)
     ↔ AllUnmarked xs
 are_unmarked n xs f = rw (← f.0) (grind (arith, nat_tests, unmarked_numbers 0 n xs f.0 f.1))
+
+-- the first two lanes as one number of 16 bits
+pub is_pair_unmarked : (xs : List ℕ) → (length xs ≡ 16) × Each1 (Fits w8) xs
+    → IsTrue (eqb (number_l 256 (zip2 bit_and xs (replicate 16 216)) % 65536) 0) ↔ AllUnmarked (take 2 xs)
+is_pair_unmarked (x0 ∷ x1 ∷ xs) f =
+    let b0 = below_256 x0 f.1.0.fits in
+    let b1 = below_256 x1 f.1.1.0.fits in
+    let rest = number_l 256 (zip2 bit_and xs (replicate 14 216)) in
+    let here : ((marked x0 + 256 * (marked x1 + 256 * rest)) % 65536 ≡ 0) ↔ ((marked x0 + marked x1) ≡ 0) = omega arith in
+    grind (arith, nat_tests, here, unmarked_at x0 f.1.0.fits, unmarked_at x1 f.1.1.0.fits)
+is_pair_unmarked _ f = absurd (omega (arith, f.0))
+
+-- two bytes in the first lanes, of a number of 16 bits
+pub pair_in : (a b n r : ℕ) → a < 256 → b < 256 → n ≡ a + 256 * b
+    → (n + 65536 * r) % 256 ∷ (n + 65536 * r) / 256 % 256 ∷ [] ≡ a ∷ b ∷ []
+pair_in a b n r h k e =
+    let first : (n + 65536 * r) % 256 ≡ a = omega arith in
+    let second : (n + 65536 * r) / 256 % 256 ≡ b = omega arith in
+    rw (first, second) refl
+
+-- the marks of two characters in the first lanes
+pub pair_marks : (c d : ℕ) (v zs : List ℕ) → take 2 v ≡ c ∷ d ∷ [] → AllZip IsMarkOf v zs
+    → AllUnmarked (take 2 zs) ↔ AllDigits (c ∷ d ∷ [])
+pair_marks c d (x ∷ y ∷ v) (p ∷ q ∷ zs) e z =
+    let first : x ≡ c = ap (λ u. get_or u 0 0) e in
+    let second : y ≡ d = ap (λ u. get_or u 1 0) e in
+    rw (← first, ← second)
+    (grind (
+      arith,
+      All-head IsDigit x (y ∷ []),
+      All-tail IsDigit x (y ∷ []),
+      All-head IsDigit y [],
+      All-cons IsDigit y [],
+      All-cons IsDigit x (y ∷ []),
+      All-nil IsDigit,
+      z.0,
+      z.1.0,
+    ))
+pair_marks c d [] zs e z = cc e
+pair_marks c d (x ∷ []) zs e z = cc e
+pair_marks c d (x ∷ y ∷ v) [] e z = absurd z
+pair_marks c d (x ∷ y ∷ v) (p ∷ []) e z = absurd z.1
+
+-- the byte that two digits in the first lanes make
+joined : (h l : ℕ) → h < 16 → l < 16 → bit_or (h * 16 % 256) l ≡ 16 * h + l
+joined h l p q =
+    eqb→eq _ _ (every_pair (λ h l. eqb (bit_or (h * 16 % 256) l) (16 * h + l)) 16 16 tt h l p q)
+
+pub pair_byte : (c d : ℕ) (v ns : List ℕ) → take 2 v ≡ c ∷ d ∷ [] → AllZip IsPartOf v ns → AllDigits (c ∷ d ∷ [])
+    → IsPair c d (bit_or (slice_index_or ns 0 0 * 16 % 256) (slice_index_or ns 1 0))
+pair_byte c d (x ∷ y ∷ v) (p ∷ q ∷ ns) e z a =
+    let first : x ≡ c = ap (λ u. get_or u 0 0) e in
+    let second : y ≡ d = ap (λ u. get_or u 1 0) e in
+    let digit : IsDigit x = rw first (All-head IsDigit c (d ∷ []) a) in
+    let next : IsDigit y = rw second (All-head IsDigit d [] (All-tail IsDigit c (d ∷ []) a)) in
+    let high : hex_value c ≡ Some p = rw first at (z.0.0 digit) in
+    let low : hex_value d ≡ Some q = rw second at (z.1.0.0 next) in record {
+      high = p;
+      low = q;
+      high_is = high;
+      low_is = low;
+      byte_is = joined p q (hex_value-small c p high) (hex_value-small d q low);
+    }
+pair_byte c d [] ns e z a = cc e
+pair_byte c d (x ∷ []) ns e z a = cc e
+pair_byte c d (x ∷ y ∷ v) [] e z a = absurd z
+pair_byte c d (x ∷ y ∷ v) (p ∷ []) e z a = absurd z.1

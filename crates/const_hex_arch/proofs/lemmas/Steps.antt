@@ -1,5 +1,5 @@
 -- Texts that are worked through in steps, and the remainder by another call.
-use Rattle.std.proofs.Common.{◌≡◌, ℕ, ◌+◌, ◌-◌, ◌*◌, ◌<◌, ◌≤◌, ◌↔◌, List, [], ◌∷◌, ◌++◌, length, take, drop, slice_index, slice_index_or, refl, ap, ◌∙◌, arith, take-add, take-append-drop, drop-drop, length-take, length-append, Option, IsAscii}
+use Rattle.std.proofs.Common.{◌≡◌, ℕ, ◌+◌, ◌-◌, ◌*◌, ◌<◌, ◌≤◌, ◌↔◌, List, [], ◌∷◌, ◌++◌, length, take, drop, slice_index, slice_index_or, slice_set, refl, ap, ◌∙◌, arith, take-add, take-append-drop, drop-drop, length-take, length-append, Option, IsAscii}
 use Rattle.std.proofs.lemmas.Grind.{common_steps}
 use Rattle.std.proofs.lemmas.List.{append-nil, take_at, drop_at, take_rest}
 use Rattle.std.proofs.lemmas.List.Elements.{All-take, All-drop}
@@ -30,6 +30,31 @@ digits_last u i e h d = (
       (digits_parts i u).1 (d, rw past at (All-drop IsDigit (i - e) (drop e u) (rw take_rest at last))),
   λ whole. rw take_rest (All-drop IsDigit e u whole),
 )
+
+-- the first bytes are digits, and so are all bytes, from those up to `end`, and those after e, which is not past it
+pub digits_rest : (u : List ℕ) (i end e : ℕ) → i ≤ end → e ≤ end → AllDigits (take i u)
+    → AllDigits (take (end - i) (drop i u) ++ take (length u - e) (drop e u)) ↔ AllDigits u
+digits_rest u i end e h k d =
+    let both = digits_append (take (end - i) (drop i u)) (take (length u - e) (drop e u)) in (
+      λ t.
+          let pair = both.0 t in
+          (digits_last u end e k (digits_step u i (end - i) end (omega arith) d pair.0)).0 pair.1,
+      λ all. both.1 (
+        All-take IsDigit (end - i) (drop i u) (All-drop IsDigit i u all),
+        All-take IsDigit (length u - e) (drop e u) (All-drop IsDigit e u all),
+      ),
+    )
+
+-- all bytes are digits if the first and those after e are, and these leave out none
+pub digits_overlap : (u : List ℕ) (i e : ℕ) → e ≤ i
+    → AllDigits (take i u ++ take (length u - e) (drop e u)) ↔ AllDigits u
+digits_overlap u i e h =
+    let both = digits_append (take i u) (take (length u - e) (drop e u)) in (
+      λ t.
+          let pair = both.0 t in
+          (digits_last u i e h pair.0).0 pair.1,
+      λ all. both.1 (All-take IsDigit i u all, All-take IsDigit (length u - e) (drop e u) (All-drop IsDigit e u all)),
+    )
 
 -- a part of ASCII text
 pub part_ascii : (u front rest part after : List ℕ) → front ++ rest ≡ u → part ++ after ≡ rest → IsAscii u
@@ -65,6 +90,12 @@ two_bytes [] h = cc h
 two_bytes (a ∷ []) h = absurd (omega (arith, h))
 two_bytes (a ∷ b ∷ []) h = refl
 two_bytes (a ∷ b ∷ c ∷ u) h = absurd (omega (arith, h))
+
+-- one byte, and another in its place
+pub one_byte : (o : List ℕ) (b : ℕ) → length o ≡ 1 → slice_set o 0 b ≡ b ∷ []
+one_byte [] b h = cc h
+one_byte (a ∷ []) b h = refl
+one_byte (a ∷ c ∷ o) b h = absurd (omega (arith, h))
 
 -- ---- the first bytes of an output hold what the first pairs of a text decode to, and the rest of the
 -- output is unchanged

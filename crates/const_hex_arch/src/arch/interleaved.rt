@@ -1,10 +1,10 @@
 //! The kernel for AArch64, whose vector instructions interleave the lanes of two vectors, and take them apart.
 
-ghost use Rattle.std.specs.Prelude.{◌≡◌, ◌↔◌, [], ◌∷◌, ◌*◌, ◌<◌, ◌++◌, length, map, IsTrue, false};
+ghost use Rattle.std.specs.Prelude.{◌≡◌, ◌↔◌, [], ◌∷◌, ◌*◌, ◌<◌, ◌++◌, length, take, map, IsTrue, false};
 ghost use Rattle.std.specs.List.{AllZip, concat};
 ghost use Rattle.const_hex_arch.specs.{hex_text, AllNibbles, AllUnmarked, byte_pairs, IsLimitOf};
 
-use crate::arch::lanes::LaneOps;
+use crate::arch::lanes::{LaneOps, PairOps};
 use crate::arch::lanes16::{self, Lanes16};
 use crate::arch::lanes32::Lanes32;
 use crate::arch::{Kernel, loops, small_input, steps};
@@ -75,9 +75,21 @@ fn fill_short<const UPPER: bool>(input: &[u8], output: &mut [u8])
     if input.len() == 16 {
         steps::fill_step::<16, Interleaved>(input, UPPER, UPPER, output);
     } else if input.len() >= 32 {
-        small_input::fill_overlapping::<32, Interleaved>(input, UPPER, output);
+        small_input::fill_overlapping_by_halves::<32, 16, Interleaved, Interleaved>(
+            input, UPPER, output,
+        );
     } else {
         loops::fill_in_steps::<32, Interleaved, Interleaved>(input, UPPER, output);
+    }
+}
+
+impl PairOps for Interleaved {
+    // In each two lanes, for which AArch64 takes one instruction.
+    #[inline(always)]
+    fn from_pair(first: u8, second: u8) -> u8x16
+        ensures { take 2 result ≡ first ∷ second ∷ [] }
+    {
+        u16x8::splat(u16::from_le_bytes([first, second])).to_le_bytes()
     }
 }
 

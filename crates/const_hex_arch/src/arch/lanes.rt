@@ -2,9 +2,9 @@
 //! the digit of a value, and the test whether all lanes are digits. docs/DESIGN.md works through an
 //! example.
 
-ghost use Rattle.std.specs.Prelude.{◌≡◌, ◌*◌, ◌++◌, ◌≤◌, ◌↔◌, [], ◌∷◌, length, map, IsTrue};
+ghost use Rattle.std.specs.Prelude.{◌≡◌, ◌*◌, ◌++◌, ◌≤◌, ◌↔◌, [], ◌∷◌, length, take, map, IsTrue};
 ghost use Rattle.std.specs.List.{AllZip, concat};
-ghost use Rattle.const_hex_arch.specs.{hex_value, hex_text, AllDigits, Spells, AllNibbles, AllUnmarked, byte_pairs, as_value, IsValueOf, IsPartOf, IsLimitOf};
+ghost use Rattle.const_hex_arch.specs.{hex_value, hex_text, AllDigits, Spells, AllNibbles, AllUnmarked, byte_pairs, as_value, IsValueOf, IsPartOf, IsLimitOf, IsMarkOf};
 
 use std::simd::prelude::*;
 
@@ -33,6 +33,13 @@ pub(crate) trait LaneOps<const N: usize> {
     /// A step has at least one byte, so that a loop ends. It has at most 32, so that two steps of 16
     /// lanes, which may overlap, encode or decode what is shorter than a step.
     ghost sizes: { (1 ≤ N) × (N ≤ 32) };
+}
+
+/// How two bytes come into a vector, which depends on the processor.
+pub(crate) trait PairOps {
+    /// Both bytes in the first two lanes, and anything in the others.
+    fn from_pair(first: u8, second: u8) -> u8x16
+        ensures { take 2 result ≡ first ∷ second ∷ [] };
 }
 
 /// The value of each lane that is a digit, and more than 15 for every other lane.
@@ -66,7 +73,7 @@ pub(crate) fn unhex<const N: usize>(v: Simd<u8, N>) -> Simd<u8, N>
 /// is a number by which [`marks`] rejects the lane.
 #[inline(always)]
 #[tactic(auto, using(crate::proofs::lemmas::LaneMarks::parts_are))]
-fn values<const N: usize, V: LaneOps<N>>(v: Simd<u8, N>) -> Simd<u8, N>
+pub(crate) fn values<const N: usize, V: LaneOps<N>>(v: Simd<u8, N>) -> Simd<u8, N>
     ensures { AllZip IsPartOf v.entry result }
 {
     (v - Simd::splat(0x30)).simd_min(V::look_up_limits(v))
@@ -78,8 +85,9 @@ fn values<const N: usize, V: LaneOps<N>>(v: Simd<u8, N>) -> Simd<u8, N>
 // `(v - 48).saturating_sub(limits)` is the same number. But then the limits of all vectors would
 // stay in registers beside the values until the marks are tested, and SSE has only 16 registers.
 #[inline(always)]
-fn marks<const N: usize, V: LaneOps<N>>(v: Simd<u8, N>) -> Simd<u8, N>
-    ensures { AllUnmarked result ↔ AllDigits v.entry }
+pub(crate) fn marks<const N: usize, V: LaneOps<N>>(v: Simd<u8, N>) -> Simd<u8, N>
+    ensures all { AllUnmarked result ↔ AllDigits v.entry }
+    ensures each { AllZip IsMarkOf v.entry result }
 {
     v - Simd::splat(0x30) - values::<N, V>(v)
 }

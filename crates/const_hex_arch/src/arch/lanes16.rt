@@ -3,11 +3,11 @@
 //! Each of these calls has a contract for every vector: [`encode_chunk`], [`check_chunk`],
 //! [`decode_chunk`], [`nibbles`] and [`unhex`].
 
-ghost use Rattle.std.specs.Prelude.{◌≡◌, ◌↔◌, [], ◌∷◌, ◌++◌, length, map, IsTrue, false, IsNone, IfSome};
+ghost use Rattle.std.specs.Prelude.{◌≡◌, ◌↔◌, [], ◌∷◌, ◌++◌, length, take, map, IsTrue, false, IsNone, IfSome};
 ghost use Rattle.std.specs.List.{AllZip, concat, range_with_len};
 ghost use Rattle.const_hex_arch.specs.{hex_digit, hex_value, hex_text, AllDigits, Spells, AllNibbles, AllUnmarked, byte_pairs, bytes_of_4097, halves_of, as_value, IsValueOf, IsLimitOf};
 
-use crate::arch::lanes::{self, LaneOps};
+use crate::arch::lanes::{self, LaneOps, PairOps};
 use crate::arch::{Kernel, loops, small_input};
 use std::simd::prelude::*;
 
@@ -58,6 +58,14 @@ pub(crate) fn factors_row(second_row: bool) -> [u8; 16]
 #[inline(always)]
 pub(crate) fn second_row_for(length: usize) -> bool {
     length / 16 % 2 == 1
+}
+
+/// Whether the first two marks have the bits 7, 6, 4 and 3 clear.
+#[inline(always)]
+pub(crate) fn is_pair_unmarked(marks: u8x16) -> bool
+    ensures { IsTrue result ↔ AllUnmarked (take 2 marks) }
+{
+    u16x8::from_le_bytes(marks & u8x16::splat(0xD8)).to_array()[0] == 0
 }
 
 /// Half of a row, in both halves of a vector.
@@ -185,6 +193,16 @@ impl Kernel for Lanes16 {
     #[inline(always)]
     fn decode_unchecked(input: &[u8], output: &mut [u8]) {
         loops::decode_digits_in_steps::<16, Lanes16, Lanes16>(input, output);
+    }
+}
+
+impl PairOps for Lanes16 {
+    // In a number of 64 bits, for which x86-64 takes two instructions.
+    #[inline(always)]
+    fn from_pair(first: u8, second: u8) -> u8x16
+        ensures { take 2 result ≡ first ∷ second ∷ [] }
+    {
+        u64x2::from_array([u64::from(u16::from_le_bytes([first, second])), 0]).to_le_bytes()
     }
 }
 

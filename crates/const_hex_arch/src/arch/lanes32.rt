@@ -9,7 +9,7 @@ ghost use Rattle.const_hex_arch.specs.{hex_value, hex_text, AllDigits, Spells, A
 
 use crate::arch::lanes::{self, LaneOps};
 use crate::arch::lanes16::{self, Lanes16};
-use crate::arch::{Kernel, loops};
+use crate::arch::{Kernel, loops, small_input};
 use std::simd::prelude::*;
 
 /// Two digits for each lane, in order: the text of the first 16 lanes, and the text of the last 16.
@@ -119,7 +119,10 @@ impl Kernel for Lanes32 {
     #[inline]
     fn check(input: &[u8]) -> bool {
         if input.len() < 32 {
-            return Lanes16::check(input);
+            if input.len() < 16 {
+                return small_input::check(input);
+            }
+            return small_input::check_overlapping::<16, Lanes16>(input);
         }
         loops::check_in_steps::<32, Lanes32>(input)
     }

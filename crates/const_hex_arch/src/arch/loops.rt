@@ -5,10 +5,10 @@
 //! and remainders" in docs/DESIGN.md. The code was reviewed against that table, step by step; how the
 //! steps differ from those of const-hex is in docs/DECISIONS.md.
 
-ghost use Rattle.std.specs.Prelude.{◌≡◌, ◌*◌, ◌≤◌, ◌↔◌, IsTrue, false, length};
+ghost use Rattle.std.specs.Prelude.{◌≡◌, ◌+◌, ◌*◌, ◌≤◌, ◌↔◌, IsTrue, false, length, take};
 ghost use Rattle.const_hex_arch.specs.{hex_text, AllDigits, Spells, Partial};
 
-use crate::arch::lanes::LaneOps;
+use crate::arch::lanes::{LaneOps, PairOps};
 use crate::arch::{lanes16, small_input, steps};
 
 /// Fills the output with the text of the input. While two steps are left, it takes both in one turn;
@@ -56,16 +56,21 @@ pub(crate) fn fill_in_steps<const N: usize, V: LaneOps<N>, S: LaneOps<16>>(
     steps::fill_step::<N, V>(&input[start..], upper, second_row, &mut output[2 * start..]);
 }
 
-/// Whether every byte is a digit. The input has at least one step. While more than four steps are
-/// left, four of them share one test; then two, if more than two are left. One test covers the
-/// rest: the next step, if more than one is left, and the last `N` bytes, which may overlap what
-/// was already checked.
+/// Whether every byte is a digit. The input has at least one step. The first step has a test of its own, and
+/// the last one, if there are no more than two. Of a longer text, four steps share one test while more than
+/// four are left, and `check_remainder` has the rest.
 #[inline(always)]
 pub(crate) fn check_in_steps<const N: usize, V: LaneOps<N>>(input: &[u8]) -> bool
     requires { N ≤ length input.now }
     ensures { IsTrue result ↔ AllDigits input.now }
 {
-    let mut at = 0;
+    if !steps::check_step::<N, V>(&input[..N]) {
+        return false;
+    }
+    if input.len() <= 2 * N {
+        return input.len() == N || steps::check_step::<N, V>(&input[input.len() - N..]);
+    }
+    let mut at = N;
     while input.len() - at > 4 * N {
         let end = at + 4 * N;
         if !steps::check_four_steps::<N, V>(&input[at..end]) {
@@ -73,15 +78,30 @@ pub(crate) fn check_in_steps<const N: usize, V: LaneOps<N>>(input: &[u8]) -> boo
         }
         at = end;
     }
-    if input.len() - at > 2 * N {
-        let end = at + 2 * N;
-        if !steps::check_two_steps::<N, V>(&input[at..end]) {
-            return false;
-        }
-        at = end;
-    }
+    check_remainder::<N, V>(input, at)
+}
+
+/// As `check_in_steps`, for an input whose first `at` bytes are digits, and which has at most four steps more.
+/// One test covers these: as many steps from `at` on as it takes, and the last one, or the last two of four,
+/// which may overlap what was already checked.
+#[inline(always)]
+fn check_remainder<const N: usize, V: LaneOps<N>>(input: &[u8], at: usize) -> bool
+    requires least { N ≤ length input.now }
+    requires within { at ≤ length input.now }
+    requires most { length input.now ≤ at + 4 * N }
+    requires digits { AllDigits (take at input.now) }
+    ensures { IsTrue result ↔ AllDigits input.now }
+{
+    let left = input.len() - at;
     let last = &input[input.len() - N..];
-    if input.len() - at > N {
+    if left > 2 * N {
+        let front = &input[at..at + 2 * N];
+        if left > 3 * N {
+            steps::check_two_pairs::<N, V>(front, &input[input.len() - 2 * N..])
+        } else {
+            steps::check_three_steps::<N, V>(front, last)
+        }
+    } else if left > N {
         steps::check_pair::<N, V>(&input[at..at + N], last)
     } else {
         steps::check_step::<N, V>(last)
@@ -90,16 +110,18 @@ pub(crate) fn check_in_steps<const N: usize, V: LaneOps<N>>(input: &[u8]) -> boo
 
 /// Decodes the input and returns true. Returns false if some character is invalid; then the front
 /// of the output may already be decoded. Two steps share one test. A step with an invalid character
-/// writes nothing. After the steps of `N` lanes, one of 16 is decoded if 16 bytes are left. The last
-/// 16 bytes of the output cover the remainder, some of them again. Less than 16 bytes, and without
-/// `FRONT` also 16, are a remainder as a whole. With `FRONT` a valid first one of two steps is
-/// decoded if their test fails, and the pairs of the remainder before an invalid character. Without
-/// it the call ends there.
+/// writes nothing. After the steps of `N` lanes, one of 16 is decoded if more than 16 bytes are left. The last
+/// 16 bytes of the output cover the remainder, some of them again; but without `FRONT` one byte after the steps
+/// of `N` lanes is decoded alone. Less than 16 bytes, and without `FRONT` also 16, are a remainder as a whole.
+/// With `FRONT` a valid first one of two steps is decoded if their test fails, and the pairs of the remainder
+/// before an invalid character. Without it the call ends there.
 #[inline(always)]
-pub(crate) fn decode_in_steps<const N: usize, const FRONT: bool, V: LaneOps<N>, S: LaneOps<16>>(
-    input: &[u8],
-    output: &mut [u8],
-) -> bool
+pub(crate) fn decode_in_steps<
+    const N: usize,
+    const FRONT: bool,
+    V: LaneOps<N>,
+    S: LaneOps<16> + PairOps,
+>(input: &[u8], output: &mut [u8]) -> bool
     requires { length input.now ≡ 2 * length output.old }
     ensures spells { IsTrue result → Spells input.now output.new }
     ensures refused { result ≡ false → Partial output.old input.now output.new }
@@ -134,15 +156,17 @@ pub(crate) fn decode_in_steps<const N: usize, const FRONT: bool, V: LaneOps<N>, 
         }
         at = end;
     }
-    if output.len() - at >= 16 {
+    if at == output.len() {
+        return true;
+    }
+    if output.len() - at > 16 {
         let end = at + 16;
         if !steps::decode_step::<16, S>(&input[2 * at..2 * end], false, &mut output[at..end]) {
             return false;
         }
         at = end;
-    }
-    if at == output.len() {
-        return true;
+    } else if !FRONT && output.len() - at == 1 {
+        return small_input::decode_byte::<S>(&input[2 * at..], &mut output[at..]);
     }
     let start = output.len() - 16;
     steps::decode_step::<16, S>(&input[2 * start..], false, &mut output[start..])
@@ -152,7 +176,7 @@ pub(crate) fn decode_in_steps<const N: usize, const FRONT: bool, V: LaneOps<N>, 
 /// Decodes digits in steps, and then by the last 16 bytes, some of them again. A text of fewer than
 /// 16 bytes is left to `small_input::decode_small`.
 #[inline(always)]
-pub(crate) fn decode_digits_in_steps<const N: usize, V: LaneOps<N>, S: LaneOps<16>>(
+pub(crate) fn decode_digits_in_steps<const N: usize, V: LaneOps<N>, S: LaneOps<16> + PairOps>(
     input: &[u8],
     output: &mut [u8],
 )

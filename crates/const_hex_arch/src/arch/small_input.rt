@@ -3,8 +3,8 @@
 ghost use Rattle.std.specs.Prelude.{◌≡◌, [], ◌∷◌, ◌+◌, ◌*◌, ◌<◌, ◌≤◌, ◌++◌, ◌↔◌, length, take, IsTrue, false};
 ghost use Rattle.const_hex_arch.specs.{AllDigits, Spells, Partial, hex_text};
 
-use crate::arch::lanes::LaneOps;
-use crate::arch::lanes16::Lanes16;
+use crate::arch::lanes::{self, LaneOps, PairOps};
+use crate::arch::lanes16::{self, Lanes16};
 use crate::arch::plain::Plain;
 use crate::arch::{Kernel, steps};
 use std::simd::prelude::*;
@@ -43,6 +43,32 @@ pub(crate) fn fill_overlapping<const N: usize, V: LaneOps<N>>(
     if bytes.len() > N {
         let start = bytes.len() - N;
         steps::fill_step::<N, V>(&bytes[start..], upper, upper, &mut output[2 * start..]);
+    }
+}
+
+/// As `fill_overlapping`, but after the first step only the last `M` bytes, if those have the rest.
+#[inline(always)]
+pub(crate) fn fill_overlapping_by_halves<
+    const N: usize,
+    const M: usize,
+    V: LaneOps<N>,
+    H: LaneOps<M>,
+>(bytes: &[u8], upper: bool, output: &mut [u8])
+    requires half { M ≤ N }
+    requires size { length output.old ≡ 2 * length bytes.now }
+    requires least { N ≤ length bytes.now }
+    requires most { length bytes.now ≤ 2 * N }
+    ensures { output.new ≡ hex_text upper bytes.now }
+{
+    steps::fill_step::<N, V>(&bytes[..N], upper, upper, &mut output[..2 * N]);
+    if bytes.len() > N {
+        if bytes.len() > N + M {
+            let start = bytes.len() - N;
+            steps::fill_step::<N, V>(&bytes[start..], upper, upper, &mut output[2 * start..]);
+        } else {
+            let start = bytes.len() - M;
+            steps::fill_step::<M, H>(&bytes[start..], upper, upper, &mut output[2 * start..]);
+        }
     }
 }
 
@@ -92,11 +118,35 @@ pub(crate) fn check(text: &[u8]) -> bool
         check_ends::<8>(text)
     } else if text.len() >= 4 {
         check_ends::<4>(text)
-    } else if text.len() >= 2 {
-        check_ends::<2>(text)
+    } else if text.len() == 2 {
+        check_two(text[0], text[1])
+    } else if text.len() == 1 {
+        check_two(text[0], text[0])
     } else {
-        text.is_empty() || check_ends::<1>(text)
+        text.is_empty() || check_ends::<2>(text)
     }
+}
+
+/// As `check`, for two characters.
+#[inline(always)]
+fn check_two(first: u8, second: u8) -> bool
+    ensures { IsTrue result ↔ AllDigits (first ∷ second ∷ []) }
+{
+    let marks = lanes::marks::<16, Lanes16>(Lanes16::from_pair(first, second));
+    lanes16::is_pair_unmarked(marks)
+}
+
+/// As `check`, for one to two steps: one test covers the first one and the last one. `V` has the `N` lanes of a step.
+#[inline(always)]
+pub(crate) fn check_overlapping<const N: usize, V: LaneOps<N>>(text: &[u8]) -> bool
+    requires least { N ≤ length text.now }
+    requires most { length text.now ≤ 2 * N }
+    ensures { IsTrue result ↔ AllDigits text.now }
+{
+    if text.len() == N {
+        return steps::check_step::<N, V>(text);
+    }
+    steps::check_pair::<N, V>(&text[..N], &text[text.len() - N..])
 }
 
 /// As `check`, for `H` to `2 * H` bytes.
@@ -114,7 +164,7 @@ fn check_ends<const H: usize>(text: &[u8]) -> bool
 /// Decodes a text to at most 16 bytes, by one vector operation on its first and last characters, and
 /// returns true. If some character is invalid, returns false, and the output is unchanged.
 #[inline(always)]
-pub(crate) fn decode_short<S: LaneOps<16>>(text: &[u8], output: &mut [u8]) -> bool
+pub(crate) fn decode_short<S: LaneOps<16> + PairOps>(text: &[u8], output: &mut [u8]) -> bool
     requires size { length text.now ≡ 2 * length output.old }
     requires short { length output.old ≤ 16 }
     ensures digits { IsTrue result ↔ AllDigits text.now }
@@ -122,7 +172,7 @@ pub(crate) fn decode_short<S: LaneOps<16>>(text: &[u8], output: &mut [u8]) -> bo
     ensures unchanged { result ≡ false → output.new ≡ output.old }
 {
     if output.len() == 1 {
-        decode_ends::<1, 2, S>(text, output)
+        decode_byte::<S>(text, output)
     } else if output.len() >= 8 {
         decode_ends::<8, 16, S>(text, output)
     } else if output.len() >= 4 {
@@ -135,7 +185,7 @@ pub(crate) fn decode_short<S: LaneOps<16>>(text: &[u8], output: &mut [u8]) -> bo
 /// As `decode_short`.
 // Not inlined: with this body the public decoders would be too large to be inlined.
 #[inline(never)]
-pub(crate) fn decode_small<S: LaneOps<16>>(text: &[u8], output: &mut [u8]) -> bool
+pub(crate) fn decode_small<S: LaneOps<16> + PairOps>(text: &[u8], output: &mut [u8]) -> bool
     requires size { length text.now ≡ 2 * length output.old }
     requires short { length output.old ≤ 16 }
     ensures digits { IsTrue result ↔ AllDigits text.now }
@@ -181,6 +231,25 @@ fn decode_ends<const H: usize, const D: usize, S: LaneOps<16>>(
     if are_digits {
         let last = Simd::from_slice(&bytes[H..]);
         put::<H>(Simd::from_slice(&bytes), last, output.len() - H, output);
+    }
+    are_digits
+}
+
+/// Decodes two characters to a byte and returns true. If one is not a digit, returns false, and the output is
+/// unchanged.
+#[inline(always)]
+pub(crate) fn decode_byte<S: LaneOps<16> + PairOps>(text: &[u8], output: &mut [u8]) -> bool
+    requires text { length text.now ≡ 2 }
+    requires output { length output.old ≡ 1 }
+    ensures digits { IsTrue result ↔ AllDigits text.now }
+    ensures spells { IsTrue result → Spells text.now output.new }
+    ensures unchanged { result ≡ false → output.new ≡ output.old }
+{
+    let lanes = S::from_pair(text[0], text[1]);
+    let are_digits = lanes16::is_pair_unmarked(lanes::marks::<16, S>(lanes));
+    if are_digits {
+        let values = lanes::values::<16, S>(lanes).to_array();
+        output[0] = (values[0] << 4) | values[1];
     }
     are_digits
 }

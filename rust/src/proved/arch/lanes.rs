@@ -23,6 +23,12 @@ pub(crate) trait LaneOps<const N: usize> {
     fn are_unmarked(marks: Simd<u8, N>) -> bool;
 }
 
+/// How two bytes come into a vector, which depends on the processor.
+pub(crate) trait PairOps {
+    /// Both bytes in the first two lanes, and anything in the others.
+    fn from_pair(first: u8, second: u8) -> u8x16;
+}
+
 /// The value of each lane that is a digit, and more than 15 for every other lane.
 ///
 /// This is algorithm 3 of Wojciech Muła and Geoff Langdale, "Validating hexadecimal", 2022-01-17.
@@ -47,7 +53,7 @@ pub(crate) fn unhex<const N: usize>(v: Simd<u8, N>) -> Simd<u8, N> {
 /// `min(lane - 48, limit)` for each lane. If the lane is a digit, this is its value. Otherwise it
 /// is a number by which [`marks`] rejects the lane.
 #[inline(always)]
-fn values<const N: usize, V: LaneOps<N>>(v: Simd<u8, N>) -> Simd<u8, N> {
+pub(crate) fn values<const N: usize, V: LaneOps<N>>(v: Simd<u8, N>) -> Simd<u8, N> {
     (v - Simd::splat(0x30)).simd_min(V::look_up_limits(v))
 }
 
@@ -57,7 +63,7 @@ fn values<const N: usize, V: LaneOps<N>>(v: Simd<u8, N>) -> Simd<u8, N> {
 // `(v - 48).saturating_sub(limits)` is the same number. But then the limits of all vectors would
 // stay in registers beside the values until the marks are tested, and SSE has only 16 registers.
 #[inline(always)]
-fn marks<const N: usize, V: LaneOps<N>>(v: Simd<u8, N>) -> Simd<u8, N> {
+pub(crate) fn marks<const N: usize, V: LaneOps<N>>(v: Simd<u8, N>) -> Simd<u8, N> {
     v - Simd::splat(0x30) - values::<N, V>(v)
 }
 

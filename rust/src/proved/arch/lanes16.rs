@@ -5,7 +5,7 @@
 //! [`decode_chunk`], [`nibbles`] and [`unhex`].
 
 use crate::std_shim::prelude::*;
-use crate::proved::arch::lanes::{self, LaneOps};
+use crate::proved::arch::lanes::{self, LaneOps, PairOps};
 use crate::proved::arch::{Kernel, loops, small_input};
 use crate::std_shim::simd::prelude::*;
 
@@ -52,6 +52,12 @@ pub(crate) fn factors_row(second_row: bool) -> [u8; 16] {
 #[inline(always)]
 pub(crate) fn second_row_for(length: usize) -> bool {
     length / 16 % 2 == 1
+}
+
+/// Whether the first two marks have the bits 7, 6, 4 and 3 clear.
+#[inline(always)]
+pub(crate) fn is_pair_unmarked(marks: u8x16) -> bool {
+    u16x8::from_le_bytes(marks & u8x16::splat(0xD8)).to_array()[0] == 0
 }
 
 /// Half of a row, in both halves of a vector.
@@ -128,6 +134,14 @@ impl Kernel for Lanes16 {
     #[inline(always)]
     fn decode_unchecked(input: &[u8], output: &mut [u8]) {
         loops::decode_digits_in_steps::<16, Lanes16, Lanes16>(input, output);
+    }
+}
+
+impl PairOps for Lanes16 {
+    // In a number of 64 bits, for which x86-64 takes two instructions.
+    #[inline(always)]
+    fn from_pair(first: u8, second: u8) -> u8x16 {
+        u64x2::from_array([u64::from(u16::from_le_bytes([first, second])), 0]).to_le_bytes()
     }
 }
 

@@ -2,8 +2,8 @@
 //! Encodes, checks and decodes a short input, by its first and its last bytes at once.
 
 use crate::std_shim::prelude::*;
-use crate::proved::arch::lanes::LaneOps;
-use crate::proved::arch::lanes16::Lanes16;
+use crate::proved::arch::lanes::{self, LaneOps, PairOps};
+use crate::proved::arch::lanes16::{self, Lanes16};
 use crate::proved::arch::plain::Plain;
 use crate::proved::arch::{Kernel, steps};
 use crate::std_shim::simd::prelude::*;
@@ -33,6 +33,26 @@ pub(crate) fn fill_overlapping<const N: usize, V: LaneOps<N>>(
     if bytes.len() > N {
         let start = bytes.len() - N;
         steps::fill_step::<N, V>(&bytes[start..], upper, upper, &mut output[2 * start..]);
+    }
+}
+
+/// As `fill_overlapping`, but after the first step only the last `M` bytes, if those have the rest.
+#[inline(always)]
+pub(crate) fn fill_overlapping_by_halves<
+    const N: usize,
+    const M: usize,
+    V: LaneOps<N>,
+    H: LaneOps<M>,
+>(bytes: &[u8], upper: bool, output: &mut [u8]) {
+    steps::fill_step::<N, V>(&bytes[..N], upper, upper, &mut output[..2 * N]);
+    if bytes.len() > N {
+        if bytes.len() > N + M {
+            let start = bytes.len() - N;
+            steps::fill_step::<N, V>(&bytes[start..], upper, upper, &mut output[2 * start..]);
+        } else {
+            let start = bytes.len() - M;
+            steps::fill_step::<M, H>(&bytes[start..], upper, upper, &mut output[2 * start..]);
+        }
     }
 }
 
@@ -68,11 +88,29 @@ pub(crate) fn check(text: &[u8]) -> bool {
         check_ends::<8>(text)
     } else if text.len() >= 4 {
         check_ends::<4>(text)
-    } else if text.len() >= 2 {
-        check_ends::<2>(text)
+    } else if text.len() == 2 {
+        check_two(text[0], text[1])
+    } else if text.len() == 1 {
+        check_two(text[0], text[0])
     } else {
-        text.is_empty() || check_ends::<1>(text)
+        text.is_empty() || check_ends::<2>(text)
     }
+}
+
+/// As `check`, for two characters.
+#[inline(always)]
+fn check_two(first: u8, second: u8) -> bool {
+    let marks = lanes::marks::<16, Lanes16>(Lanes16::from_pair(first, second));
+    lanes16::is_pair_unmarked(marks)
+}
+
+/// As `check`, for one to two steps: one test covers the first one and the last one. `V` has the `N` lanes of a step.
+#[inline(always)]
+pub(crate) fn check_overlapping<const N: usize, V: LaneOps<N>>(text: &[u8]) -> bool {
+    if text.len() == N {
+        return steps::check_step::<N, V>(text);
+    }
+    steps::check_pair::<N, V>(&text[..N], &text[text.len() - N..])
 }
 
 /// As `check`, for `H` to `2 * H` bytes.
@@ -84,9 +122,9 @@ fn check_ends<const H: usize>(text: &[u8]) -> bool {
 /// Decodes a text to at most 16 bytes, by one vector operation on its first and last characters, and
 /// returns true. If some character is invalid, returns false, and the output is unchanged.
 #[inline(always)]
-pub(crate) fn decode_short<S: LaneOps<16>>(text: &[u8], output: &mut [u8]) -> bool {
+pub(crate) fn decode_short<S: LaneOps<16> + PairOps>(text: &[u8], output: &mut [u8]) -> bool {
     if output.len() == 1 {
-        decode_ends::<1, 2, S>(text, output)
+        decode_byte::<S>(text, output)
     } else if output.len() >= 8 {
         decode_ends::<8, 16, S>(text, output)
     } else if output.len() >= 4 {
@@ -99,7 +137,7 @@ pub(crate) fn decode_short<S: LaneOps<16>>(text: &[u8], output: &mut [u8]) -> bo
 /// As `decode_short`.
 // Not inlined: with this body the public decoders would be too large to be inlined.
 #[inline(never)]
-pub(crate) fn decode_small<S: LaneOps<16>>(text: &[u8], output: &mut [u8]) -> bool {
+pub(crate) fn decode_small<S: LaneOps<16> + PairOps>(text: &[u8], output: &mut [u8]) -> bool {
     decode_short::<S>(text, output)
 }
 
@@ -125,6 +163,19 @@ fn decode_ends<const H: usize, const D: usize, S: LaneOps<16>>(
     if are_digits {
         let last = Simd::from_slice(&bytes[H..]);
         put::<H>(Simd::from_slice(&bytes), last, output.len() - H, output);
+    }
+    are_digits
+}
+
+/// Decodes two characters to a byte and returns true. If one is not a digit, returns false, and the output is
+/// unchanged.
+#[inline(always)]
+pub(crate) fn decode_byte<S: LaneOps<16> + PairOps>(text: &[u8], output: &mut [u8]) -> bool {
+    let lanes = S::from_pair(text[0], text[1]);
+    let are_digits = lanes16::is_pair_unmarked(lanes::marks::<16, S>(lanes));
+    if are_digits {
+        let values = lanes::values::<16, S>(lanes).to_array();
+        output[0] = (values[0] << 4) | values[1];
     }
     are_digits
 }

@@ -58,17 +58,30 @@ pub(crate) fn check_pair<const N: usize, V: LaneOps<N>>(first: &[u8], second: &[
 }
 
 /// As `check_step`, for the text of two steps, by one test.
-// Not by `check_pair` of its halves, which would make the proof of `check_in_steps` longer.
+// Not by `check_pair` of its halves, which would make the proof of `decode_step` longer.
 #[inline(always)]
 pub(crate) fn check_two_steps<const N: usize, V: LaneOps<N>>(text: &[u8]) -> bool {
     V::are_unmarked(marks_of_two_steps::<N, V>(text))
+}
+
+/// As `check_step`, for the text of two steps and one more that need not follow them, by one test.
+#[inline(always)]
+pub(crate) fn check_three_steps<const N: usize, V: LaneOps<N>>(front: &[u8], last: &[u8]) -> bool {
+    let marks = lanes::marks::<N, V>(Simd::from_slice(last));
+    V::are_unmarked(marks_of_two_steps::<N, V>(front) | marks)
+}
+
+/// As `check_step`, for two texts of two steps that need not follow one another, by one test.
+#[inline(always)]
+pub(crate) fn check_two_pairs<const N: usize, V: LaneOps<N>>(front: &[u8], back: &[u8]) -> bool {
+    V::are_unmarked(marks_of_two_steps::<N, V>(front) | marks_of_two_steps::<N, V>(back))
 }
 
 /// As `check_step`, for the text of four steps, by one test.
 #[inline(always)]
 pub(crate) fn check_four_steps<const N: usize, V: LaneOps<N>>(text: &[u8]) -> bool {
     let (front, back) = text.split_at(2 * N);
-    V::are_unmarked(marks_of_two_steps::<N, V>(front) | marks_of_two_steps::<N, V>(back))
+    check_two_pairs::<N, V>(front, back)
 }
 
 /// Joined marks of the text of two steps. They are clear if and only if each byte is a digit.

@@ -1,10 +1,10 @@
-use Rattle.std.proofs.Common.{◌≡◌, ◌+◌, ◌-◌, ◌*◌, ◌≤◌, length, refl, arith, take_all}
+use Rattle.std.proofs.Common.{◌≡◌, ◌+◌, ◌-◌, ◌*◌, ◌≤◌, length, refl, sym, ◌∙◌, arith, take_all}
 use Rattle.std.proofs.lemmas.Bool.{false≢true}
 use borrow.Rule.Slice.PartMut.{put_mid}
 use Rattle.const_hex_arch.proofs.lemmas.FirstInvalid.{none_decoded}
 use Rattle.const_hex_arch.proofs.lemmas.Steps.{IsDecoded, decoded_step, decoded_less, kept_step, refused_step, spells_rest, refused_rest}
 use Rattle.const_hex_arch.proofs.arch.loops.decode_in_steps.Goals as goal
-use Rattle.const_hex_arch.proofs.arch.loops.decode_in_steps.Goals.{Joined-output-at-ge16, else-loop-output-test, then-loop-output-test+then-not-decode_two_steps+else-not-this-2, then-output-at-ge16+else-not-decode_step-2, else-output-at-ge16}
+use Rattle.const_hex_arch.proofs.arch.loops.decode_in_steps.Goals.{Joined-output-at-gt16, else-loop-output-test, then-loop-output-test+then-not-decode_two_steps+else-not-this-2, then-output-at-gt16+else-not-decode_step-2, else-output-at-gt16+else-not-this-3}
 
 pub loop-output-preserved : goal.loop-output-preserved
 loop-output-preserved g c =
@@ -30,31 +30,39 @@ returns-then-not-decode_step-2-clause-refused g c = λ _.
     refused_step _ _ _ _ c.loop-output-2.invariant c.requires (is.unchanged refl) (λ d. false≢true (is.digits.1 d))
 
 -- before the remainder
-decoded : (g : _) (c : Joined-output-at-ge16 g) → (length c.if-output-at-ge16.output ≤ c.if-output-at-ge16.at + 16)
-    × IsDecoded c.args.input.now c.args.output.now c.if-output-at-ge16.output c.if-output-at-ge16.at
+decoded : (g : _) (c : Joined-output-at-gt16 g) → (length c.if-output-at-gt16.output ≤ c.if-output-at-gt16.at + 16)
+    × IsDecoded c.args.input.now c.args.output.now c.if-output-at-gt16.output c.if-output-at-gt16.at
 decoded g c =
     let sizes = g.met.V.LaneOps.sizes in
-    elim c.if-output-at-ge16.branch [
-      | then-output-at-ge16+else-not-decode_step-2 w ↦ (
+    elim c.if-output-at-gt16.branch [
+      | then-output-at-gt16+else-not-decode_step-2 w ↦ (
         omega arith,
         rw (w.output-is, w.at-is)
             (decoded_step _ _ _ c.loop-output-2.invariant (omega arith) (omega arith) (omega arith) (omega arith)
             (w.if-not-decode_step-2.ensures.spells refl)),
       )
-      | else-output-at-ge16 w ↦ (omega arith, rw (w.output-is, w.at-is) c.loop-output-2.invariant)
+      | else-output-at-gt16+else-not-this-3 w ↦ (omega arith, rw (w.output-is, w.at-is) c.loop-output-2.invariant)
     ]
 
 pub returns-then-at-output-clause-spells : goal.returns-then-at-output-clause-spells
 returns-then-at-output-clause-spells g c = λ _.
-    let at = c.if-output-at-ge16.at in
-    let before = decoded g (goal.at.returns-then-at-output-clause-spells g c).Joined-output-at-ge16 in
-    rw (take_all (2 * at) c.args.input.now (omega arith), take_all at c.if-output-at-ge16.output (omega arith))
-    at before.1.front
+    let at = c.loop-output-2.at in
+    rw (take_all (2 * at) c.args.input.now (omega arith), take_all at c.loop-output-2.output (omega arith))
+    at c.loop-output-2.invariant.front
+
+pub returns-then-output-at-eq1-clause-spells : goal.returns-then-output-at-eq1-clause-spells
+returns-then-output-at-eq1-clause-spells g c = λ t.
+    spells_rest _ c.loop-output-2.invariant c.requires (omega arith) (c.decode_byte.ensures.spells t)
+
+pub returns-then-output-at-eq1-clause-refused : goal.returns-then-output-at-eq1-clause-refused
+returns-then-output-at-eq1-clause-refused g c = λ f.
+    let is = c.decode_byte.ensures in
+    refused_step _ _ _ _ c.loop-output-2.invariant c.requires (is.unchanged f) (λ d. false≢true (sym f ∙ is.digits.1 d))
 
 pub returns-then-decode_step-clause-spells : goal.returns-then-decode_step-clause-spells
 returns-then-decode_step-clause-spells g c = λ _.
-    let before = decoded g (goal.at.returns-then-decode_step-clause-spells g c).Joined-output-at-ge16 in
-    let start = length c.if-output-at-ge16.output - 16 in
+    let before = decoded g (goal.at.returns-then-decode_step-clause-spells g c).Joined-output-at-gt16 in
+    let start = length c.if-output-at-gt16.output - 16 in
     spells_rest _ (decoded_less start before.1 (omega arith)) (omega arith) (omega arith)
     (c.if-decode_step.ensures.spells refl)
 
@@ -71,18 +79,18 @@ returns-else-this-ne0-clause-refused g c = grind (arith, none_decoded)
 
 pub returns-else-this-ne0-2-clause-refused : goal.returns-else-this-ne0-2-clause-refused
 returns-else-this-ne0-2-clause-refused g c = λ _.
-    let before = decoded g (goal.at.returns-else-this-ne0-2-clause-refused g c).Joined-output-at-ge16 in
+    let before = decoded g (goal.at.returns-else-this-ne0-2-clause-refused g c).Joined-output-at-gt16 in
     let is = c.if-decode_step.ensures in
     refused_step _ _ _ _ before.1 c.requires (is.unchanged refl) (λ d. false≢true (is.digits.1 d))
 
 pub returns-then-this-ne0-2 : goal.returns-then-this-ne0-2
 returns-then-this-ne0-2 g c =
-    let before = decoded g (goal.at.returns-then-this-ne0-2 g c).Joined-output-at-ge16 in
-    let new = c.if-output-at-ge16.output in
+    let before = decoded g (goal.at.returns-then-this-ne0-2 g c).Joined-output-at-gt16 in
+    let new = c.if-output-at-gt16.output in
     let start = length new - 16 in
     let mid = put_mid start (length new - start) new c.decode_step-2.new.output in
     let same : mid ≡ new = kept_step new _ _ _ (c.if-decode_step.ensures.unchanged refl) in
-    let kept : IsDecoded c.args.input.now c.args.output.now mid c.if-output-at-ge16.at = rw same before.1 in
+    let kept : IsDecoded c.args.input.now c.args.output.now mid c.if-output-at-gt16.at = rw same before.1 in
     let is = c.decode_pairs-then-this-ne0-2.ensures in record {
       spells = λ t. spells_rest _ kept c.requires (omega arith) (is.spells t);
       refused = λ f. refused_rest _ kept c.requires (omega arith) (is.refused f);
