@@ -83,7 +83,7 @@ pub use crate::serde::{deserialize, serialize, serialize_upper};
 pub use crate::traits::ToHexExt;
 pub use crate::traits::{FromHex, ToHex};
 
-use crate::proved::codec::body::{self, find_invalid_character, strip_even};
+use crate::proved::codec::body::{find_invalid_character, strip_even};
 use crate::proved::codec::encoders::encode_full_to_slice;
 use crate::proved::codec::{checks, decoders};
 #[cfg(feature = "alloc")]
@@ -227,8 +227,9 @@ pub fn decode<T: AsRef<[u8]>>(data: T) -> Result<Vec<u8>, FromHexError> {
 #[cfg(feature = "alloc")]
 #[cold]
 fn invalid(before: usize, digits: &[u8], _: Vec<u8>) -> FromHexError {
-    let (byte, index) = body::locate_invalid(digits);
-    body::invalid_character(byte, before + index)
+    use crate::proved::codec::body::{invalid_character, locate_invalid};
+    let (byte, index) = locate_invalid(digits);
+    invalid_character(byte, before + index)
 }
 
 /// Appends the bytes that a text decodes to to a vector, and returns their number, or the errors of [`check`].
