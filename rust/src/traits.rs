@@ -189,8 +189,11 @@ fn digits<const UPPER: bool, T: FromIterator<char>>(bytes: &[u8]) -> T {
         1 => {
             let (digits, mut at) = (digits_at::<true>(UPPER, bytes[0]), 0);
             let next = || {
+                if at == 2 {
+                    return None;
+                }
                 at += 1;
-                digits.get(at - 1).map(|digit| character(*digit))
+                Some(character(digits[at - 1]))
             };
             from_fn(next).collect()
         }
