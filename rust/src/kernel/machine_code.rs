@@ -52,15 +52,15 @@ const IS_V3: bool = cfg!(all(
     target_feature = "movbe",
 ));
 
-/// Defines functions that call the machine code. They are not inlined into another crate, which could not name that.
-/// The ABI says that none unwinds, so that a caller need not be ready for it.
+/// Defines functions that call the machine code. They have no `#[inline]`: another crate may be part of another shared
+/// library, where that code has no name. Link-time optimization inlines them, which saves a jump. The ABI says that none
+/// unwinds, so that a caller need not be ready for it.
 macro_rules! functions {
     ($(
         $(#[$comment:meta])*
         $name:ident($($argument:ident: $type:ty),*) $(-> $result:ty)?, $for_cpu:ident, $v3:ident;
     )*) => {$(
         $(#[$comment])*
-        #[inline(never)]
         pub unsafe extern "C" fn $name($($argument: $type),*) $(-> $result)? {
             #[cfg(target_arch = "aarch64")]
             extern "C" {
