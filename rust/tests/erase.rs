@@ -84,7 +84,7 @@ fn what_is_an_error() {
         ("unknown", "fn f(x: &[u8]) {\n    x.rotate_left(1);\n}", "the call .rotate_left"),
         ("unknown", "fn f(x: &mut [u8]) {\n    x.fill(1);\n}", "the call .fill"),
         // A function by a path: `char::from` is known, and the source has a `from` of its own.
-        ("unknown", "fn f(x: u8) -> u64 {\n    u64::from(x)\n}", "the call u64::from"),
+        ("unknown", "fn f(x: u8) -> u64 {\n    u64::max(x, 1)\n}", "the call u64::max"),
         ("unknown", "fn f(x: u8) {\n    Box::new(x);\n}", "the call Box::new"),
         // What only the other package may call: a reader, and a method of the crate const_hex.
         ("unknown", "fn f(x: &mut R) {\n    x.read(y);\n}", "the call .read"),
