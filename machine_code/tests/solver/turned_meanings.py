@@ -63,7 +63,7 @@ REASONS = {
         "aarch64 _operands: 1 -> 2", "webassembly State.exact: cut.eq(term) or self.fits(term) -> "
                                      "cut.eq(term) and self.fits(term)",
         # whose result is not kept
-        "aarch64 HANDLERS.cmn: ADD -> SUBTRACT",
+        "aarch64 HANDLERS.cmn: ADD -> SUBTRACT", "aarch64 HANDLERS.tst: AND -> OR",
         *[f"{processor} HANDLERS.cmp: SUBTRACT -> ADD" for processor in ("aarch64", "x86_64")],
         *[f"lanes saturated: {change}" for change in (
             "0 -> 1 (2)", "number < 0 -> number <= 0", "number > 255 -> number >= 255")],
@@ -76,7 +76,7 @@ REASONS = {
         # what follows a branch is not reached
         "webassembly EFFECTS.br_table: 0 -> 1",
         # what lies above an i32 does not count
-        "webassembly : z3.ZeroExt -> z3.SignExt",
+        "webassembly : z3.ZeroExt -> z3.SignExt", "webassembly : 8 - size -> 8 + size", "webassembly : 8 -> 9 (9)",
         # one after the other, in any order
         "webassembly Reader.read: ('block', 'loop') -> ('loop', 'block')",
         "webassembly branch_by: [*[(index == number, target) for number, target in enumerate(targets)], "
@@ -277,10 +277,10 @@ class Compared:
         # In a table of instructions, one or two are concerned.
         table, _, key = place.name.partition(".")
         is_entry = table in ("HANDLERS", "VECTORS") and not around
-        concerned = ({key} if key else {*re.findall(r"'([\w.]+)'", said)}) if is_entry else set()
+        concerned = ((key,) if key else (*re.findall(r"'([\w.]+)'", said),)) if is_entry else ()
         is_all = around & self.reading or not around and not concerned
         parts = [index for index, (_, _, mnemonics) in enumerate(self.parts) if is_all or around & self.lines[index]
-                 or concerned & (mnemonics | {mnemonic.removeprefix("v") for mnemonic in mnemonics})]
+                 or any(it.startswith(concerned) for name in mnemonics for it in (name, name.removeprefix("v")))]
         parts.sort(key=lambda index: (file, place.node.lineno) not in self.lines[index])
         try:
             # What adds instructions for WebAssembly runs when the file is loaded, and says how they are read.
