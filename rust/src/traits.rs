@@ -199,7 +199,7 @@ fn digits<const UPPER: bool, T: FromIterator<char>>(bytes: &[u8]) -> T {
         }
         2..=32 => digits_in::<64, UPPER, T>(bytes),
         33..=2048 => digits_in::<4096, UPPER, T>(bytes),
-        _ => (0..2 * bytes.len()).map(|at| character(digits_at::<true>(UPPER, bytes[at / 2])[at % 2])).collect(),
+        _ => bytes.iter().flat_map(|byte| digits_at::<true>(UPPER, *byte)).map(character).collect(),
     }
 }
 
