@@ -148,7 +148,7 @@ to_hex! {
     /// assert_eq!("kiwi".encode_hex::<String>(), "6b697769");
     /// ```
     ToHex;
-    /// Returns the digits in order, in lowercase. It allocates if the collection does, and takes up to 4 KiB of the stack.
+    /// Returns the digits in order, in lowercase. It allocates if the collection does, and takes up to 4 KiB of stack.
     fn encode_hex<T: FromIterator<char>>() -> T = digits::<false, T>;
     /// Does the same as [`encode_hex`](Self::encode_hex) in uppercase.
     fn encode_hex_upper<T: FromIterator<char>>() -> T = digits::<true, T>;
@@ -180,9 +180,9 @@ to_hex! {
 }
 
 /// Collects the digits of bytes.
-// The last arm alone would take 612 instructions in place of 323 for 32 bytes to a `Vec<char>`, and without optimization
-// 18602 in place of 5822. The space is copied then, so a short input has less of it; and for one byte, an iterator over the
-// array of its digits would take 1069 in place of 910 (rustc 1.95, x86-64).
+// The last arm alone would take 612 instructions in place of 323 for 32 bytes to a `Vec<char>`, and without
+// optimization 18602 in place of 5822. The space is copied then, so a short input has less of it; and for one byte,
+// an iterator over the array of its digits would take 1069 in place of 910 (rustc 1.95, x86-64).
 #[inline]
 fn digits<const UPPER: bool, T: FromIterator<char>>(bytes: &[u8]) -> T {
     match bytes.len() {
