@@ -53,8 +53,8 @@ const IS_V3: bool = cfg!(all(
 ));
 
 /// Defines functions that call the machine code. They have no `#[inline]`: another crate may be part of another shared
-/// library, where that code has no name. Link-time optimization inlines them, which saves a jump. The ABI says that none
-/// unwinds, so that a caller need not be ready for it.
+/// library, where that code has no name. Link-time optimization inlines them, which saves a jump. The ABI says that
+/// none unwinds, so that a caller need not be ready for it.
 macro_rules! functions {
     ($(
         $(#[$comment:meta])*
