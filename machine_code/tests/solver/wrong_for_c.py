@@ -82,7 +82,7 @@ WRONG = [
     ("decoder_finish", "another index", "mov rdx,QWORD PTR [rdi]", "xor edx,edx", "error is wrong at 8"),
     ("decoder_finish", "a write of the decoder", "xor edx,edx", "xor edx,edx; mov [rdi],rdx", "decoder is written"),
     ("decoder_fail", "another kind", "[rdi],0x2", "[rdi],0x3", "result is wrong at 0"),
-    ("decoder_fail", "an end after one character", "jne 4b", "", PASSES),
+    ("decoder_fail", "an end after one character", "jne 5b", "", PASSES),
     ("decoder_update", "a write beside the output", "",
      "cmp BYTE PTR [rdi+9],1; jne 99f; cmp QWORD PTR [rdi],0; jne 99f; mov BYTE PTR [rcx+0x100000],0; 99:",
      "may lie outside of output", "a decoder that was changed"),
