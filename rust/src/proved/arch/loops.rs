@@ -100,8 +100,8 @@ fn check_remainder<const N: usize, V: LaneOps<N>>(input: &[u8], at: usize) -> bo
 /// writes nothing. After the steps of `N` lanes, one of 16 is decoded if more than 16 bytes are left. The last
 /// 16 bytes of the output cover the remainder, some of them again; but without `FRONT` one byte after the steps
 /// of `N` lanes is decoded alone. Less than 16 bytes, and without `FRONT` also 16, are a remainder as a whole.
-/// With `FRONT` a valid first one of two steps is decoded if their test fails, and the pairs of the remainder
-/// before an invalid character. Without it the call ends there.
+/// With `FRONT` a valid first one of two steps is decoded if their test fails, and of a remainder of less than 16
+/// bytes the pairs before an invalid character. Without it the call ends there.
 #[inline(always)]
 pub(crate) fn decode_in_steps<
     const N: usize,
@@ -153,7 +153,9 @@ pub(crate) fn decode_in_steps<
     }
     let start = output.len() - 16;
     steps::decode_step::<16, S>(&input[2 * start..], false, &mut output[start..])
-        || (FRONT && small_input::decode_pairs(&input[2 * at..], &mut output[at..]))
+        || (FRONT
+            && output.len() - at < 16
+            && small_input::decode_pairs(&input[2 * at..], &mut output[at..]))
 }
 
 /// Decodes digits in steps, and then by the last 16 bytes, some of them again. A text of fewer than

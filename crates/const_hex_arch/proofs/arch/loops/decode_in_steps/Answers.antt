@@ -77,21 +77,21 @@ returns-then-not-this-2-clause-refused g c = λ _.
 pub returns-else-this-ne0-clause-refused : goal.returns-else-this-ne0-clause-refused
 returns-else-this-ne0-clause-refused g c = grind (arith, none_decoded)
 
-pub returns-else-this-ne0-2-clause-refused : goal.returns-else-this-ne0-2-clause-refused
-returns-else-this-ne0-2-clause-refused g c = λ _.
-    let before = decoded g (goal.at.returns-else-this-ne0-2-clause-refused g c).Joined-output-at-gt16 in
+pub returns-else-output-at-lt16-clause-refused : goal.returns-else-output-at-lt16-clause-refused
+returns-else-output-at-lt16-clause-refused g c = λ _.
+    let before = decoded g (goal.at.returns-else-output-at-lt16-clause-refused g c).Joined-output-at-gt16 in
     let is = c.if-decode_step.ensures in
     refused_step _ _ _ _ before.1 c.requires (is.unchanged refl) (λ d. false≢true (is.digits.1 d))
 
-pub returns-then-this-ne0-2 : goal.returns-then-this-ne0-2
-returns-then-this-ne0-2 g c =
-    let before = decoded g (goal.at.returns-then-this-ne0-2 g c).Joined-output-at-gt16 in
+pub returns-then-output-at-lt16 : goal.returns-then-output-at-lt16
+returns-then-output-at-lt16 g c =
+    let before = decoded g (goal.at.returns-then-output-at-lt16 g c).Joined-output-at-gt16 in
     let new = c.if-output-at-gt16.output in
     let start = length new - 16 in
     let mid = put_mid start (length new - start) new c.decode_step-2.new.output in
     let same : mid ≡ new = kept_step new _ _ _ (c.if-decode_step.ensures.unchanged refl) in
     let kept : IsDecoded c.args.input.now c.args.output.now mid c.if-output-at-gt16.at = rw same before.1 in
-    let is = c.decode_pairs-then-this-ne0-2.ensures in record {
+    let is = c.decode_pairs-then-output-at-lt16.ensures in record {
       spells = λ t. spells_rest _ kept c.requires (omega arith) (is.spells t);
       refused = λ f. refused_rest _ kept c.requires (omega arith) (is.refused f);
     }
