@@ -201,16 +201,16 @@ woven_text up v f =
 -- n pairs from position i on
 abbrev pub pairs_from : ℕ → ℕ → List ℕ → List ℕ
 pairs_from i zero u = []
-pairs_from i (suc n) u = bit_or (get_or u i 0 * 16 % 256) (get_or u (suc i) 0) ∷ pairs_from (suc (suc i)) n u
+pairs_from i (suc n) u = bit_or (get_or u i 0 * 16 % 256) (bit_and (get_or u (suc i) 0) 15) ∷ pairs_from (suc (suc i)) n u
 
 after_two : (h l i n : ℕ) (u : List ℕ) → pairs_from (suc (suc i)) n (h ∷ l ∷ u) ≡ pairs_from i n u
 after_two h l i zero u = refl
 after_two h l i (suc n) u =
-    ap (λ x. bit_or (get_or u i 0 * 16 % 256) (get_or u (suc i) 0) ∷ x) (after_two h l (suc (suc i)) n u)
+    ap (λ x. bit_or (get_or u i 0 * 16 % 256) (bit_and (get_or u (suc i) 0) 15) ∷ x) (after_two h l (suc (suc i)) n u)
 
-joined : (h l : ℕ) → h ≤ 15 → l ≤ 15 → bit_or (h * 16 % 256) l ≡ 16 * h + l
+joined : (h l : ℕ) → h ≤ 15 → l ≤ 15 → bit_or (h * 16 % 256) (bit_and l 15) ≡ 16 * h + l
 joined h l p q =
-    eqb→eq _ _ (every_pair (λ h l. eqb (bit_or (h * 16 % 256) l) (16 * h + l)) 16 16 tt h l (omega arith) (omega arith))
+    eqb→eq _ _ (every_pair (λ h l. eqb (bit_or (h * 16 % 256) (bit_and l 15)) (16 * h + l)) 16 16 tt h l (omega arith) (omega arith))
 
 pub pairs_are : (n : ℕ) (u : List ℕ) → length u ≡ 2 * n → AllNibbles u → pairs_from 0 n u ≡ byte_pairs u
 pairs_are zero [] e a = refl

@@ -55,7 +55,12 @@ impl Kernel for Interleaved {
     }
 
     #[inline(always)]
+    #[tactic(auto, using(crate::proofs::lemmas::FirstInvalid::none_decoded))]
     fn decode_checked(input: &[u8], output: &mut [u8]) -> bool {
+        // So a text whose first character is invalid is refused before the test of a whole step.
+        if output.len() > 16 && !small_input::check_two::<Interleaved>(input[0], input[1]) {
+            return false;
+        }
         loops::decode_in_steps::<32, false, Interleaved, Interleaved>(input, output)
     }
 
@@ -75,9 +80,7 @@ fn fill_short<const UPPER: bool>(input: &[u8], output: &mut [u8])
     if input.len() == 16 {
         steps::fill_step::<16, Interleaved>(input, UPPER, UPPER, output);
     } else if input.len() >= 32 {
-        small_input::fill_overlapping_by_halves::<32, 16, Interleaved, Interleaved>(
-            input, UPPER, output,
-        );
+        small_input::fill_overlapping::<32, 16, Interleaved, Interleaved>(input, UPPER, output);
     } else {
         loops::fill_in_steps::<32, Interleaved, Interleaved>(input, UPPER, output);
     }
@@ -118,7 +121,7 @@ impl LaneOps<16> for Interleaved {
         ensures { AllNibbles (first ++ second) → result ≡ byte_pairs (first ++ second) }
     {
         let (high, low) = first.deinterleave(second);
-        (high << u8x16::splat(4)) | low
+        (high << u8x16::splat(4)) | (low & u8x16::splat(15))
     }
 
     #[inline(always)]
@@ -156,7 +159,7 @@ impl LaneOps<32> for Interleaved {
         ensures { AllNibbles (first ++ second) → result ≡ byte_pairs (first ++ second) }
     {
         let (high, low) = first.deinterleave(second);
-        (high << u8x32::splat(4)) | low
+        (high << u8x32::splat(4)) | (low & u8x32::splat(15))
     }
 
     #[inline(always)]

@@ -30,9 +30,9 @@ pub(crate) fn fill_in_steps<const N: usize, V: LaneOps<N>, S: LaneOps<16>>(
     }
     if input.len() < 2 * N {
         if input.len() < N {
-            small_input::fill_overlapping::<16, S>(input, upper, output);
+            small_input::fill_overlapping::<16, 16, S, S>(input, upper, output);
         } else {
-            small_input::fill_overlapping::<N, V>(input, upper, output);
+            small_input::fill_overlapping::<N, N, V, V>(input, upper, output);
         }
         return;
     }

@@ -27,33 +27,14 @@ pub(crate) fn fill<S: LaneOps<16>>(bytes: &[u8], upper: bool, output: &mut [u8])
     }
 }
 
-/// As `fill`, for one to two steps: the first one, and the last one. `V` has the `N` lanes of a step.
+/// As `fill`, for one to two steps: the first one, and then the last `M` bytes, if those have the rest, or else the
+/// last step. `V` has the `N` lanes of a step, and `H` has `M` lanes.
 #[inline(always)]
-pub(crate) fn fill_overlapping<const N: usize, V: LaneOps<N>>(
+pub(crate) fn fill_overlapping<const N: usize, const M: usize, V: LaneOps<N>, H: LaneOps<M>>(
     bytes: &[u8],
     upper: bool,
     output: &mut [u8],
 )
-    requires size { length output.old ≡ 2 * length bytes.now }
-    requires least { N ≤ length bytes.now }
-    requires most { length bytes.now ≤ 2 * N }
-    ensures { output.new ≡ hex_text upper bytes.now }
-{
-    steps::fill_step::<N, V>(&bytes[..N], upper, upper, &mut output[..2 * N]);
-    if bytes.len() > N {
-        let start = bytes.len() - N;
-        steps::fill_step::<N, V>(&bytes[start..], upper, upper, &mut output[2 * start..]);
-    }
-}
-
-/// As `fill_overlapping`, but after the first step only the last `M` bytes, if those have the rest.
-#[inline(always)]
-pub(crate) fn fill_overlapping_by_halves<
-    const N: usize,
-    const M: usize,
-    V: LaneOps<N>,
-    H: LaneOps<M>,
->(bytes: &[u8], upper: bool, output: &mut [u8])
     requires half { M ≤ N }
     requires size { length output.old ≡ 2 * length bytes.now }
     requires least { N ≤ length bytes.now }
@@ -119,9 +100,9 @@ pub(crate) fn check(text: &[u8]) -> bool
     } else if text.len() >= 4 {
         check_ends::<4>(text)
     } else if text.len() == 2 {
-        check_two(text[0], text[1])
+        check_two::<Lanes16>(text[0], text[1])
     } else if text.len() == 1 {
-        check_two(text[0], text[0])
+        check_two::<Lanes16>(text[0], text[0])
     } else {
         text.is_empty() || check_ends::<2>(text)
     }
@@ -129,11 +110,10 @@ pub(crate) fn check(text: &[u8]) -> bool
 
 /// As `check`, for two characters.
 #[inline(always)]
-fn check_two(first: u8, second: u8) -> bool
+pub(crate) fn check_two<S: LaneOps<16> + PairOps>(first: u8, second: u8) -> bool
     ensures { IsTrue result ↔ AllDigits (first ∷ second ∷ []) }
 {
-    let marks = lanes::marks::<16, Lanes16>(Lanes16::from_pair(first, second));
-    lanes16::is_pair_unmarked(marks)
+    lanes16::is_pair_unmarked(lanes::marks::<16, S>(S::from_pair(first, second)))
 }
 
 /// As `check`, for one to two steps: one test covers the first one and the last one. `V` has the `N` lanes of a step.
