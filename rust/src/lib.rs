@@ -302,7 +302,10 @@ pub fn decode_to_array<T: AsRef<[u8]>, const N: usize>(input: T) -> Result<[u8; 
     if digits.len() != N << 1 {
         return Err(FromHexError::InvalidStringLength);
     }
-    kernel::Space::new().bytes(digits).ok_or_else(|| find_invalid_character(text, digits))
+    match kernel::Space::new().bytes(digits) {
+        Some(bytes) => Ok(*bytes),
+        None => Err(find_invalid_character(text, digits)),
+    }
 }
 
 /// Returns `Ok` if a text can be decoded, or else [`FromHexError::OddLength`] or

@@ -32,7 +32,7 @@ MORE = {
         tbz x0, #63, 1f; nop; nop; 1: nop; tbnz w0, #3, 1f; nop; nop; 1: nop
         b.ls 1f; nop; nop; 1: nop; b.gt 1f; nop; nop; 1: nop
         cset w0, eq; cset w0, ne; cset w0, cs; cset w0, cc; cset w0, hi; cset w0, ls; cset w0, gt; cset w0, le
-        movi v0.8h, #49; movi v0.4s, #49; movi v0.8b, #49; xtn v0.4h, v1.4s; shl v0.8h, v1.8h, #3; dup v0.2d, x1
+        movi v0.8h, #49; movi v0.4s, #49; movi v0.8b, #49; xtn v0.4h, v1.4s; sli v0.8h, v1.8h, #3; dup v0.2d, x1
         uzp1 v0.8h, v1.8h, v2.8h; uzp2 v0.8h, v1.8h, v2.8h; zip1 v0.8h, v1.8h, v2.8h; zip2 v0.8h, v1.8h, v2.8h
         st2 {v0.8h, v1.8h}, [x1]; st2 {v0.8b, v1.8b}, [x1], #16; ld1 {v0.8b, v1.8b}, [x1]
         adrp x0, more + 16; add x0, x0, :lo12:more + 16; ldr q0, [x0, :lo12:more + 16]

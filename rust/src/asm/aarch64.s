@@ -382,7 +382,6 @@
 3:
 	movi v1.16b, #0xf
 	ldp q2, q4, [x9]
-	mov x11, x8
 	sub x10, x10, #0x40
 	cmp x10, #0x3f
 	ushr v3.16b, v2.16b, #4
@@ -393,9 +392,8 @@
 	and v2.16b, v4.16b, v1.16b
 	tbl v3.16b, {v0.16b}, v3.16b
 	tbl v4.16b, {v0.16b}, v2.16b
-	st2 {v5.16b, v6.16b}, [x11], #32
-	st2 {v3.16b, v4.16b}, [x11]
-	add x11, x8, #0x40
+	st2 {v5.16b, v6.16b}, [x8], #32
+	st2 {v3.16b, v4.16b}, [x8], #32
 	ldp q2, q4, [x9, #32]
 	add x9, x9, #0x40
 	ushr v3.16b, v2.16b, #4
@@ -406,12 +404,10 @@
 	ushr v2.16b, v4.16b, #4
 	tbl v2.16b, {v0.16b}, v2.16b
 	tbl v3.16b, {v0.16b}, v1.16b
-	st2 {v5.16b, v6.16b}, [x11]
-	add x11, x8, #0x60
-	add x8, x8, #0x80
-	st2 {v2.16b, v3.16b}, [x11]
+	st2 {v5.16b, v6.16b}, [x8], #32
+	st2 {v2.16b, v3.16b}, [x8], #32
 	b.hi 3b
-	cbz x10, 21f
+	cbz x10, 13f
 	cmp x10, #0x21
 	b.cc 4f
 	ldp q2, q4, [x9]
@@ -456,20 +452,30 @@
 	cbz w2, 7f
 	b.ne 8f
 	ldr q1, [x0]
-	adrp_label x8, const_hex_1_0_0_constant_3
 	movi v0.16b, #0xf
+	adrp_label x8, const_hex_1_0_0_constant_3
 	ldr_label q3, x8, const_hex_1_0_0_constant_3
-	b 20f
+	ushr v2.16b, v1.16b, #4
+	and v0.16b, v1.16b, v0.16b
+	tbl v1.16b, {v3.16b}, v2.16b
+	tbl v2.16b, {v3.16b}, v0.16b
+	st2 {v1.16b, v2.16b}, [x3]
+	ret
 7:
 	b.ne 9f
 	ldr q1, [x0]
 	adrp_label x8, const_hex_1_0_0_constant_5
 	movi v0.16b, #0xf
 	ldr_label q3, x8, const_hex_1_0_0_constant_5
-	b 20f
+	ushr v2.16b, v1.16b, #4
+	and v0.16b, v1.16b, v0.16b
+	tbl v1.16b, {v3.16b}, v2.16b
+	tbl v2.16b, {v3.16b}, v0.16b
+	st2 {v1.16b, v2.16b}, [x3]
+	ret
 8:
 	cmp x1, #0x20
-	b.cc 13f
+	b.cc 14f
 	ldr q2, [x0]
 	movi v1.16b, #0xf
 	adrp_label x9, const_hex_1_0_0_constant_3
@@ -477,7 +483,7 @@
 	b 12f
 9:
 	cmp x1, #0x20
-	b.cc 14f
+	b.cc 15f
 	ldr q2, [x0]
 	adrp_label x9, const_hex_1_0_0_constant_5
 	movi v1.16b, #0xf
@@ -496,9 +502,41 @@
 	tbl v3.16b, {v0.16b}, v1.16b
 	st2 {v5.16b, v6.16b}, [x10], #32
 	st2 {v2.16b, v3.16b}, [x10]
-	b.eq 21f
+	b.ne 17f
+13:
+	ret
+14:
+	subs x8, x1, #0x10
+	b.cc 18f
+	ldr q1, [x0]
+	movi v0.16b, #0xf
+	adrp_label x9, const_hex_1_0_0_constant_3
+	ldr_label q3, x9, const_hex_1_0_0_constant_3
+	b 16f
+15:
+	subs x8, x1, #0x10
+	b.cc 19f
+	ldr q1, [x0]
+	adrp_label x9, const_hex_1_0_0_constant_5
+	movi v0.16b, #0xf
+	ldr_label q3, x9, const_hex_1_0_0_constant_5
+16:
+	ushr v2.16b, v1.16b, #4
+	and v1.16b, v1.16b, v0.16b
+	tbl v4.16b, {v3.16b}, v2.16b
+	lsl x9, x8, #1
+	tbl v5.16b, {v3.16b}, v1.16b
+	st2 {v4.16b, v5.16b}, [x3], x9
+	ldr q1, [x0, x8]
+	ushr v2.16b, v1.16b, #4
+	and v0.16b, v1.16b, v0.16b
+	tbl v1.16b, {v3.16b}, v2.16b
+	tbl v2.16b, {v3.16b}, v0.16b
+	st2 {v1.16b, v2.16b}, [x3]
+	ret
+17:
 	cmp x1, #0x31
-	b.cc 16f
+	b.cc 21f
 	add x8, x0, x9
 	movi v1.16b, #0xf
 	ldp q2, q4, [x8]
@@ -514,9 +552,7 @@
 	st2 {v5.16b, v6.16b}, [x8], #32
 	st2 {v2.16b, v3.16b}, [x8]
 	ret
-13:
-	cmp x1, #0xf
-	b.hi 17f
+18:
 	cmp x1, #0x8
 	b.cc 22f
 	add x8, x0, x1
@@ -526,10 +562,8 @@
 	ld1 {v0.d}[1], [x8]
 	adrp_label x8, const_hex_1_0_0_constant_3
 	ldr_label q3, x8, const_hex_1_0_0_constant_3
-	b 15f
-14:
-	cmp x1, #0xf
-	b.hi 18f
+	b 20f
+19:
 	cmp x1, #0x8
 	b.cc 23f
 	add x8, x0, x1
@@ -539,7 +573,7 @@
 	ld1 {v0.d}[1], [x8]
 	adrp_label x8, const_hex_1_0_0_constant_5
 	ldr_label q3, x8, const_hex_1_0_0_constant_5
-15:
+20:
 	ushr v2.16b, v0.16b, #4
 	and v0.16b, v0.16b, v1.16b
 	tbl v1.16b, {v3.16b}, v2.16b
@@ -549,7 +583,7 @@
 	st2 {v1.8b, v2.8b}, [x3], x8
 	stur q0, [x3, #-16]
 	ret
-16:
+21:
 	movi v1.16b, #0xf
 	ldr q2, [x0, x8]
 	add x8, x3, x8, lsl #1
@@ -558,33 +592,6 @@
 	tbl v2.16b, {v0.16b}, v3.16b
 	tbl v3.16b, {v0.16b}, v1.16b
 	st2 {v2.16b, v3.16b}, [x8]
-	ret
-17:
-	ldr q1, [x0]
-	adrp_label x9, const_hex_1_0_0_constant_3
-	movi v0.16b, #0xf
-	ldr_label q3, x9, const_hex_1_0_0_constant_3
-	b 19f
-18:
-	ldr q1, [x0]
-	movi v0.16b, #0xf
-	adrp_label x9, const_hex_1_0_0_constant_5
-	ldr_label q3, x9, const_hex_1_0_0_constant_5
-19:
-	ushr v2.16b, v1.16b, #4
-	and v1.16b, v1.16b, v0.16b
-	tbl v4.16b, {v3.16b}, v2.16b
-	lsl x9, x8, #1
-	tbl v5.16b, {v3.16b}, v1.16b
-	st2 {v4.16b, v5.16b}, [x3], x9
-	ldr q1, [x0, x8]
-20:
-	ushr v2.16b, v1.16b, #4
-	and v0.16b, v1.16b, v0.16b
-	tbl v1.16b, {v3.16b}, v2.16b
-	tbl v2.16b, {v3.16b}, v0.16b
-	st2 {v1.16b, v2.16b}, [x3]
-21:
 	ret
 22:
 	cmp x1, #0x4
@@ -621,7 +628,7 @@
 	stur d1, [x8, #-8]
 	ret
 25:
-	cbz x1, 21b
+	cbz x1, 13b
 	add x8, x0, x1
 	ldr h0, [x0]
 	movi v1.16b, #0xf
@@ -631,7 +638,7 @@
 	ldr_label q3, x8, const_hex_1_0_0_constant_3
 	b 27f
 26:
-	cbz x1, 21b
+	cbz x1, 13b
 	add x8, x0, x1
 	ldr h0, [x0]
 	movi v1.16b, #0xf
@@ -672,9 +679,112 @@
 	hidden const_hex_1_0_0_read
 	function const_hex_1_0_0_read
 	cmp x2, #0x11
-	b.cs 2f
+	b.cc 3f
+	movi v0.16b, #0x8f
+	ld1r {v1.8h}, [x0]
+	movi v2.16b, #0xd0
+	adrp_label x8, const_hex_1_0_0_constant_1
+	mov w9, #0xd8d8
+	and v3.16b, v1.16b, v0.16b
+	ldr_label q0, x8, const_hex_1_0_0_constant_1
+	add v1.16b, v1.16b, v2.16b
+	tbl v3.16b, {v0.16b}, v3.16b
+	uqsub v1.16b, v1.16b, v3.16b
+	umov w8, v1.h[0]
+	tst w8, w9
+	b.ne 15f
+	cmp x2, #0x40
+	b.cc 6f
+	mov x8, xzr
+	add x9, x0, #0x40
+	add x10, x1, #0x20
+2:
+	movi v1.16b, #0xd0
+	movi v2.16b, #0x8f
+	ldp q4, q3, [x9, #-64]
+	ldp q6, q5, [x9, #-32]
+	ldp q7, q16, [x9]
+	ldp q21, q20, [x9, #32]
+	add v17.16b, v4.16b, v1.16b
+	add v18.16b, v3.16b, v1.16b
+	and v4.16b, v4.16b, v2.16b
+	and v3.16b, v3.16b, v2.16b
+	add v19.16b, v6.16b, v1.16b
+	and v6.16b, v6.16b, v2.16b
+	add v22.16b, v5.16b, v1.16b
+	and v5.16b, v5.16b, v2.16b
+	and v23.16b, v16.16b, v2.16b
+	and v24.16b, v7.16b, v2.16b
+	and v25.16b, v21.16b, v2.16b
+	and v2.16b, v20.16b, v2.16b
+	tbl v26.16b, {v0.16b}, v4.16b
+	tbl v3.16b, {v0.16b}, v3.16b
+	tbl v27.16b, {v0.16b}, v6.16b
+	add v28.16b, v16.16b, v1.16b
+	tbl v5.16b, {v0.16b}, v5.16b
+	tbl v23.16b, {v0.16b}, v23.16b
+	tbl v24.16b, {v0.16b}, v24.16b
+	tbl v25.16b, {v0.16b}, v25.16b
+	tbl v29.16b, {v0.16b}, v2.16b
+	add v30.16b, v7.16b, v1.16b
+	add v21.16b, v21.16b, v1.16b
+	add v20.16b, v20.16b, v1.16b
+	umin v6.16b, v17.16b, v26.16b
+	umin v4.16b, v18.16b, v3.16b
+	umin v16.16b, v19.16b, v27.16b
+	umin v7.16b, v22.16b, v5.16b
+	umin v1.16b, v28.16b, v23.16b
+	umin v2.16b, v30.16b, v24.16b
+	umin v3.16b, v20.16b, v29.16b
+	umin v5.16b, v21.16b, v25.16b
+	sub v17.16b, v17.16b, v6.16b
+	sub v18.16b, v18.16b, v4.16b
+	sub v19.16b, v19.16b, v16.16b
+	sub v22.16b, v22.16b, v7.16b
+	sub v23.16b, v28.16b, v1.16b
+	sub v24.16b, v30.16b, v2.16b
+	sub v21.16b, v21.16b, v5.16b
+	sub v20.16b, v20.16b, v3.16b
+	orr v17.16b, v19.16b, v17.16b
+	orr v18.16b, v22.16b, v18.16b
+	orr v19.16b, v23.16b, v20.16b
+	orr v20.16b, v24.16b, v21.16b
+	orr v18.16b, v18.16b, v19.16b
+	orr v17.16b, v17.16b, v20.16b
+	movi v19.16b, #0xd8
+	orr v17.16b, v17.16b, v18.16b
+	and v17.16b, v17.16b, v19.16b
+	ext v18.16b, v17.16b, v17.16b, #8
+	orr v17.8b, v17.8b, v18.8b
+	fmov x11, d17
+	cbnz x11, 15f
+	uzp1 v17.16b, v16.16b, v7.16b
+	uzp2 v7.16b, v16.16b, v7.16b
+	sub x8, x8, #0x40
+	uzp1 v16.16b, v6.16b, v4.16b
+	uzp2 v4.16b, v6.16b, v4.16b
+	add x11, x2, x8
+	uzp1 v6.16b, v5.16b, v3.16b
+	uzp2 v3.16b, v5.16b, v3.16b
+	cmp x11, #0x3f
+	uzp1 v5.16b, v2.16b, v1.16b
+	uzp2 v1.16b, v2.16b, v1.16b
+	add x9, x9, #0x80
+	sli v7.16b, v17.16b, #4
+	sli v4.16b, v16.16b, #4
+	sli v3.16b, v6.16b, #4
+	sli v1.16b, v5.16b, #4
+	stp q4, q7, [x10, #-32]
+	stp q1, q3, [x10], #64
+	b.hi 2b
+	neg x8, x8
+	sub x9, x2, x8
+	cmp x9, #0x20
+	b.cs 7f
+	b 9f
+3:
 	cmp x2, #0x1
-	b.ne 8f
+	b.ne 4f
 	movi v0.16b, #0x8f
 	ld1r {v1.8h}, [x0]
 	movi v2.16b, #0xd0
@@ -688,165 +798,16 @@
 	sub v1.16b, v1.16b, v0.16b
 	umov w8, v1.h[0]
 	tst w8, w9
-	b.eq 13f
-	mov w0, wzr
-	ret
-2:
-	cmp x2, #0x40
-	adrp_label x8, const_hex_1_0_0_constant_1
-	mov x9, xzr
-	b.cc 4f
-	add x10, x0, #0x40
-	add x11, x1, #0x20
-3:
-	movi v0.16b, #0xd0
-	movi v1.16b, #0x8f
-	ldr_label q6, x8, const_hex_1_0_0_constant_1
-	ldp q3, q2, [x10, #-64]
-	ldp q5, q4, [x10, #-32]
-	ldp q7, q16, [x10]
-	ldp q18, q17, [x10, #32]
-	add v19.16b, v3.16b, v0.16b
-	add v20.16b, v2.16b, v0.16b
-	and v3.16b, v3.16b, v1.16b
-	and v2.16b, v2.16b, v1.16b
-	add v21.16b, v5.16b, v0.16b
-	and v5.16b, v5.16b, v1.16b
-	and v22.16b, v4.16b, v1.16b
-	and v23.16b, v7.16b, v1.16b
-	and v24.16b, v16.16b, v1.16b
-	and v25.16b, v18.16b, v1.16b
-	and v1.16b, v17.16b, v1.16b
-	tbl v3.16b, {v6.16b}, v3.16b
-	tbl v2.16b, {v6.16b}, v2.16b
-	add v26.16b, v4.16b, v0.16b
-	tbl v5.16b, {v6.16b}, v5.16b
-	tbl v4.16b, {v6.16b}, v22.16b
-	tbl v22.16b, {v6.16b}, v24.16b
-	tbl v23.16b, {v6.16b}, v23.16b
-	tbl v24.16b, {v6.16b}, v25.16b
-	tbl v25.16b, {v6.16b}, v1.16b
-	add v16.16b, v16.16b, v0.16b
-	add v27.16b, v7.16b, v0.16b
-	add v18.16b, v18.16b, v0.16b
-	add v17.16b, v17.16b, v0.16b
-	umin v0.16b, v20.16b, v2.16b
-	umin v2.16b, v19.16b, v3.16b
-	umin v4.16b, v26.16b, v4.16b
-	umin v6.16b, v21.16b, v5.16b
-	umin v1.16b, v16.16b, v22.16b
-	umin v3.16b, v27.16b, v23.16b
-	umin v5.16b, v17.16b, v25.16b
-	umin v7.16b, v18.16b, v24.16b
-	sub v20.16b, v20.16b, v0.16b
-	sub v19.16b, v19.16b, v2.16b
-	sub v21.16b, v21.16b, v6.16b
-	sub v22.16b, v26.16b, v4.16b
-	sub v16.16b, v16.16b, v1.16b
-	sub v23.16b, v27.16b, v3.16b
-	sub v18.16b, v18.16b, v7.16b
-	sub v17.16b, v17.16b, v5.16b
-	orr v20.16b, v22.16b, v20.16b
-	orr v19.16b, v21.16b, v19.16b
-	orr v16.16b, v16.16b, v17.16b
-	orr v17.16b, v23.16b, v18.16b
-	movi v18.16b, #0xd8
-	orr v16.16b, v20.16b, v16.16b
-	orr v17.16b, v19.16b, v17.16b
-	orr v16.16b, v17.16b, v16.16b
-	and v16.16b, v16.16b, v18.16b
-	ext v17.16b, v16.16b, v16.16b, #8
-	orr v16.8b, v16.8b, v17.8b
-	fmov x12, d16
-	cbnz x12, 17f
-	uzp1 v16.16b, v6.16b, v4.16b
-	uzp1 v17.16b, v2.16b, v0.16b
-	sub x9, x9, #0x40
-	uzp1 v18.16b, v7.16b, v5.16b
-	uzp2 v4.16b, v6.16b, v4.16b
-	add x12, x2, x9
-	uzp1 v6.16b, v3.16b, v1.16b
-	uzp2 v0.16b, v2.16b, v0.16b
-	cmp x12, #0x3f
-	uzp2 v5.16b, v7.16b, v5.16b
-	uzp2 v1.16b, v3.16b, v1.16b
-	add x10, x10, #0x80
-	shl v2.16b, v16.16b, #4
-	shl v7.16b, v17.16b, #4
-	shl v3.16b, v18.16b, #4
-	shl v6.16b, v6.16b, #4
-	orr v2.16b, v2.16b, v4.16b
-	orr v0.16b, v7.16b, v0.16b
-	orr v3.16b, v3.16b, v5.16b
-	orr v1.16b, v6.16b, v1.16b
-	stp q0, q2, [x11, #-32]
-	stp q1, q3, [x11], #64
-	b.hi 3b
-	neg x9, x9
-4:
-	sub x10, x2, x9
-	cmp x10, #0x20
-	b.cc 6f
-	add x11, x0, x9, lsl #1
-	add x11, x11, #0x20
-5:
-	movi v0.16b, #0x8f
-	ldp q2, q1, [x11, #-32]
-	ldp q4, q3, [x11], #64
-	movi v5.16b, #0xd0
-	ldr_label q6, x8, const_hex_1_0_0_constant_1
-	and v7.16b, v2.16b, v0.16b
-	and v16.16b, v1.16b, v0.16b
-	and v17.16b, v4.16b, v0.16b
-	and v0.16b, v3.16b, v0.16b
-	add v18.16b, v2.16b, v5.16b
-	add v4.16b, v4.16b, v5.16b
-	tbl v2.16b, {v6.16b}, v7.16b
-	tbl v7.16b, {v6.16b}, v16.16b
-	tbl v16.16b, {v6.16b}, v17.16b
-	tbl v6.16b, {v6.16b}, v0.16b
-	add v17.16b, v1.16b, v5.16b
-	add v5.16b, v3.16b, v5.16b
-	umin v0.16b, v18.16b, v2.16b
-	umin v1.16b, v17.16b, v7.16b
-	umin v3.16b, v4.16b, v16.16b
-	umin v2.16b, v5.16b, v6.16b
-	sub v6.16b, v18.16b, v0.16b
-	sub v7.16b, v17.16b, v1.16b
-	sub v4.16b, v4.16b, v3.16b
-	sub v5.16b, v5.16b, v2.16b
-	orr v4.16b, v4.16b, v6.16b
-	movi v6.16b, #0xd8
-	orr v5.16b, v5.16b, v7.16b
-	orr v4.16b, v4.16b, v5.16b
-	and v4.16b, v4.16b, v6.16b
-	ext v5.16b, v4.16b, v4.16b, #8
-	orr v4.8b, v4.8b, v5.8b
-	fmov x12, d4
-	cbnz x12, 17f
-	uzp1 v4.16b, v3.16b, v2.16b
-	uzp1 v5.16b, v0.16b, v1.16b
-	sub x10, x10, #0x20
-	uzp2 v2.16b, v3.16b, v2.16b
-	uzp2 v0.16b, v0.16b, v1.16b
-	add x12, x1, x9
-	cmp x10, #0x1f
-	add x9, x9, #0x20
-	shl v1.16b, v4.16b, #4
-	shl v3.16b, v5.16b, #4
-	orr v1.16b, v1.16b, v2.16b
-	orr v0.16b, v3.16b, v0.16b
-	stp q0, q1, [x12]
-	b.hi 5b
-6:
-	cmp x9, x2
-	b.ne 9f
-7:
+	b.ne 15f
+	umov w8, v0.b[0]
+	umov w9, v0.b[1]
 	mov w0, #0x1
+	orr w8, w9, w8, lsl #4
+	strb w8, [x1]
 	ret
-8:
+4:
 	cmp x2, #0x8
-	b.cc 12f
+	b.cc 5f
 	add x8, x0, x2, lsl #1
 	movi v0.16b, #0x8f
 	ldr q1, [x0]
@@ -870,43 +831,19 @@
 	ext v3.16b, v2.16b, v2.16b, #8
 	orr v2.8b, v2.8b, v3.8b
 	fmov x8, d2
-	cbz x8, 18f
-	mov w0, wzr
-	ret
-9:
-	cmp x10, #0x11
-	b.cc 14f
-	add x10, x0, x9, lsl #1
-	movi v0.16b, #0x8f
-	movi v3.16b, #0xd0
-	ldr_label q5, x8, const_hex_1_0_0_constant_1
-	ldp q1, q2, [x10]
-	and v4.16b, v1.16b, v0.16b
-	and v0.16b, v2.16b, v0.16b
-	add v6.16b, v1.16b, v3.16b
-	add v2.16b, v2.16b, v3.16b
-	tbl v4.16b, {v5.16b}, v4.16b
-	tbl v5.16b, {v5.16b}, v0.16b
-	umin v0.16b, v6.16b, v4.16b
-	umin v1.16b, v2.16b, v5.16b
-	movi v4.16b, #0xd8
-	sub v3.16b, v6.16b, v0.16b
-	sub v2.16b, v2.16b, v1.16b
-	orr v2.16b, v2.16b, v3.16b
-	and v2.16b, v2.16b, v4.16b
-	ext v3.16b, v2.16b, v2.16b, #8
-	orr v2.8b, v2.8b, v3.8b
-	fmov x10, d2
-	cbnz x10, 17f
+	cbnz x8, 15f
 	uzp1 v2.16b, v0.16b, v1.16b
 	uzp2 v0.16b, v0.16b, v1.16b
-	shl v1.16b, v2.16b, #4
-	orr v0.16b, v1.16b, v0.16b
-	str q0, [x1, x9]
-	b 16f
-12:
+	add x8, x1, x2
+	mov w0, #0x1
+	sli v0.16b, v2.16b, #4
+	ext v1.16b, v0.16b, v0.16b, #8
+	str d0, [x1]
+	stur d1, [x8, #-8]
+	ret
+5:
 	cmp x2, #0x4
-	b.cc 15f
+	b.cc 12f
 	add x8, x0, x2, lsl #1
 	ldr d0, [x0]
 	movi v1.16b, #0x8f
@@ -925,41 +862,113 @@
 	ext v2.16b, v1.16b, v1.16b, #8
 	orr v1.8b, v1.8b, v2.8b
 	fmov x8, d1
-	cbz x8, 19f
-	mov w0, wzr
-	ret
-13:
-	umov w8, v0.b[0]
-	umov w9, v0.b[1]
+	cbnz x8, 15f
+	xtn v1.8b, v0.8h
+	uzp2 v0.16b, v0.16b, v0.16b
 	mov w0, #0x1
-	orr w8, w9, w8, lsl #4
-	strb w8, [x1]
+	sli v0.16b, v1.16b, #4
+	umov w8, v0.b[4]
+	umov w9, v0.b[5]
+	fmov s1, w8
+	umov w8, v0.b[6]
+	mov v1.h[1], w9
+	umov w9, v0.b[7]
+	zip1 v0.16b, v0.16b, v0.16b
+	mov v1.h[2], w8
+	xtn v0.8b, v0.8h
+	add x8, x1, x2
+	mov v1.h[3], w9
+	str s0, [x1]
+	xtn v1.8b, v1.8h
+	stur s1, [x8, #-4]
 	ret
-14:
-	cmp x10, #0x1
-	b.ne 16f
-	add x10, x0, x9, lsl #1
-	movi v0.16b, #0x8f
-	movi v2.16b, #0xd0
-	ldr_label q3, x8, const_hex_1_0_0_constant_1
-	ld1r {v1.8h}, [x10]
-	mov w10, #0xd8d8
-	and v0.16b, v1.16b, v0.16b
-	add v1.16b, v1.16b, v2.16b
-	tbl v0.16b, {v3.16b}, v0.16b
-	umin v0.16b, v1.16b, v0.16b
-	sub v1.16b, v1.16b, v0.16b
-	umov w8, v1.h[0]
-	tst w8, w10
-	b.ne 17f
-	umov w8, v0.b[0]
-	umov w10, v0.b[1]
-	mov w0, #0x1
-	orr w8, w10, w8, lsl #4
-	strb w8, [x1, x9]
-	ret
-15:
-	cbz x2, 7b
+6:
+	mov x8, xzr
+	sub x9, x2, xzr
+	cmp x9, #0x20
+	b.cc 9f
+7:
+	add x10, x0, x8, lsl #1
+	add x10, x10, #0x20
+8:
+	movi v1.16b, #0x8f
+	ldp q3, q2, [x10, #-32]
+	ldp q5, q4, [x10], #64
+	movi v6.16b, #0xd0
+	and v7.16b, v3.16b, v1.16b
+	and v16.16b, v2.16b, v1.16b
+	and v17.16b, v5.16b, v1.16b
+	and v1.16b, v4.16b, v1.16b
+	add v18.16b, v3.16b, v6.16b
+	add v19.16b, v2.16b, v6.16b
+	add v5.16b, v5.16b, v6.16b
+	tbl v3.16b, {v0.16b}, v7.16b
+	tbl v7.16b, {v0.16b}, v16.16b
+	tbl v16.16b, {v0.16b}, v17.16b
+	tbl v17.16b, {v0.16b}, v1.16b
+	add v6.16b, v4.16b, v6.16b
+	umin v1.16b, v18.16b, v3.16b
+	umin v2.16b, v19.16b, v7.16b
+	umin v4.16b, v5.16b, v16.16b
+	umin v3.16b, v6.16b, v17.16b
+	sub v7.16b, v18.16b, v1.16b
+	sub v16.16b, v19.16b, v2.16b
+	sub v5.16b, v5.16b, v4.16b
+	sub v6.16b, v6.16b, v3.16b
+	orr v5.16b, v5.16b, v7.16b
+	movi v7.16b, #0xd8
+	orr v6.16b, v6.16b, v16.16b
+	orr v5.16b, v5.16b, v6.16b
+	and v5.16b, v5.16b, v7.16b
+	ext v6.16b, v5.16b, v5.16b, #8
+	orr v5.8b, v5.8b, v6.8b
+	fmov x11, d5
+	cbnz x11, 15f
+	uzp1 v5.16b, v4.16b, v3.16b
+	uzp2 v3.16b, v4.16b, v3.16b
+	sub x9, x9, #0x20
+	uzp1 v4.16b, v1.16b, v2.16b
+	uzp2 v1.16b, v1.16b, v2.16b
+	add x11, x1, x8
+	cmp x9, #0x1f
+	add x8, x8, #0x20
+	sli v3.16b, v5.16b, #4
+	sli v1.16b, v4.16b, #4
+	stp q1, q3, [x11]
+	b.hi 8b
+9:
+	cmp x8, x2
+	b.eq 17f
+	cmp x9, #0x11
+	b.cc 13f
+	add x9, x0, x8, lsl #1
+	movi v1.16b, #0x8f
+	movi v4.16b, #0xd0
+	ldp q2, q3, [x9]
+	and v5.16b, v2.16b, v1.16b
+	and v1.16b, v3.16b, v1.16b
+	add v7.16b, v2.16b, v4.16b
+	add v3.16b, v3.16b, v4.16b
+	tbl v5.16b, {v0.16b}, v5.16b
+	tbl v6.16b, {v0.16b}, v1.16b
+	umin v1.16b, v7.16b, v5.16b
+	umin v2.16b, v3.16b, v6.16b
+	movi v5.16b, #0xd8
+	sub v4.16b, v7.16b, v1.16b
+	sub v3.16b, v3.16b, v2.16b
+	orr v3.16b, v3.16b, v4.16b
+	and v3.16b, v3.16b, v5.16b
+	ext v4.16b, v3.16b, v3.16b, #8
+	orr v3.8b, v3.8b, v4.8b
+	fmov x9, d3
+	cbnz x9, 15f
+	uzp1 v3.16b, v1.16b, v2.16b
+	uzp2 v1.16b, v1.16b, v2.16b
+	sli v1.16b, v3.16b, #4
+	str q1, [x1, x8]
+	b 14f
+12:
+	cbz x2, 17f
 	movi v0.16b, #0x30
 	lsl x8, x2, #1
 	movi v1.16b, #0x8f
@@ -979,83 +988,12 @@
 	ext v2.16b, v1.16b, v1.16b, #8
 	orr v1.8b, v1.8b, v2.8b
 	fmov x8, d1
-	cbz x8, 21f
-	mov w0, wzr
-	ret
-16:
-	sub x9, x2, #0x10
-	movi v0.16b, #0x8f
-	movi v3.16b, #0xd0
-	add x10, x0, x9, lsl #1
-	ldr_label q5, x8, const_hex_1_0_0_constant_1
-	ldp q1, q2, [x10]
-	and v4.16b, v1.16b, v0.16b
-	and v0.16b, v2.16b, v0.16b
-	add v6.16b, v1.16b, v3.16b
-	add v2.16b, v2.16b, v3.16b
-	tbl v4.16b, {v5.16b}, v4.16b
-	tbl v5.16b, {v5.16b}, v0.16b
-	umin v0.16b, v6.16b, v4.16b
-	umin v1.16b, v2.16b, v5.16b
-	movi v4.16b, #0xd8
-	sub v3.16b, v6.16b, v0.16b
-	sub v2.16b, v2.16b, v1.16b
-	orr v2.16b, v2.16b, v3.16b
-	and v2.16b, v2.16b, v4.16b
-	ext v3.16b, v2.16b, v2.16b, #8
-	orr v2.8b, v2.8b, v3.8b
-	fmov x8, d2
-	cbz x8, 20f
-17:
-	mov w0, wzr
-	ret
-18:
-	uzp1 v2.16b, v0.16b, v1.16b
-	uzp2 v0.16b, v0.16b, v1.16b
-	add x8, x1, x2
-	mov w0, #0x1
-	shl v1.16b, v2.16b, #4
-	orr v0.16b, v1.16b, v0.16b
-	ext v1.16b, v0.16b, v0.16b, #8
-	str d0, [x1]
-	stur d1, [x8, #-8]
-	ret
-19:
-	xtn v1.8b, v0.8h
-	uzp2 v0.16b, v0.16b, v0.16b
-	mov w0, #0x1
-	shl v1.16b, v1.16b, #4
-	orr v0.16b, v1.16b, v0.16b
-	umov w8, v0.b[4]
-	umov w9, v0.b[5]
-	fmov s1, w8
-	umov w8, v0.b[6]
-	mov v1.h[1], w9
-	umov w9, v0.b[7]
-	zip1 v0.16b, v0.16b, v0.16b
-	mov v1.h[2], w8
-	xtn v0.8b, v0.8h
-	add x8, x1, x2
-	mov v1.h[3], w9
-	str s0, [x1]
-	xtn v1.8b, v1.8h
-	stur s1, [x8, #-4]
-	ret
-20:
-	uzp1 v2.16b, v0.16b, v1.16b
-	uzp2 v0.16b, v0.16b, v1.16b
-	shl v1.16b, v2.16b, #4
-	orr v0.16b, v1.16b, v0.16b
-	str q0, [x1, x9]
-	mov w0, #0x1
-	ret
-21:
+	cbnz x8, 15f
 	xtn v1.8b, v0.8h
 	uzp2 v0.16b, v0.16b, v0.16b
 	add x8, x1, x2
 	mov w0, #0x1
-	shl v1.16b, v1.16b, #4
-	orr v0.16b, v1.16b, v0.16b
+	sli v0.16b, v1.16b, #4
 	mov b1, v0.b[1]
 	mov b2, v0.b[3]
 	mov b3, v0.b[2]
@@ -1063,6 +1001,62 @@
 	stur b1, [x1, #1]
 	stur b2, [x8, #-1]
 	stur b3, [x8, #-2]
+	ret
+13:
+	cmp x9, #0x1
+	b.ne 14f
+	add x9, x0, x8, lsl #1
+	movi v1.16b, #0x8f
+	movi v3.16b, #0xd0
+	mov w10, #0xd8d8
+	ld1r {v2.8h}, [x9]
+	and v1.16b, v2.16b, v1.16b
+	tbl v0.16b, {v0.16b}, v1.16b
+	add v1.16b, v2.16b, v3.16b
+	umin v0.16b, v1.16b, v0.16b
+	sub v1.16b, v1.16b, v0.16b
+	umov w9, v1.h[0]
+	tst w9, w10
+	b.ne 15f
+	umov w9, v0.b[0]
+	umov w10, v0.b[1]
+	mov w0, #0x1
+	orr w9, w10, w9, lsl #4
+	strb w9, [x1, x8]
+	ret
+14:
+	sub x8, x2, #0x10
+	movi v1.16b, #0x8f
+	movi v4.16b, #0xd0
+	add x9, x0, x8, lsl #1
+	ldp q2, q3, [x9]
+	and v5.16b, v2.16b, v1.16b
+	and v1.16b, v3.16b, v1.16b
+	add v2.16b, v2.16b, v4.16b
+	add v3.16b, v3.16b, v4.16b
+	movi v4.16b, #0xd8
+	tbl v5.16b, {v0.16b}, v5.16b
+	tbl v1.16b, {v0.16b}, v1.16b
+	umin v0.16b, v2.16b, v5.16b
+	umin v1.16b, v3.16b, v1.16b
+	sub v2.16b, v2.16b, v0.16b
+	sub v3.16b, v3.16b, v1.16b
+	orr v2.16b, v3.16b, v2.16b
+	and v2.16b, v2.16b, v4.16b
+	ext v3.16b, v2.16b, v2.16b, #8
+	orr v2.8b, v2.8b, v3.8b
+	fmov x9, d2
+	cbz x9, 16f
+15:
+	mov w0, wzr
+	ret
+16:
+	uzp1 v2.16b, v0.16b, v1.16b
+	uzp2 v0.16b, v0.16b, v1.16b
+	sli v0.16b, v2.16b, #4
+	str q0, [x1, x8]
+17:
+	mov w0, #0x1
 	ret
 	end const_hex_1_0_0_read
 

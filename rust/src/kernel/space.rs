@@ -31,12 +31,12 @@ impl<const N: usize> Space<N> {
     /// Returns the bytes of digits, or `None` if some byte is not a digit. Panics unless there are two for each of `N`
     /// bytes.
     #[inline]
-    pub fn bytes(mut self, digits: &[u8]) -> Option<[u8; N]> {
+    pub fn bytes(&mut self, digits: &[u8]) -> Option<&[u8; N]> {
         assert!(digits.len() == N << 1);
         // SAFETY: there are so many digits, and if the result is true, all bytes are written.
         unsafe {
             match unchecked::read(digits.as_ptr(), self.0.as_mut_ptr().cast(), N) {
-                true => Some(self.0.assume_init()),
+                true => Some(&*self.0.as_ptr()),
                 false => None,
             }
         }

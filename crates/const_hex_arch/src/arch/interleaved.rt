@@ -70,7 +70,7 @@ impl Kernel for Interleaved {
     }
 }
 
-/// As `fill`, for less than two steps. It asks for 16 bytes first, and then for a step.
+/// As `fill`, for less than two steps. It asks for 16 bytes first.
 #[inline(always)]
 fn fill_short<const UPPER: bool>(input: &[u8], output: &mut [u8])
     requires size { length output.old ≡ 2 * length input.now }
@@ -81,8 +81,10 @@ fn fill_short<const UPPER: bool>(input: &[u8], output: &mut [u8])
         steps::fill_step::<16, Interleaved>(input, UPPER, UPPER, output);
     } else if input.len() >= 32 {
         small_input::fill_overlapping::<32, 16, Interleaved, Interleaved>(input, UPPER, output);
+    } else if input.len() >= 16 {
+        small_input::fill_overlapping::<16, 16, Interleaved, Interleaved>(input, UPPER, output);
     } else {
-        loops::fill_in_steps::<32, Interleaved, Interleaved>(input, UPPER, output);
+        small_input::fill::<Interleaved>(input, UPPER, output);
     }
 }
 
