@@ -678,111 +678,8 @@
 /* const_hex_c::kernel::interleaved_read */
 	hidden const_hex_1_0_0_read
 	function const_hex_1_0_0_read
-	cmp x2, #0x11
-	b.cc 3f
-	movi v0.16b, #0x8f
-	ld1r {v1.8h}, [x0]
-	movi v2.16b, #0xd0
-	adrp_label x8, const_hex_1_0_0_constant_1
-	mov w9, #0xd8d8
-	and v3.16b, v1.16b, v0.16b
-	ldr_label q0, x8, const_hex_1_0_0_constant_1
-	add v1.16b, v1.16b, v2.16b
-	tbl v3.16b, {v0.16b}, v3.16b
-	uqsub v1.16b, v1.16b, v3.16b
-	umov w8, v1.h[0]
-	tst w8, w9
-	b.ne 15f
-	cmp x2, #0x40
-	b.cc 6f
-	mov x8, xzr
-	add x9, x0, #0x40
-	add x10, x1, #0x20
-2:
-	movi v1.16b, #0xd0
-	movi v2.16b, #0x8f
-	ldp q4, q3, [x9, #-64]
-	ldp q6, q5, [x9, #-32]
-	ldp q7, q16, [x9]
-	ldp q21, q20, [x9, #32]
-	add v17.16b, v4.16b, v1.16b
-	add v18.16b, v3.16b, v1.16b
-	and v4.16b, v4.16b, v2.16b
-	and v3.16b, v3.16b, v2.16b
-	add v19.16b, v6.16b, v1.16b
-	and v6.16b, v6.16b, v2.16b
-	add v22.16b, v5.16b, v1.16b
-	and v5.16b, v5.16b, v2.16b
-	and v23.16b, v16.16b, v2.16b
-	and v24.16b, v7.16b, v2.16b
-	and v25.16b, v21.16b, v2.16b
-	and v2.16b, v20.16b, v2.16b
-	tbl v26.16b, {v0.16b}, v4.16b
-	tbl v3.16b, {v0.16b}, v3.16b
-	tbl v27.16b, {v0.16b}, v6.16b
-	add v28.16b, v16.16b, v1.16b
-	tbl v5.16b, {v0.16b}, v5.16b
-	tbl v23.16b, {v0.16b}, v23.16b
-	tbl v24.16b, {v0.16b}, v24.16b
-	tbl v25.16b, {v0.16b}, v25.16b
-	tbl v29.16b, {v0.16b}, v2.16b
-	add v30.16b, v7.16b, v1.16b
-	add v21.16b, v21.16b, v1.16b
-	add v20.16b, v20.16b, v1.16b
-	umin v6.16b, v17.16b, v26.16b
-	umin v4.16b, v18.16b, v3.16b
-	umin v16.16b, v19.16b, v27.16b
-	umin v7.16b, v22.16b, v5.16b
-	umin v1.16b, v28.16b, v23.16b
-	umin v2.16b, v30.16b, v24.16b
-	umin v3.16b, v20.16b, v29.16b
-	umin v5.16b, v21.16b, v25.16b
-	sub v17.16b, v17.16b, v6.16b
-	sub v18.16b, v18.16b, v4.16b
-	sub v19.16b, v19.16b, v16.16b
-	sub v22.16b, v22.16b, v7.16b
-	sub v23.16b, v28.16b, v1.16b
-	sub v24.16b, v30.16b, v2.16b
-	sub v21.16b, v21.16b, v5.16b
-	sub v20.16b, v20.16b, v3.16b
-	orr v17.16b, v19.16b, v17.16b
-	orr v18.16b, v22.16b, v18.16b
-	orr v19.16b, v23.16b, v20.16b
-	orr v20.16b, v24.16b, v21.16b
-	orr v18.16b, v18.16b, v19.16b
-	orr v17.16b, v17.16b, v20.16b
-	movi v19.16b, #0xd8
-	orr v17.16b, v17.16b, v18.16b
-	and v17.16b, v17.16b, v19.16b
-	ext v18.16b, v17.16b, v17.16b, #8
-	orr v17.8b, v17.8b, v18.8b
-	fmov x11, d17
-	cbnz x11, 15f
-	uzp1 v17.16b, v16.16b, v7.16b
-	uzp2 v7.16b, v16.16b, v7.16b
-	sub x8, x8, #0x40
-	uzp1 v16.16b, v6.16b, v4.16b
-	uzp2 v4.16b, v6.16b, v4.16b
-	add x11, x2, x8
-	uzp1 v6.16b, v5.16b, v3.16b
-	uzp2 v3.16b, v5.16b, v3.16b
-	cmp x11, #0x3f
-	uzp1 v5.16b, v2.16b, v1.16b
-	uzp2 v1.16b, v2.16b, v1.16b
-	add x9, x9, #0x80
-	sli v7.16b, v17.16b, #4
-	sli v4.16b, v16.16b, #4
-	sli v3.16b, v6.16b, #4
-	sli v1.16b, v5.16b, #4
-	stp q4, q7, [x10, #-32]
-	stp q1, q3, [x10], #64
-	b.hi 2b
-	neg x8, x8
-	sub x9, x2, x8
-	cmp x9, #0x20
-	b.cs 7f
-	b 9f
-3:
+	subs x8, x2, #0x10
+	b.hi 2f
 	cmp x2, #0x1
 	b.ne 4f
 	movi v0.16b, #0x8f
@@ -798,16 +695,42 @@
 	sub v1.16b, v1.16b, v0.16b
 	umov w8, v1.h[0]
 	tst w8, w9
-	b.ne 15f
+	b.ne 3f
 	umov w8, v0.b[0]
 	umov w9, v0.b[1]
 	mov w0, #0x1
 	orr w8, w9, w8, lsl #4
 	strb w8, [x1]
 	ret
+2:
+	movi v0.16b, #0x8f
+	ldp q1, q2, [x0]
+	movi v3.16b, #0xd0
+	adrp_label x9, const_hex_1_0_0_constant_1
+	and v4.16b, v1.16b, v0.16b
+	and v5.16b, v2.16b, v0.16b
+	ldr_label q0, x9, const_hex_1_0_0_constant_1
+	add v6.16b, v1.16b, v3.16b
+	add v3.16b, v2.16b, v3.16b
+	tbl v4.16b, {v0.16b}, v4.16b
+	tbl v5.16b, {v0.16b}, v5.16b
+	umin v1.16b, v6.16b, v4.16b
+	umin v2.16b, v3.16b, v5.16b
+	movi v5.16b, #0xd8
+	sub v4.16b, v6.16b, v1.16b
+	sub v3.16b, v3.16b, v2.16b
+	orr v3.16b, v3.16b, v4.16b
+	and v3.16b, v3.16b, v5.16b
+	ext v4.16b, v3.16b, v3.16b, #8
+	orr v3.8b, v3.8b, v4.8b
+	fmov x9, d3
+	cbz x9, 5f
+3:
+	mov w0, wzr
+	ret
 4:
 	cmp x2, #0x8
-	b.cc 5f
+	b.cc 7f
 	add x8, x0, x2, lsl #1
 	movi v0.16b, #0x8f
 	ldr q1, [x0]
@@ -831,7 +754,7 @@
 	ext v3.16b, v2.16b, v2.16b, #8
 	orr v2.8b, v2.8b, v3.8b
 	fmov x8, d2
-	cbnz x8, 15f
+	cbnz x8, 3b
 	uzp1 v2.16b, v0.16b, v1.16b
 	uzp2 v0.16b, v0.16b, v1.16b
 	add x8, x1, x2
@@ -842,8 +765,103 @@
 	stur d1, [x8, #-8]
 	ret
 5:
+	uzp1 v3.16b, v1.16b, v2.16b
+	uzp2 v1.16b, v1.16b, v2.16b
+	cmp x2, #0x50
+	sli v1.16b, v3.16b, #4
+	str q1, [x1]
+	b.cc 8f
+	add x10, x0, #0x40
+	mov x9, #0xfffffffffffffff0
+	mov x11, x1
+6:
+	movi v1.16b, #0xd0
+	movi v2.16b, #0x8f
+	ldp q4, q3, [x10, #-32]
+	ldp q6, q5, [x10]
+	ldp q7, q16, [x10, #32]
+	ldp q21, q20, [x10, #64]
+	add v17.16b, v4.16b, v1.16b
+	add v18.16b, v3.16b, v1.16b
+	and v4.16b, v4.16b, v2.16b
+	and v3.16b, v3.16b, v2.16b
+	add v19.16b, v6.16b, v1.16b
+	and v6.16b, v6.16b, v2.16b
+	add v22.16b, v5.16b, v1.16b
+	and v5.16b, v5.16b, v2.16b
+	and v23.16b, v16.16b, v2.16b
+	and v24.16b, v7.16b, v2.16b
+	and v25.16b, v21.16b, v2.16b
+	and v2.16b, v20.16b, v2.16b
+	tbl v4.16b, {v0.16b}, v4.16b
+	tbl v3.16b, {v0.16b}, v3.16b
+	tbl v6.16b, {v0.16b}, v6.16b
+	add v26.16b, v16.16b, v1.16b
+	tbl v5.16b, {v0.16b}, v5.16b
+	tbl v16.16b, {v0.16b}, v23.16b
+	tbl v23.16b, {v0.16b}, v24.16b
+	tbl v24.16b, {v0.16b}, v25.16b
+	tbl v25.16b, {v0.16b}, v2.16b
+	add v27.16b, v7.16b, v1.16b
+	add v21.16b, v21.16b, v1.16b
+	add v20.16b, v20.16b, v1.16b
+	umin v2.16b, v17.16b, v4.16b
+	umin v1.16b, v18.16b, v3.16b
+	umin v6.16b, v19.16b, v6.16b
+	umin v5.16b, v22.16b, v5.16b
+	umin v3.16b, v26.16b, v16.16b
+	umin v4.16b, v27.16b, v23.16b
+	umin v7.16b, v20.16b, v25.16b
+	umin v16.16b, v21.16b, v24.16b
+	sub v17.16b, v17.16b, v2.16b
+	sub v18.16b, v18.16b, v1.16b
+	sub v19.16b, v19.16b, v6.16b
+	sub v22.16b, v22.16b, v5.16b
+	sub v23.16b, v26.16b, v3.16b
+	sub v24.16b, v27.16b, v4.16b
+	sub v21.16b, v21.16b, v16.16b
+	sub v20.16b, v20.16b, v7.16b
+	orr v17.16b, v19.16b, v17.16b
+	orr v18.16b, v22.16b, v18.16b
+	orr v19.16b, v23.16b, v20.16b
+	orr v20.16b, v24.16b, v21.16b
+	orr v18.16b, v18.16b, v19.16b
+	orr v17.16b, v17.16b, v20.16b
+	movi v19.16b, #0xd8
+	orr v17.16b, v17.16b, v18.16b
+	and v17.16b, v17.16b, v19.16b
+	ext v18.16b, v17.16b, v17.16b, #8
+	orr v17.8b, v17.8b, v18.8b
+	fmov x12, d17
+	cbnz x12, 3b
+	uzp1 v17.16b, v16.16b, v7.16b
+	uzp2 v7.16b, v16.16b, v7.16b
+	sub x9, x9, #0x40
+	uzp1 v16.16b, v6.16b, v5.16b
+	uzp2 v5.16b, v6.16b, v5.16b
+	add x12, x2, x9
+	uzp1 v6.16b, v2.16b, v1.16b
+	uzp2 v1.16b, v2.16b, v1.16b
+	cmp x12, #0x3f
+	uzp1 v2.16b, v4.16b, v3.16b
+	uzp2 v3.16b, v4.16b, v3.16b
+	add x10, x10, #0x80
+	sli v7.16b, v17.16b, #4
+	sli v5.16b, v16.16b, #4
+	sli v1.16b, v6.16b, #4
+	sli v3.16b, v2.16b, #4
+	str q7, [x11, #64]!
+	stp q1, q5, [x11, #-48]
+	stur q3, [x11, #-16]
+	b.hi 6b
+	neg x9, x9
+	sub x10, x2, x9
+	cmp x10, #0x20
+	b.cs 9f
+	b 13f
+7:
 	cmp x2, #0x4
-	b.cc 12f
+	b.cc 14f
 	add x8, x0, x2, lsl #1
 	ldr d0, [x0]
 	movi v1.16b, #0x8f
@@ -862,7 +880,7 @@
 	ext v2.16b, v1.16b, v1.16b, #8
 	orr v1.8b, v1.8b, v2.8b
 	fmov x8, d1
-	cbnz x8, 15f
+	cbnz x8, 3b
 	xtn v1.8b, v0.8h
 	uzp2 v0.16b, v0.16b, v0.16b
 	mov w0, #0x1
@@ -882,18 +900,18 @@
 	xtn v1.8b, v1.8h
 	stur s1, [x8, #-4]
 	ret
-6:
-	mov x8, xzr
-	sub x9, x2, xzr
-	cmp x9, #0x20
-	b.cc 9f
-7:
-	add x10, x0, x8, lsl #1
-	add x10, x10, #0x20
 8:
+	mov w9, #0x10
+	sub x10, x2, x9
+	cmp x10, #0x20
+	b.cc 13f
+9:
+	add x11, x0, x9, lsl #1
+	add x11, x11, #0x20
+12:
 	movi v1.16b, #0x8f
-	ldp q3, q2, [x10, #-32]
-	ldp q5, q4, [x10], #64
+	ldp q3, q2, [x11, #-32]
+	ldp q5, q4, [x11], #64
 	movi v6.16b, #0xd0
 	and v7.16b, v3.16b, v1.16b
 	and v16.16b, v2.16b, v1.16b
@@ -922,29 +940,29 @@
 	and v5.16b, v5.16b, v7.16b
 	ext v6.16b, v5.16b, v5.16b, #8
 	orr v5.8b, v5.8b, v6.8b
-	fmov x11, d5
-	cbnz x11, 15f
+	fmov x12, d5
+	cbnz x12, 3b
 	uzp1 v5.16b, v4.16b, v3.16b
 	uzp2 v3.16b, v4.16b, v3.16b
-	sub x9, x9, #0x20
+	sub x10, x10, #0x20
 	uzp1 v4.16b, v1.16b, v2.16b
 	uzp2 v1.16b, v1.16b, v2.16b
-	add x11, x1, x8
-	cmp x9, #0x1f
-	add x8, x8, #0x20
+	add x12, x1, x9
+	cmp x10, #0x1f
+	add x9, x9, #0x20
 	sli v3.16b, v5.16b, #4
 	sli v1.16b, v4.16b, #4
-	stp q1, q3, [x11]
-	b.hi 8b
-9:
-	cmp x8, x2
+	stp q1, q3, [x12]
+	b.hi 12b
+13:
+	cmp x9, x2
 	b.eq 17f
-	cmp x9, #0x11
-	b.cc 13f
-	add x9, x0, x8, lsl #1
+	cmp x10, #0x11
+	b.cc 15f
+	add x10, x0, x9, lsl #1
 	movi v1.16b, #0x8f
 	movi v4.16b, #0xd0
-	ldp q2, q3, [x9]
+	ldp q2, q3, [x10]
 	and v5.16b, v2.16b, v1.16b
 	and v1.16b, v3.16b, v1.16b
 	add v7.16b, v2.16b, v4.16b
@@ -960,14 +978,14 @@
 	and v3.16b, v3.16b, v5.16b
 	ext v4.16b, v3.16b, v3.16b, #8
 	orr v3.8b, v3.8b, v4.8b
-	fmov x9, d3
-	cbnz x9, 15f
+	fmov x10, d3
+	cbnz x10, 3b
 	uzp1 v3.16b, v1.16b, v2.16b
 	uzp2 v1.16b, v1.16b, v2.16b
 	sli v1.16b, v3.16b, #4
-	str q1, [x1, x8]
-	b 14f
-12:
+	str q1, [x1, x9]
+	b 16f
+14:
 	cbz x2, 17f
 	movi v0.16b, #0x30
 	lsl x8, x2, #1
@@ -988,7 +1006,7 @@
 	ext v2.16b, v1.16b, v1.16b, #8
 	orr v1.8b, v1.8b, v2.8b
 	fmov x8, d1
-	cbnz x8, 15f
+	cbnz x8, 3b
 	xtn v1.8b, v0.8h
 	uzp2 v0.16b, v0.16b, v0.16b
 	add x8, x1, x2
@@ -1002,33 +1020,32 @@
 	stur b2, [x8, #-1]
 	stur b3, [x8, #-2]
 	ret
-13:
-	cmp x9, #0x1
-	b.ne 14f
-	add x9, x0, x8, lsl #1
+15:
+	cmp x10, #0x1
+	b.ne 16f
+	add x8, x0, x9, lsl #1
 	movi v1.16b, #0x8f
 	movi v3.16b, #0xd0
 	mov w10, #0xd8d8
-	ld1r {v2.8h}, [x9]
+	ld1r {v2.8h}, [x8]
 	and v1.16b, v2.16b, v1.16b
 	tbl v0.16b, {v0.16b}, v1.16b
 	add v1.16b, v2.16b, v3.16b
 	umin v0.16b, v1.16b, v0.16b
 	sub v1.16b, v1.16b, v0.16b
-	umov w9, v1.h[0]
-	tst w9, w10
-	b.ne 15f
-	umov w9, v0.b[0]
+	umov w8, v1.h[0]
+	tst w8, w10
+	b.ne 3b
+	umov w8, v0.b[0]
 	umov w10, v0.b[1]
 	mov w0, #0x1
-	orr w9, w10, w9, lsl #4
-	strb w9, [x1, x8]
+	orr w8, w10, w8, lsl #4
+	strb w8, [x1, x9]
 	ret
-14:
-	sub x8, x2, #0x10
+16:
+	add x9, x0, x8, lsl #1
 	movi v1.16b, #0x8f
 	movi v4.16b, #0xd0
-	add x9, x0, x8, lsl #1
 	ldp q2, q3, [x9]
 	and v5.16b, v2.16b, v1.16b
 	and v1.16b, v3.16b, v1.16b
@@ -1046,11 +1063,7 @@
 	ext v3.16b, v2.16b, v2.16b, #8
 	orr v2.8b, v2.8b, v3.8b
 	fmov x9, d2
-	cbz x9, 16f
-15:
-	mov w0, wzr
-	ret
-16:
+	cbnz x9, 3b
 	uzp1 v2.16b, v0.16b, v1.16b
 	uzp2 v0.16b, v0.16b, v1.16b
 	sli v0.16b, v2.16b, #4

@@ -55,13 +55,15 @@ impl Kernel for Interleaved {
     }
 
     #[inline(always)]
-    #[tactic(auto, using(crate::proofs::lemmas::FirstInvalid::none_decoded))]
     fn decode_checked(input: &[u8], output: &mut [u8]) -> bool {
-        // So a text whose first character is invalid is refused before the test of a whole step.
-        if output.len() > 16 && !small_input::check_two::<Interleaved>(input[0], input[1]) {
+        if output.len() <= 16 {
+            return small_input::decode_short::<Interleaved>(input, output);
+        }
+        // With a test of its own, so that most invalid texts cost little.
+        if !steps::decode_step::<16, Interleaved>(&input[..32], false, &mut output[..16]) {
             return false;
         }
-        loops::decode_in_steps::<32, false, Interleaved, Interleaved>(input, output)
+        loops::decode_from::<32, false, Interleaved, Interleaved>(input, output, 16)
     }
 
     #[inline(always)]

@@ -100,9 +100,9 @@ pub(crate) fn check(text: &[u8]) -> bool
     } else if text.len() >= 4 {
         check_ends::<4>(text)
     } else if text.len() == 2 {
-        check_two::<Lanes16>(text[0], text[1])
+        check_two(text[0], text[1])
     } else if text.len() == 1 {
-        check_two::<Lanes16>(text[0], text[0])
+        check_two(text[0], text[0])
     } else {
         text.is_empty() || check_ends::<2>(text)
     }
@@ -110,10 +110,11 @@ pub(crate) fn check(text: &[u8]) -> bool
 
 /// As `check`, for two characters.
 #[inline(always)]
-pub(crate) fn check_two<S: LaneOps<16> + PairOps>(first: u8, second: u8) -> bool
+fn check_two(first: u8, second: u8) -> bool
     ensures { IsTrue result ↔ AllDigits (first ∷ second ∷ []) }
 {
-    lanes16::is_pair_unmarked(lanes::marks::<16, S>(S::from_pair(first, second)))
+    let marks = lanes::marks::<16, Lanes16>(Lanes16::from_pair(first, second));
+    lanes16::is_pair_unmarked(marks)
 }
 
 /// As `check`, for one to two steps: one test covers the first one and the last one. `V` has the `N` lanes of a step.
