@@ -1,7 +1,7 @@
 //! Space for a text or for bytes, which need not be initialized.
 
-use super::unchecked;
-use crate::proved::text_length;
+use super::{unchecked, Native};
+use crate::proved::{text_length, Kernel};
 use core::{mem::MaybeUninit, ptr};
 
 /// Space for `N` bytes.
@@ -33,9 +33,16 @@ impl<const N: usize> Space<N> {
     #[inline]
     pub fn bytes(mut self, digits: &[u8]) -> Option<[u8; N]> {
         assert!(digits.len() == N << 1);
-        // SAFETY: there are so many digits, and if the result is true, all bytes are written.
+        let mut count = N;
+        // SAFETY: the count is the same afterwards. There are so many digits, and if the result is true, all bytes are
+        // written.
         unsafe {
-            match unchecked::read(digits.as_ptr(), self.0.as_mut_ptr().cast(), N) {
+            // LLVM would unroll the loop for up to so many bytes, and write all of them from registers at the end: 252
+            // instructions in place of 241 for 16, and 84 in place of 55 for an invalid first digit (rustc 1.95, x86-64).
+            if N > 4 && N < 32 && Native::PIECE == 1 {
+                count = ptr::read_volatile(&count);
+            }
+            match unchecked::read(digits.as_ptr(), self.0.as_mut_ptr().cast(), count) {
                 true => Some(self.0.assume_init()),
                 false => None,
             }
