@@ -37,8 +37,8 @@ impl<const N: usize> Space<N> {
         // SAFETY: the count is the same afterwards. There are so many digits, and if the result is true, all bytes are
         // written.
         unsafe {
-            // LLVM would unroll the loop for up to so many bytes, and write all of them from registers at the end: 252
-            // instructions in place of 241 for 16, and 84 in place of 55 for an invalid first digit (rustc 1.95, x86-64).
+            // LLVM would unroll the loop for so few bytes, and write them all at the end: for 16 bytes 252 instructions
+            // in place of 241, and 84 in place of 55 if the first digit is invalid (rustc 1.95, x86-64).
             if N > 4 && N < 32 && Native::PIECE == 1 {
                 count = ptr::read_volatile(&count);
             }
