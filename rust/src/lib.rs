@@ -210,26 +210,27 @@ fn text_in<'a>(data: &[u8], prefix: bool, upper: bool, output: &'a mut [u8]) -> 
 /// ```
 // Not by `decode_append`, which would take 37 instructions more (rustc 1.95, x86-64).
 #[cfg(feature = "alloc")]
-#[inline]
+#[inline(always)]
 pub fn decode<T: AsRef<[u8]>>(data: T) -> Result<Vec<u8>, FromHexError> {
     let text = data.as_ref();
     let digits = strip_even(text)?;
     let mut bytes = Vec::new();
     match kernel::decode_append(digits, &mut bytes) {
         true => Ok(bytes),
-        false => Err(invalid(text.len() - digits.len(), digits, bytes)),
+        false => {
+            let (byte, index) = locate_refused(digits, bytes);
+            Err(FromHexError::InvalidHexCharacter { c: byte.into(), index: index + (text.len() - digits.len()) })
+        }
     }
 }
 
-/// Returns the error for invalid digits, before which a text has so many bytes, and drops the vector for what they
-/// decode to.
-// A function of its own, so that the code for a valid text need not keep the text in registers.
+/// Returns the first invalid digit and its index, and drops the vector for what the digits decode to.
+// A function of its own, so that less code is inlined for a valid text.
 #[cfg(feature = "alloc")]
 #[cold]
-fn invalid(before: usize, digits: &[u8], _: Vec<u8>) -> FromHexError {
-    use crate::proved::codec::body::{invalid_character, locate_invalid};
-    let (byte, index) = locate_invalid(digits);
-    invalid_character(byte, before + index)
+fn locate_refused(digits: &[u8], bytes: Vec<u8>) -> (u8, usize) {
+    drop(bytes);
+    crate::proved::codec::body::locate_invalid(digits)
 }
 
 /// Appends the bytes that a text decodes to to a vector, and returns their number, or the errors of [`check`].

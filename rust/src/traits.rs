@@ -44,7 +44,7 @@ macro_rules! read {
         impl<$($parameter)*> FromHex for $type {
             type Error = $error;
 
-            #[inline]
+            #[inline(always)]
             fn from_hex<T: AsRef<[u8]>>($hex: T) -> Result<Self, $error> {
                 $read
             }

@@ -54,13 +54,13 @@ pub use self::formatting::text::*;
 //    1  and the crate's decoder is cloned
 //    1  and writes a text to memory that is not cleared
 //    2  before it reads a part, or ends
-//   54  deleted: attribute
-//  552  deleted: clause
+//   55  deleted: attribute
+//  555  deleted: clause
 //  146  deleted: ghost item
 //    5  deleted: model
 //    1  each value may be dropped
 //    7  kernels that no target uses are left out, callers that nothing exports, and a sink that allocates
 //    1  the kernel is chosen for the processor
-//   16  what a constant calls is constant
+//   15  what a constant calls is constant
 //    2  what hexfilter uses of const_hex is a module of std_shim
 //    7  what is for C calls the kernel for the processor

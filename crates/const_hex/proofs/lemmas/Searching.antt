@@ -1,9 +1,10 @@
 -- A search for the first byte that is not a digit.
-use Rattle.std.proofs.Common.{◌≡◌, ◌≢◌, ◌+◌, ◌<◌, ◌↔◌, ℕ, List, length, take, get_or, bit_or, ltb, IsTrue, arith}
+use Rattle.std.proofs.Common.{◌≡◌, ◌≢◌, ◌+◌, ◌-◌, ◌<◌, ◌↔◌, ℕ, List, length, take, get_or, bit_or, ltb, is_some, inl, inr, refl, Err, IsTrue, arith}
+use Rattle.std.proofs.lemmas.Bool.{cases_Bool}
 use Rattle.std.proofs.lemmas.Bool.Decides.{nat_tests}
-use Rattle.const_hex.specs.Prelude.{AllDigits, IsDigit, value_or_nil, hex_value}
+use Rattle.const_hex.specs.Prelude.{AllDigits, IsDigit, IsEven, Reads, body_of, value_or_nil, hex_value, FromHexError, InvalidHexCharacter}
 use Rattle.std.proofs.lemmas.Nat.{or_lt}
-use Rattle.const_hex_arch.proofs.lemmas.Digits.{digit_small, two_digits, digits_more}
+use Rattle.const_hex_arch.proofs.lemmas.Digits.{digit_small, two_digits, digits_more, no_value}
 
 -- the look-up takes a digit for one
 pub has_value : (b : ℕ) → IsDigit b → value_or_nil (hex_value b) ≢ 255
@@ -25,3 +26,25 @@ pub two_more : (u : List ℕ) (i j next : ℕ) → j < length u → j ≡ i + 1 
 two_more u i j next within one two first second done =
     let middle = digits_more u i done (omega (arith, within, one)) (has_value (get_or u i 0) first) in
     rw two (digits_more u j (rw one middle) within (has_value (get_or u j 0) second))
+
+-- the error for a pair that is not both digits, after digits
+pub bad_pair : (t : List ℕ) (i index : ℕ) (e : FromHexError) → IsEven (length t) → i + 1 < length (body_of t)
+    → AllDigits (take i (body_of t)) → index ≡ i + (length t - length (body_of t))
+    → (IsDigit (get_or (body_of t) i 0) × IsDigit (get_or (body_of t) (i + 1) 0) → ⊥)
+    → ((IsDigit (get_or (body_of t) i 0) → ⊥) → e ≡ InvalidHexCharacter (get_or (body_of t) i 0) index)
+    → (IsDigit (get_or (body_of t) i 0) → e ≡ InvalidHexCharacter (get_or (body_of t) (i + 1) 0) (index + 1))
+    → Reads t (Err e)
+bad_pair t i index e even within done at not first second =
+    let u = body_of t in
+    elim (cases_Bool (is_some (hex_value (get_or u i 0)))) [
+      | inl digit ↦
+          elim (cases_Bool (is_some (hex_value (get_or u (i + 1) 0)))) [
+            | inl both ↦ absurd (not (digit, both))
+            | inr none ↦
+                let before = digits_more u i done (omega (arith, within)) (has_value (get_or u i 0) digit) in
+                rw (second digit) (even, (i + 1, record { within = within; before = before; here = none }, refl, omega (arith, at)))
+          ]
+      | inr none ↦
+          rw (first (λ digit. no_value _ none digit))
+          (even, (i, record { within = omega (arith, within); before = done; here = none }, refl, at))
+    ]

@@ -1,7 +1,7 @@
 //! The body of a text, which is what follows the prefix: the rule of the prefix, the first invalid
 //! character, and decoding by a kernel.
 
-ghost use Rattle.std.specs.Prelude.{◌≡◌, ◌-◌, ◌*◌, ◌%◌, ◌≤◌, ◌==◌, ◌&&◌, ◌||◌, ◌↔◌, true, false, length, take, drop, slice_index, Err, IfErr, IfOk, IsTrue};
+ghost use Rattle.std.specs.Prelude.{◌≡◌, ◌+◌, ◌-◌, ◌*◌, ◌%◌, ◌<◌, ◌≤◌, ◌==◌, ◌&&◌, ◌||◌, ◌↔◌, true, false, length, take, drop, slice_index, Err, IfErr, IfOk, IsTrue};
 ghost use Rattle.const_hex_arch.specs.Texts.{AllDigits, IsDigit, FirstBad, Spells, Partial};
 ghost use Rattle.const_hex.specs.Results.{IsEven, IsOdd, NamesFirstBad, Reads, body_of};
 ghost use Rattle.const_hex.specs.declared.error.FromHexError.TheVariants.{OddLength, InvalidHexCharacter};
@@ -83,6 +83,20 @@ pub(crate) fn locate_invalid(text: &[u8]) -> (u8, usize)
         }
     }
     find_first_bad(text)
+}
+
+/// The error that names the first byte of a pair that is not a digit. The pair, which stands at the
+/// index, must have one.
+#[inline(always)]
+pub(crate) fn invalid_pair(first: u8, second: u8, index: usize) -> FromHexError
+    requires { index < usize.MAX }
+    ensures first { (IsDigit first → ⊥) → result ≡ InvalidHexCharacter first index }
+    ensures second { IsDigit first → result ≡ InvalidHexCharacter second (index + 1) }
+{
+    if value_at(first) == NIL {
+        return invalid_character(first, index);
+    }
+    invalid_character(second, index + 1)
 }
 
 /// The error that names a byte and its position.

@@ -4,7 +4,7 @@ ghost use Rattle.std.specs.Prelude.{◌↔◌, Result, Ok, IsTrue};
 ghost use Rattle.const_hex.specs.Prelude.{AllDigits, ChecksText, FromHexError};
 
 use crate::codec::body::{
-    find_first_bad, find_invalid_character, invalid_character, strip_even, strip_prefix,
+    are_digits, find_first_bad, find_invalid_character, invalid_pair, strip_even, strip_prefix,
 };
 use crate::error::FromHexError;
 use const_hex_arch::{FixedKernel, Kernel};
@@ -54,20 +54,21 @@ pub fn check_with<K: Kernel>(input: &[u8]) -> Result<(), FromHexError>
 /// assert_eq!(rt; const_hex::const_check(b"0xzz"), Err(error));
 /// ```
 #[inline]
+#[tactic(auto, using(std::proofs::lemmas::Grind::common_steps))]
 pub fn const_check(input: &[u8]) -> Result<(), FromHexError>
     ensures { ChecksText input.now result }
 {
     if input.len() % 2 != 0 {
         return Err(FromHexError::OddLength);
     }
-    let body = strip_prefix(input);
-    // Not by `const_check_raw` and `find_invalid_character`, which would look for the character twice: by
-    // rustc 1.95 for x86-64, 90 instructions in place of 42 for an invalid byte, and 38 in place of 34 for a valid one.
-    let (byte, index) = find_first_bad(body);
-    if index == body.len() {
-        return Ok(());
+    let mut rest = strip_prefix(input);
+    'pairs: while let [first, second, after @ ..] = rest {
+        if !are_digits(*first, *second) {
+            return Err(invalid_pair(*first, *second, input.len() - rest.len()));
+        }
+        rest = after;
     }
-    Err(invalid_character(byte, index + (input.len() - body.len())))
+    Ok(())
 }
 
 /// Whether every byte is a digit. No prefix is allowed, and the length does not matter. Does not

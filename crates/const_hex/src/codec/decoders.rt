@@ -4,7 +4,7 @@ ghost use Rattle.std.specs.Prelude.{◌≡◌, ◌*◌, false, length, IsTrue, O
 ghost use Rattle.const_hex.specs.Prelude.{body_of, ReadsSized, all_digits, DecodesToSlice, DecodesToFront, DecodesToArray};
 
 use crate::codec::body::{
-    are_digits, decode_body, find_invalid_character, strip_even, strip_prefix,
+    are_digits, decode_body, find_invalid_character, invalid_pair, strip_even, strip_prefix,
 };
 use crate::error::FromHexError;
 use const_hex_arch::{FixedKernel, Kernel, value_at};
@@ -166,7 +166,8 @@ pub fn const_decode_to_array<const N: usize>(input: &[u8]) -> Result<[u8; N], Fr
     'pairs: while index < N {
         let (first, second) = (body[2 * index], body[2 * index + 1]);
         if !are_digits(first, second) {
-            return Err(find_invalid_character(input, body));
+            let prefix = input.len() - body.len();
+            return Err(invalid_pair(first, second, prefix + 2 * index));
         }
         bytes[index] = value_at(first) * 16 + value_at(second);
         index += 1;

@@ -44,7 +44,7 @@ pub(crate) const fn are_digits(first: u8, second: u8) -> bool {
 /// The error that names the first byte of a text's body that is not a digit, and its position in the
 /// whole text. The text must have an even length.
 #[inline(always)]
-pub(crate) const fn find_invalid_character(text: &[u8], body: &[u8]) -> FromHexError {
+pub(crate) fn find_invalid_character(text: &[u8], body: &[u8]) -> FromHexError {
     let (byte, index) = locate_invalid(body);
     invalid_character(byte, index + (text.len() - body.len()))
 }
@@ -53,13 +53,23 @@ pub(crate) const fn find_invalid_character(text: &[u8], body: &[u8]) -> FromHexE
 // It asks for the first byte before anything else.
 #[cold]
 #[inline(never)]
-pub(crate) const fn locate_invalid(text: &[u8]) -> (u8, usize) {
+pub(crate) fn locate_invalid(text: &[u8]) -> (u8, usize) {
     if let [first, ..] = text {
         if value_at(*first) == NIL {
             return (*first, 0);
         }
     }
     find_first_bad(text)
+}
+
+/// The error that names the first byte of a pair that is not a digit. The pair, which stands at the
+/// index, must have one.
+#[inline(always)]
+pub(crate) const fn invalid_pair(first: u8, second: u8, index: usize) -> FromHexError {
+    if value_at(first) == NIL {
+        return invalid_character(first, index);
+    }
+    invalid_character(second, index + 1)
 }
 
 /// The error that names a byte and its position.

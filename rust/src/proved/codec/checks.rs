@@ -3,7 +3,7 @@
 
 use crate::std_shim::prelude::*;
 use crate::proved::codec::body::{
-    find_first_bad, find_invalid_character, invalid_character, strip_even, strip_prefix,
+    are_digits, find_first_bad, find_invalid_character, invalid_pair, strip_even, strip_prefix,
 };
 use crate::proved::error::FromHexError;
 use crate::proved::{FixedKernel, Kernel};
@@ -38,14 +38,14 @@ pub const fn const_check(input: &[u8]) -> Result<(), FromHexError> {
     if input.len() % 2 != 0 {
         return Err(FromHexError::OddLength);
     }
-    let body = strip_prefix(input);
-    // Not by `const_check_raw` and `find_invalid_character`, which would look for the character twice: by
-    // rustc 1.95 for x86-64, 90 instructions in place of 42 for an invalid byte, and 38 in place of 34 for a valid one.
-    let (byte, index) = find_first_bad(body);
-    if index == body.len() {
-        return Ok(());
+    let mut rest = strip_prefix(input);
+    'pairs: while let [first, second, after @ ..] = rest {
+        if !are_digits(*first, *second) {
+            return Err(invalid_pair(*first, *second, input.len() - rest.len()));
+        }
+        rest = after;
     }
-    Err(invalid_character(byte, index + (input.len() - body.len())))
+    Ok(())
 }
 
 /// Whether every byte is a digit. No prefix is allowed, and the length does not matter. Does not

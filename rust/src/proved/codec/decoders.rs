@@ -3,7 +3,7 @@
 
 use crate::std_shim::prelude::*;
 use crate::proved::codec::body::{
-    are_digits, decode_body, find_invalid_character, strip_even, strip_prefix,
+    are_digits, decode_body, find_invalid_character, invalid_pair, strip_even, strip_prefix,
 };
 use crate::proved::error::FromHexError;
 use crate::proved::{FixedKernel, Kernel, value_at};
@@ -118,7 +118,8 @@ pub const fn const_decode_to_array<const N: usize>(input: &[u8]) -> Result<[u8; 
     'pairs: while index < N {
         let (first, second) = (body[2 * index], body[2 * index + 1]);
         if !are_digits(first, second) {
-            return Err(find_invalid_character(input, body));
+            let prefix = input.len() - body.len();
+            return Err(invalid_pair(first, second, prefix + 2 * index));
         }
         bytes[index] = value_at(first) * 16 + value_at(second);
         index += 1;

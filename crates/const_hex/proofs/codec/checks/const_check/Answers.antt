@@ -1,18 +1,50 @@
-use Rattle.std.proofs.Common.{Ok, refl, arith}
+use Rattle.std.proofs.Common.{◌≡◌, ◌+◌, ◌-◌, ℕ, List, length, drop, Ok, ◌∙◌, refl, arith, length-drop, get_or, get_or-drop, drop-drop, take_all}
+use Rattle.const_hex.specs.Prelude.{body_of, body-parity}
+use Rattle.const_hex.proofs.lemmas.Decoding.{body-shorter}
 use Rattle.const_hex.proofs.lemmas.Reading.{Reads-digits, ChecksText-from_Checks}
+use Rattle.const_hex.proofs.lemmas.Searching.{bad_pair, two_more}
 use Rattle.const_hex.proofs.codec.checks.const_check.Goals as goal
 
-pub returns-then-index-body : goal.returns-then-index-body
-returns-then-index-body c =
-    ChecksText-from_Checks c.args.input.now (Ok tt)
-    (Reads-digits c.args.input.now (omega (arith, c.if-input-ne0.false))
-    (rw (← c.strip_prefix-body.ensures.body) (c.find_first_bad-byte.ensures.all.0 c.if-index-body.true)))
+-- how many bytes are left
+left : (i : ℕ) (u rest : List ℕ) → rest ≡ drop i u → length rest ≡ length u - i
+left i u rest e = rw e (length-drop i u)
+
+-- a byte of them
+byte : (i j k : ℕ) (u rest : List ℕ) → rest ≡ drop i u → k ≡ i + j → get_or rest j 0 ≡ get_or u k 0
+byte i j k u rest e at = rw (e, at) (get_or-drop i u j 0)
+
+pub returns-then-not-are_digits : goal.returns-then-not-are_digits
+returns-then-not-are_digits c =
+    let t = c.args.input.now in
+    let (i, rest, within, done, even) = c.pairs.invariant in
+    let size = left i _ _ rest in
+    let two = c.in-len2-up.len_at_least in
+    let at : length t - length c.pairs.rest.now ≡ i + (length t - length (body_of t)) = omega (arith, size, within, body-shorter t) in
+    let first = byte i 0 i _ _ rest (omega arith) in
+    let second = byte i 1 (i + 1) _ _ rest refl in
+    ChecksText-from_Checks t _
+    (bad_pair t i _ c.invalid_pair.result (omega (arith, c.if-input-ne0.false)) (omega (arith, size, two)) done at
+    (rw (← first, ← second) (λ both. absurd (cc (c.are_digits.ensures.1 both, c.if-not-are_digits.true))))
+    (rw (← first) c.invalid_pair.ensures.first)
+    (rw (← first, ← second) c.invalid_pair.ensures.second))
+
+pub pairs-preserved : goal.pairs-preserved
+pairs-preserved c =
+    let (i, rest, within, done, even) = c.pairs.invariant in
+    let (first, second) = c.are_digits.ensures.0 c.if-not-are_digits.false in
+    let two = c.in-len2-up.len_at_least in
+    let size = left i _ _ rest in
+    let after = take_all (length c.pairs.rest.now - 2) (drop 2 c.pairs.rest.now) (omega (arith, length-drop 2 c.pairs.rest.now)) in (
+      i + 2,
+      after ∙ rw (rest, drop-drop) refl,
+      omega (arith, two, size),
+      two_more (body_of c.args.input.now) i (i + 1) (i + 2) (omega (arith, two, size)) refl (omega arith) (rw (byte i 0 i _ _ rest (omega arith)) at first) (rw (byte i 1 (i + 1) _ _ rest refl) at second) done,
+      rw after (omega (arith, even, two, length-drop 2 c.pairs.rest.now)),
+    )
 
 pub returns : goal.returns
 returns c =
-    let found = c.find_first_bad-byte in
-    let body = c.strip_prefix-body.ensures.body in
-    let bad = found.ensures.bad (λ a. c.if-index-body.false (found.ensures.all.1 a)) in
-    ChecksText-from_Checks c.args.input.now _
-    (rw (c.invalid_character.ensures, ← body)
-    (omega (arith, c.if-input-ne0.false), (found.result.1, bad, found.ensures.byte, refl)))
+    let (i, rest, within, done, even) = c.pairs.invariant in
+    let all = take_all i (body_of c.args.input.now) (omega (arith, even, left i _ _ rest, c.in_default.len_below)) in
+    ChecksText-from_Checks c.args.input.now (Ok tt)
+    (Reads-digits c.args.input.now (omega (arith, c.if-input-ne0.false)) (rw all at done))
