@@ -63,9 +63,6 @@ impl Kernel for Interleaved {
         if !steps::decode_step::<16, Interleaved>(&input[..32], false, &mut output[..16]) {
             return false;
         }
-        if output.len() < 64 {
-            return loops::decode_from::<16, false, Interleaved, Interleaved>(input, output, 16);
-        }
         loops::decode_from::<32, false, Interleaved, Interleaved>(input, output, 16)
     }
 

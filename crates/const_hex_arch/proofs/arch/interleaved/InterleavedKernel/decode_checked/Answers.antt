@@ -1,4 +1,4 @@
-use Rattle.std.proofs.Common.{◌≡◌, ◌<◌, ℕ, List, ◌++◌, length, take, drop, refl, sym, subst, ◌∙◌, arith, length-append}
+use Rattle.std.proofs.Common.{◌≡◌, ◌++◌, length, take, drop, refl, sym, subst, ◌∙◌, arith, length-append}
 use Rattle.std.proofs.lemmas.Bool.{false≢true}
 use Rattle.std.proofs.lemmas.List.{length-take-le, length-drop, take-append-drop}
 use Rattle.std.proofs.Math.Seq.{take-append_seam}
@@ -22,33 +22,18 @@ returns-then-not-decode_step-clause-refused c = λ _.
     rw (is.unchanged refl, take-append-drop 16 c.args.output.now)
     (none_decoded _ _ (λ d. false≢true (is.digits.1 ((digits_parts 32 c.args.input.now).0 d).0)))
 
--- the first 16 bytes, in the place of others
-seam : (first rest : List ℕ) → length first ≡ 16 → take 16 (first ++ rest) ≡ first
-seam first rest long = subst (λ n. take n (first ++ rest) ≡ first) long (take-append_seam first rest)
-
-same_length : (old first : List ℕ) → 16 < length old → length first ≡ 16 → length old ≡ length (first ++ drop 16 old)
-same_length old first most long = omega (arith, length-append first (drop 16 old), length-drop 16 old)
-
 pub decode_from-requires-clause-front : goal.decode_from-requires-clause-front
 decode_from-requires-clause-front c =
-    let long = c.decode_step.auto.output ∙ length-take-le 16 c.args.output.now (omega arith) in
-    rw (seam c.decode_step.new.output (drop 16 c.args.output.now) long) (c.if-not-decode_step.ensures.spells refl)
-
-pub decode_from-requires-2-clause-front : goal.decode_from-requires-2-clause-front
-decode_from-requires-2-clause-front c =
-    let long = c.decode_step.auto.output ∙ length-take-le 16 c.args.output.now (omega arith) in
-    rw (seam c.decode_step.new.output (drop 16 c.args.output.now) long) (c.if-not-decode_step.ensures.spells refl)
-
-pub returns-then-output-lt64-clause-refused : goal.returns-then-output-lt64-clause-refused
-returns-then-output-lt64-clause-refused c = λ f.
-    let old = c.args.output.now in
-    let long = c.decode_step.auto.output ∙ length-take-le 16 old (omega arith) in
-    c.decode_from.ensures.refused f old (same_length old _ c.if-output-le16.false long)
-    (sym (drop-append-drop 16 old c.decode_step.new.output 16 (omega arith) long))
+    let first = c.decode_step.new.output in
+    let long : length first ≡ 16 = c.decode_step.auto.output ∙ length-take-le 16 c.args.output.now (omega arith) in
+    let same : take 16 (first ++ drop 16 c.args.output.now) ≡ first =
+    subst (λ n. take n (first ++ drop 16 c.args.output.now) ≡ first) long (take-append_seam first _) in
+    rw same (c.if-not-decode_step.ensures.spells refl)
 
 pub returns-clause-refused : goal.returns-clause-refused
 returns-clause-refused c = λ f.
+    let first = c.decode_step.new.output in
     let old = c.args.output.now in
-    let long = c.decode_step.auto.output ∙ length-take-le 16 old (omega arith) in
-    c.decode_from-2.ensures.refused f old (same_length old _ c.if-output-le16.false long)
-    (sym (drop-append-drop 16 old c.decode_step.new.output 16 (omega arith) long))
+    let long : length first ≡ 16 = c.decode_step.auto.output ∙ length-take-le 16 old (omega arith) in
+    c.decode_from.ensures.refused f old (omega (arith, long, length-append first (drop 16 old), length-drop 16 old))
+    (sym (drop-append-drop 16 old first 16 (omega arith) long))
