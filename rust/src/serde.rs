@@ -190,8 +190,7 @@ impl<T, E: fmt::Display, F: Fn(&[u8]) -> Result<T, E>> Visitor<'_> for Text<F> {
         f.write_str("a hex encoded string")
     }
 
-    // Inlined with the function and all that it calls, which saves up to 25 instructions (rustc 1.95, x86-64). It is no
-    // `FnOnce`, since LLVM would not inline the shim by which that is called.
+    // All is inlined for up to 25 instructions fewer (rustc 1.95, x86-64). A shim for `FnOnce` would not be.
     #[inline(always)]
     fn visit_str<M: Error>(self, text: &str) -> Result<T, M> {
         self.visit_bytes(text.as_bytes())
