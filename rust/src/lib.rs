@@ -301,12 +301,22 @@ pub fn decode_to_array<T: AsRef<[u8]>, const N: usize>(input: T) -> Result<[u8; 
     let text = input.as_ref();
     let digits = strip_even(text)?;
     if digits.len() != N << 1 {
-        return Err(FromHexError::InvalidStringLength);
+        return wrong_length();
     }
     match kernel::Space::new().bytes(digits) {
         Some(bytes) => Ok(*bytes),
         None => Err(find_invalid_character(text, digits)),
     }
+}
+
+/// Returns the error for a text of another length.
+// Not inlined for AArch64, where LLVM would otherwise keep the result in registers, and copy an array in parts: of 32
+// bytes with 12 instructions in place of 5 (rustc 1.96).
+#[cold]
+#[cfg_attr(target_arch = "aarch64", inline(never))]
+#[cfg_attr(not(target_arch = "aarch64"), inline(always))]
+fn wrong_length<const N: usize>() -> Result<[u8; N], FromHexError> {
+    Err(FromHexError::InvalidStringLength)
 }
 
 /// Returns `Ok` if a text can be decoded, or else [`FromHexError::OddLength`] or
