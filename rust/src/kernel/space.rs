@@ -2,7 +2,7 @@
 
 use super::{unchecked, Native};
 use crate::proved::{text_length, Kernel};
-use core::{hint, mem::MaybeUninit, ptr};
+use core::{mem::MaybeUninit, ptr};
 
 /// Space for `N` bytes.
 pub struct Space<const N: usize>(MaybeUninit<[u8; N]>);
@@ -33,11 +33,11 @@ impl<const N: usize> Space<N> {
     #[inline]
     pub fn bytes(&mut self, digits: &[u8]) -> Option<&[u8; N]> {
         assert!(digits.len() == N << 1);
-        // LLVM would unroll the loop for so few bytes, and write them all at the end: for 16 bytes 252 instructions in
-        // place of 241, and 84 in place of 55 if the first digit is invalid (rustc 1.95, x86-64).
-        let count = if N > 4 && N < 32 && Native::PIECE == 1 { hint::black_box(N) } else { N };
-        // SAFETY: there are so many digits, and if the result is true, all bytes are written.
+        // SAFETY: the count is `N`. There are so many digits, and if the result is true, all bytes are written.
         unsafe {
+            // LLVM would unroll the loop for so few bytes, and write them all at the end: for 16 bytes 252 instructions
+            // in place of 241, and 84 in place of 55 if the first digit is invalid (rustc 1.95, x86-64).
+            let count = if N > 4 && N < 32 && Native::PIECE == 1 { ptr::read_volatile(&N) } else { N };
             match unchecked::read(digits.as_ptr(), self.0.as_mut_ptr().cast(), count) {
                 true => Some(&*self.0.as_ptr()),
                 false => None,

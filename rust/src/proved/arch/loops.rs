@@ -26,9 +26,9 @@ pub(crate) fn fill_in_steps<const N: usize, V: LaneOps<N>, S: LaneOps<16>>(
     }
     if input.len() < 2 * N {
         if input.len() < N {
-            small_input::fill_overlapping::<16, S>(input, upper, output);
+            small_input::fill_overlapping::<16, 16, S, S>(input, upper, output);
         } else {
-            small_input::fill_overlapping::<N, V>(input, upper, output);
+            small_input::fill_overlapping::<N, N, V, V>(input, upper, output);
         }
         return;
     }
@@ -96,12 +96,8 @@ fn check_remainder<const N: usize, V: LaneOps<N>>(input: &[u8], at: usize) -> bo
 }
 
 /// Decodes the input and returns true. Returns false if some character is invalid; then the front
-/// of the output may already be decoded. Two steps share one test. A step with an invalid character
-/// writes nothing. After the steps of `N` lanes, one of 16 is decoded if more than 16 bytes are left. The last
-/// 16 bytes of the output cover the remainder, some of them again; but without `FRONT` one byte after the steps
-/// of `N` lanes is decoded alone. Less than 16 bytes, and without `FRONT` also 16, are a remainder as a whole.
-/// With `FRONT` a valid first one of two steps is decoded if their test fails, and of a remainder of less than 16
-/// bytes the pairs before an invalid character. Without it the call ends there.
+/// of the output may already be decoded. Less than 16 bytes, and without `FRONT` also 16, are decoded as a whole, and
+/// others by `decode_from`. With `FRONT` the pairs before an invalid character in less than 16 bytes are decoded.
 #[inline(always)]
 pub(crate) fn decode_in_steps<
     const N: usize,
@@ -116,7 +112,22 @@ pub(crate) fn decode_in_steps<
         return small_input::decode_small::<S>(input, output)
             || (FRONT && small_input::decode_pairs(input, output));
     }
-    let mut at = 0;
+    decode_from::<N, FRONT, V, S>(input, output, 0)
+}
+
+/// As `decode_in_steps`, for at least 16 bytes, of which the first `start` are decoded. Two steps share one test. A step
+/// with an invalid character writes nothing. After the steps of `N` lanes, one of 16 is decoded if more than 16 bytes
+/// are left. The last 16 bytes of the output cover the remainder, some of them again; but without `FRONT` one byte after
+/// the steps of `N` lanes is decoded alone. With `FRONT` a valid first one of two steps is decoded if their test fails,
+/// and of a remainder of less than 16 bytes the pairs before an invalid character. Without it the call ends there.
+#[inline(always)]
+pub(crate) fn decode_from<
+    const N: usize,
+    const FRONT: bool,
+    V: LaneOps<N>,
+    S: LaneOps<16> + PairOps,
+>(input: &[u8], output: &mut [u8], start: usize) -> bool {
+    let mut at = start;
     while output.len() - at >= 2 * N {
         let end = at + 2 * N;
         let second_row = lanes16::second_row_for(output.len());

@@ -22,28 +22,14 @@ pub(crate) fn fill<S: LaneOps<16>>(bytes: &[u8], upper: bool, output: &mut [u8])
     }
 }
 
-/// As `fill`, for one to two steps: the first one, and the last one. `V` has the `N` lanes of a step.
+/// As `fill`, for one to two steps: the first one, and then the last `M` bytes, if those have the rest, or else the
+/// last step. `V` has the `N` lanes of a step, and `H` has `M` lanes.
 #[inline(always)]
-pub(crate) fn fill_overlapping<const N: usize, V: LaneOps<N>>(
+pub(crate) fn fill_overlapping<const N: usize, const M: usize, V: LaneOps<N>, H: LaneOps<M>>(
     bytes: &[u8],
     upper: bool,
     output: &mut [u8],
 ) {
-    steps::fill_step::<N, V>(&bytes[..N], upper, upper, &mut output[..2 * N]);
-    if bytes.len() > N {
-        let start = bytes.len() - N;
-        steps::fill_step::<N, V>(&bytes[start..], upper, upper, &mut output[2 * start..]);
-    }
-}
-
-/// As `fill_overlapping`, but after the first step only the last `M` bytes, if those have the rest.
-#[inline(always)]
-pub(crate) fn fill_overlapping_by_halves<
-    const N: usize,
-    const M: usize,
-    V: LaneOps<N>,
-    H: LaneOps<M>,
->(bytes: &[u8], upper: bool, output: &mut [u8]) {
     steps::fill_step::<N, V>(&bytes[..N], upper, upper, &mut output[..2 * N]);
     if bytes.len() > N {
         if bytes.len() > N + M {
