@@ -104,8 +104,9 @@ class Hint:
         """How many rounds a register allows that counts down, or how many a comparison of two terms."""
         guarded = {name for fact in self.facts for name in names(fact)}
         for name, step in self.steps.items():
-            if step < 0 and self.added[name].decl().name() in guarded and not entry.general[name].eq(word(0)):
-                return simple(z3.UDiv(entry.general[name], word(-step)))
+            first, is_guarded = entry.general[name], self.added[name].decl().name() in guarded
+            if step < 0 and is_guarded and not z3.is_true(simple(first <= 0)):
+                return simple(z3.UDiv(first, word(-step)))
         for one, other in [pair for fact in self.facts for pair in _compared(fact)]:
             first, second = [simple(self._at(one - other, word(k))) for k in (-1, 0)]
             step = simple(second - first)
