@@ -101,12 +101,12 @@ class Hint:
         return self._at(self.first_written, k)
 
     def bound(self, entry):
-        """How many rounds a register allows that counts down, or how many a comparison of two terms."""
+        """How many rounds a register allows that counts down from more than 0, or a comparison of two terms."""
         guarded = {name for fact in self.facts for name in names(fact)}
         for name, step in self.steps.items():
-            first, is_guarded = entry.general[name], self.added[name].decl().name() in guarded
-            if step < 0 and is_guarded and not z3.is_true(simple(first <= 0)):
-                return simple(z3.UDiv(first, word(-step)))
+            begin, is_guarded = entry.general[name], self.added[name].decl().name() in guarded
+            if step < 0 and is_guarded and not z3.is_true(simple(begin <= 0)):
+                return simple(z3.UDiv(begin, word(-step)))
         for one, other in [pair for fact in self.facts for pair in _compared(fact)]:
             first, second = [simple(self._at(one - other, word(k))) for k in (-1, 0)]
             step = simple(second - first)

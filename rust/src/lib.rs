@@ -84,6 +84,8 @@ pub use crate::traits::ToHexExt;
 pub use crate::traits::{FromHex, ToHex};
 
 use crate::proved::codec::body::{find_invalid_character, strip_even};
+#[cfg(feature = "alloc")]
+use crate::proved::codec::body::{invalid_character, locate_invalid};
 use crate::proved::codec::encoders::encode_full_to_slice;
 use crate::proved::codec::{checks, decoders};
 #[cfg(feature = "alloc")]
@@ -208,7 +210,7 @@ fn text_in<'a>(data: &[u8], prefix: bool, upper: bool, output: &'a mut [u8]) -> 
 /// assert_eq!(decode("6b697769"), Ok(b"kiwi".to_vec()));
 /// assert_eq!(decode("6b69776"), Err(FromHexError::OddLength));
 /// ```
-// Not by `decode_append`, which would take 37 instructions more (rustc 1.95, x86-64).
+// Not by `decode_append`, which takes up to 35 instructions more (rustc 1.95, x86-64).
 #[cfg(feature = "alloc")]
 #[inline(always)]
 pub fn decode<T: AsRef<[u8]>>(data: T) -> Result<Vec<u8>, FromHexError> {
@@ -218,19 +220,19 @@ pub fn decode<T: AsRef<[u8]>>(data: T) -> Result<Vec<u8>, FromHexError> {
     match kernel::decode_append(digits, &mut bytes) {
         true => Ok(bytes),
         false => {
-            let (byte, index) = locate_refused(digits, bytes);
-            Err(FromHexError::InvalidHexCharacter { c: byte.into(), index: index + (text.len() - digits.len()) })
+            let (byte, index) = drop_and_locate(digits, bytes);
+            Err(invalid_character(byte, index + (text.len() - digits.len())))
         }
     }
 }
 
-/// Returns the first invalid digit and its index, and drops the vector for what the digits decode to.
+/// Returns the first byte that is not a digit, and its index, and drops the vector for what the digits decode to.
 // A function of its own, so that less code is inlined for a valid text.
 #[cfg(feature = "alloc")]
 #[cold]
-fn locate_refused(digits: &[u8], bytes: Vec<u8>) -> (u8, usize) {
+fn drop_and_locate(digits: &[u8], bytes: Vec<u8>) -> (u8, usize) {
     drop(bytes);
-    crate::proved::codec::body::locate_invalid(digits)
+    locate_invalid(digits)
 }
 
 /// Appends the bytes that a text decodes to to a vector, and returns their number, or the errors of [`check`].

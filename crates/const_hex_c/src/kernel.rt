@@ -2,7 +2,7 @@
 //! these functions.
 //!
 //! `c/asm/freeze` writes what `rt` makes of `fill`, `check` and `read`, for AArch64 of `interleaved_fill`,
-//! `check` and `interleaved_read`. They require that the lengths fit, which
+//! `check` and `interleaved_read`, where it changes the stores of a loop. They require that the lengths fit, which
 //! their callers make sure of, and which registers hold their arguments is left to the compiler:
 //! `machine_code` proves their code with the arguments where `rust/src/kernel/machine_code.rs` passes them.
 

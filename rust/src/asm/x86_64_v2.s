@@ -616,8 +616,8 @@
 /* const_hex_c::kernel::read */
 	hidden const_hex_1_0_0_read_v2
 	function const_hex_1_0_0_read_v2
-	cmp    rdx,0x11
-	jae    2f
+	cmp    rdx,0x10
+	ja     2f
 	cmp    rdx,0x1
 	jne    5f
 	movzx  eax,WORD PTR [rdi]
@@ -630,8 +630,13 @@
 	psubb  xmm2,xmm0
 	movd   eax,xmm2
 	test   eax,0xd8d8
-	je     13f
-	xor    eax,eax
+	jne    16f
+	movd   eax,xmm0
+	pextrb ecx,xmm0,0x1
+	shl    al,0x4
+	or     al,cl
+	mov    BYTE PTR [rsi],al
+	mov    al,0x1
 	ret
 2:
 	cmp    rdx,0x40
@@ -640,7 +645,7 @@
 	and    eax,0x10
 	xor    ecx,ecx
 	mov    r8,rdx
-	.byte 0x66, 0x90  /* xchg   ax,ax */
+	nop
 3:
 	movdqa xmm5,XMMWORD PTR [rip + const_hex_1_0_0_constant_1_v2]
 	movdqu xmm6,XMMWORD PTR [rdi+rcx*2]
@@ -699,7 +704,7 @@
 	por    xmm5,xmm7
 	por    xmm5,xmm13
 	ptest  xmm5,XMMWORD PTR [rip + const_hex_1_0_0_constant_3_v2]
-	jne    17f
+	jne    16f
 	lea    r9,[rip + const_hex_1_0_0_constant_4_v2]
 	movdqu xmm5,XMMWORD PTR [rax+r9*1]
 	pmullw xmm0,xmm5
@@ -765,7 +770,7 @@
 	por    xmm2,xmm6
 	por    xmm2,xmm5
 	ptest  xmm2,XMMWORD PTR [rip + const_hex_1_0_0_constant_3_v2]
-	jne    17f
+	jne    16f
 	movdqa xmm2,xmm3
 	psllw  xmm2,0xc
 	paddw  xmm2,xmm3
@@ -809,8 +814,19 @@
 	psubb  xmm4,xmm0
 	por    xmm4,xmm2
 	ptest  xmm4,XMMWORD PTR [rip + const_hex_1_0_0_constant_3_v2]
-	je     18f
-	xor    eax,eax
+	jne    16f
+	movdqa xmm2,xmm1
+	psllw  xmm2,0xc
+	paddw  xmm2,xmm1
+	movdqa xmm1,xmm0
+	psllw  xmm1,0xc
+	paddw  xmm1,xmm0
+	psrlw  xmm1,0x8
+	psrlw  xmm2,0x8
+	packuswb xmm2,xmm1
+	movq   QWORD PTR [rsi],xmm2
+	pextrq QWORD PTR [rsi+rdx*1-0x8],xmm2,0x1
+	mov    al,0x1
 	ret
 6:
 	xor    ecx,ecx
@@ -826,7 +842,7 @@
 	ret
 9:
 	cmp    r8,0x11
-	jb     14f
+	jb     13f
 	movdqu xmm2,XMMWORD PTR [rdi+rcx*2]
 	movdqu xmm3,XMMWORD PTR [rdi+rcx*2+0x10]
 	movdqa xmm4,XMMWORD PTR [rip + const_hex_1_0_0_constant_1_v2]
@@ -842,7 +858,7 @@
 	psubb  xmm4,xmm0
 	por    xmm4,xmm2
 	ptest  xmm4,XMMWORD PTR [rip + const_hex_1_0_0_constant_3_v2]
-	jne    17f
+	jne    16f
 	movdqa xmm2,xmm1
 	psllw  xmm2,0xc
 	paddw  xmm2,xmm1
@@ -853,10 +869,10 @@
 	psrlw  xmm2,0x8
 	packuswb xmm2,xmm1
 	movdqu XMMWORD PTR [rsi+rcx*1],xmm2
-	jmp    16f
+	jmp    15f
 12:
 	cmp    rdx,0x4
-	jb     15f
+	jb     14f
 	movq   xmm0,QWORD PTR [rdi+rdx*2-0x8]
 	movq   xmm1,QWORD PTR [rdi]
 	punpcklqdq xmm1,xmm0
@@ -867,20 +883,19 @@
 	pminub xmm0,xmm2
 	psubb  xmm2,xmm0
 	ptest  xmm2,XMMWORD PTR [rip + const_hex_1_0_0_constant_3_v2]
-	je     19f
-	xor    eax,eax
-	ret
-13:
-	movd   eax,xmm0
-	pextrb ecx,xmm0,0x1
-	shl    al,0x4
-	or     al,cl
-	mov    BYTE PTR [rsi],al
+	jne    16f
+	movdqa xmm1,xmm0
+	psllw  xmm1,0xc
+	paddw  xmm1,xmm0
+	psrlw  xmm1,0x8
+	packuswb xmm1,xmm1
+	movd   DWORD PTR [rsi],xmm1
+	pextrd DWORD PTR [rsi+rdx*1-0x4],xmm1,0x1
 	mov    al,0x1
 	ret
-14:
+13:
 	cmp    r8,0x1
-	jne    16f
+	jne    15f
 	movzx  edx,WORD PTR [rdi+rcx*2]
 	movd   xmm1,edx
 	movdqa xmm2,XMMWORD PTR [rip + const_hex_1_0_0_constant_1_v2]
@@ -891,14 +906,14 @@
 	psubb  xmm2,xmm0
 	movd   edx,xmm2
 	test   edx,0xd8d8
-	jne    17f
+	jne    16f
 	pextrb edx,xmm0,0x1
 	movd   edi,xmm0
 	shl    dil,0x4
 	or     dil,dl
 	mov    BYTE PTR [rsi+rcx*1],dil
 	ret
-15:
+14:
 	mov    al,0x1
 	test   rdx,rdx
 	je     8b
@@ -914,10 +929,17 @@
 	pminub xmm0,xmm2
 	psubb  xmm2,xmm0
 	ptest  xmm2,XMMWORD PTR [rip + const_hex_1_0_0_constant_3_v2]
-	je     21f
-	xor    eax,eax
+	jne    16f
+	movdqa xmm1,xmm0
+	psllw  xmm1,0xc
+	paddw  xmm1,xmm0
+	pxor   xmm0,xmm0
+	psrlw  xmm1,0x8
+	packuswb xmm1,xmm0
+	pextrw WORD PTR [rsi],xmm1,0x0
+	pextrw WORD PTR [rsi+rdx*1-0x2],xmm1,0x1
 	ret
-16:
+15:
 	movdqu xmm2,XMMWORD PTR [rdi+rdx*2-0x20]
 	movdqu xmm3,XMMWORD PTR [rdi+rdx*2-0x10]
 	movdqa xmm4,XMMWORD PTR [rip + const_hex_1_0_0_constant_1_v2]
@@ -933,35 +955,11 @@
 	psubb  xmm4,xmm0
 	por    xmm4,xmm2
 	ptest  xmm4,XMMWORD PTR [rip + const_hex_1_0_0_constant_3_v2]
-	je     20f
-17:
+	je     17f
+16:
 	xor    eax,eax
 	ret
-18:
-	movdqa xmm2,xmm1
-	psllw  xmm2,0xc
-	paddw  xmm2,xmm1
-	movdqa xmm1,xmm0
-	psllw  xmm1,0xc
-	paddw  xmm1,xmm0
-	psrlw  xmm1,0x8
-	psrlw  xmm2,0x8
-	packuswb xmm2,xmm1
-	movq   QWORD PTR [rsi],xmm2
-	pextrq QWORD PTR [rsi+rdx*1-0x8],xmm2,0x1
-	mov    al,0x1
-	ret
-19:
-	movdqa xmm1,xmm0
-	psllw  xmm1,0xc
-	paddw  xmm1,xmm0
-	psrlw  xmm1,0x8
-	packuswb xmm1,xmm1
-	movd   DWORD PTR [rsi],xmm1
-	pextrd DWORD PTR [rsi+rdx*1-0x4],xmm1,0x1
-	mov    al,0x1
-	ret
-20:
+17:
 	movdqa xmm2,xmm1
 	psllw  xmm2,0xc
 	paddw  xmm2,xmm1
@@ -972,16 +970,6 @@
 	psrlw  xmm2,0x8
 	packuswb xmm2,xmm1
 	movdqu XMMWORD PTR [rsi+rdx*1-0x10],xmm2
-	ret
-21:
-	movdqa xmm1,xmm0
-	psllw  xmm1,0xc
-	paddw  xmm1,xmm0
-	pxor   xmm0,xmm0
-	psrlw  xmm1,0x8
-	packuswb xmm1,xmm0
-	pextrw WORD PTR [rsi],xmm1,0x0
-	pextrw WORD PTR [rsi+rdx*1-0x2],xmm1,0x1
 	ret
 	end const_hex_1_0_0_read_v2
 

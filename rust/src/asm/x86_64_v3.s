@@ -410,8 +410,8 @@
 /* const_hex_c::kernel::read */
 	hidden const_hex_1_0_0_read_v3
 	function const_hex_1_0_0_read_v3
-	cmp    rdx,0x11
-	jae    2f
+	cmp    rdx,0x10
+	ja     2f
 	cmp    rdx,0x1
 	jne    5f
 	movzx  eax,WORD PTR [rdi]
@@ -423,8 +423,13 @@
 	vpsubb xmm1,xmm1,xmm0
 	vmovd  eax,xmm1
 	test   eax,0xd8d8
-	je     13f
-	xor    eax,eax
+	jne    16f
+	vmovd  eax,xmm0
+	vpextrb ecx,xmm0,0x1
+	shl    al,0x4
+	or     al,cl
+	mov    BYTE PTR [rsi],al
+	mov    al,0x1
 	ret
 2:
 	cmp    rdx,0x40
@@ -433,7 +438,7 @@
 	and    eax,0x10
 	xor    ecx,ecx
 	mov    r8,rdx
-	.byte 0x66, 0xf, 0x1f, 0x44, 0x0, 0x0  /* nop    WORD PTR [rax+rax*1+0x0] */
+	.byte 0xf, 0x1f, 0x44, 0x0, 0x0  /* nop    DWORD PTR [rax+rax*1+0x0] */
 3:
 	vpbroadcastd ymm3,DWORD PTR [rip + const_hex_1_0_0_constant_6_v3]
 	vmovdqu ymm0,YMMWORD PTR [rdi+rcx*2]
@@ -462,7 +467,7 @@
 	vpor   ymm4,ymm5,ymm4
 	vpbroadcastq ymm5,QWORD PTR [rip + const_hex_1_0_0_constant_3_v3]
 	vptest ymm4,ymm5
-	jne    17f
+	jne    16f
 	lea    r9,[rip + const_hex_1_0_0_constant_7_v3]
 	vbroadcasti128 ymm4,XMMWORD PTR [rax+r9*1]
 	vpmullw ymm0,ymm4,ymm0
@@ -504,7 +509,7 @@
 	vpor   ymm2,ymm2,ymm3
 	vpbroadcastq ymm3,QWORD PTR [rip + const_hex_1_0_0_constant_3_v3]
 	vptest ymm2,ymm3
-	jne    17f
+	jne    16f
 	vpsllw ymm2,ymm0,0xc
 	vpaddw ymm0,ymm0,ymm2
 	vpsllw ymm2,ymm1,0xc
@@ -536,8 +541,16 @@
 	vpsubb xmm2,xmm2,xmm1
 	vpor   xmm2,xmm2,xmm3
 	vptest xmm2,XMMWORD PTR [rip + const_hex_1_0_0_constant_5_v3]
-	je     18f
-	xor    eax,eax
+	jne    16f
+	vinserti128 ymm0,ymm0,xmm1,0x1
+	vpsllw ymm1,ymm0,0xc
+	vpaddw ymm0,ymm0,ymm1
+	vpsrlw ymm0,ymm0,0x8
+	vextracti128 xmm1,ymm0,0x1
+	vpackuswb xmm0,xmm0,xmm1
+	vmovq  QWORD PTR [rsi],xmm0
+	vpextrq QWORD PTR [rsi+rdx*1-0x8],xmm0,0x1
+	mov    al,0x1
 	vzeroupper
 	ret
 6:
@@ -555,7 +568,7 @@
 	ret
 9:
 	cmp    r8,0x11
-	jb     14f
+	jb     13f
 	vmovdqu xmm0,XMMWORD PTR [rdi+rcx*2]
 	vmovdqu xmm1,XMMWORD PTR [rdi+rcx*2+0x10]
 	vpbroadcastd xmm2,DWORD PTR [rip + const_hex_1_0_0_constant_6_v3]
@@ -570,7 +583,7 @@
 	vpsubb xmm2,xmm2,xmm1
 	vpor   xmm2,xmm2,xmm3
 	vptest xmm2,XMMWORD PTR [rip + const_hex_1_0_0_constant_5_v3]
-	jne    17f
+	jne    16f
 	vinserti128 ymm0,ymm0,xmm1,0x1
 	vpsllw ymm1,ymm0,0xc
 	vpaddw ymm0,ymm0,ymm1
@@ -578,10 +591,10 @@
 	vextracti128 xmm1,ymm0,0x1
 	vpackuswb xmm0,xmm0,xmm1
 	vmovdqu XMMWORD PTR [rsi+rcx*1],xmm0
-	jmp    16f
+	jmp    15f
 12:
 	cmp    rdx,0x4
-	jb     15f
+	jb     14f
 	vmovq  xmm0,QWORD PTR [rdi+rdx*2-0x8]
 	vmovq  xmm1,QWORD PTR [rdi]
 	vpunpcklqdq xmm0,xmm1,xmm0
@@ -591,20 +604,17 @@
 	vpminub xmm0,xmm1,xmm0
 	vpsubb xmm1,xmm1,xmm0
 	vptest xmm1,XMMWORD PTR [rip + const_hex_1_0_0_constant_5_v3]
-	je     19f
-	xor    eax,eax
-	ret
-13:
-	vmovd  eax,xmm0
-	vpextrb ecx,xmm0,0x1
-	shl    al,0x4
-	or     al,cl
-	mov    BYTE PTR [rsi],al
+	jne    16f
+	vpsllw xmm1,xmm0,0xc
+	vpaddw xmm0,xmm0,xmm1
+	vpshufb xmm0,xmm0,XMMWORD PTR [rip + const_hex_1_0_0_constant_10_v3]
+	vmovd  DWORD PTR [rsi],xmm0
+	vpextrd DWORD PTR [rsi+rdx*1-0x4],xmm0,0x1
 	mov    al,0x1
 	ret
-14:
+13:
 	cmp    r8,0x1
-	jne    16f
+	jne    15f
 	movzx  edx,WORD PTR [rdi+rcx*2]
 	vmovd  xmm0,edx
 	vpaddb xmm1,xmm0,XMMWORD PTR [rip + const_hex_1_0_0_constant_4_v3]
@@ -614,7 +624,7 @@
 	vpsubb xmm1,xmm1,xmm0
 	vmovd  edx,xmm1
 	test   edx,0xd8d8
-	jne    17f
+	jne    16f
 	vpextrb edx,xmm0,0x1
 	vmovd  edi,xmm0
 	shl    dil,0x4
@@ -622,7 +632,7 @@
 	mov    BYTE PTR [rsi+rcx*1],dil
 	vzeroupper
 	ret
-15:
+14:
 	mov    al,0x1
 	test   rdx,rdx
 	je     8b
@@ -637,11 +647,17 @@
 	vpminub xmm0,xmm1,xmm0
 	vpsubb xmm1,xmm1,xmm0
 	vptest xmm1,XMMWORD PTR [rip + const_hex_1_0_0_constant_5_v3]
-	je     21f
-	xor    eax,eax
+	jne    16f
+	vpsllw ymm1,ymm0,0xc
+	vpaddw ymm0,ymm0,ymm1
+	vpsrlw ymm0,ymm0,0x8
+	vextracti128 xmm1,ymm0,0x1
+	vpackuswb xmm0,xmm0,xmm1
+	vpextrw WORD PTR [rsi],xmm0,0x0
+	vpextrw WORD PTR [rsi+rdx*1-0x2],xmm0,0x1
 	vzeroupper
 	ret
-16:
+15:
 	vmovdqu xmm0,XMMWORD PTR [rdi+rdx*2-0x20]
 	vmovdqu xmm1,XMMWORD PTR [rdi+rdx*2-0x10]
 	vpbroadcastd xmm2,DWORD PTR [rip + const_hex_1_0_0_constant_6_v3]
@@ -656,32 +672,12 @@
 	vpsubb xmm2,xmm2,xmm1
 	vpor   xmm2,xmm2,xmm3
 	vptest xmm2,XMMWORD PTR [rip + const_hex_1_0_0_constant_5_v3]
-	je     20f
-17:
+	je     17f
+16:
 	xor    eax,eax
 	vzeroupper
 	ret
-18:
-	vinserti128 ymm0,ymm0,xmm1,0x1
-	vpsllw ymm1,ymm0,0xc
-	vpaddw ymm0,ymm0,ymm1
-	vpsrlw ymm0,ymm0,0x8
-	vextracti128 xmm1,ymm0,0x1
-	vpackuswb xmm0,xmm0,xmm1
-	vmovq  QWORD PTR [rsi],xmm0
-	vpextrq QWORD PTR [rsi+rdx*1-0x8],xmm0,0x1
-	mov    al,0x1
-	vzeroupper
-	ret
-19:
-	vpsllw xmm1,xmm0,0xc
-	vpaddw xmm0,xmm0,xmm1
-	vpshufb xmm0,xmm0,XMMWORD PTR [rip + const_hex_1_0_0_constant_10_v3]
-	vmovd  DWORD PTR [rsi],xmm0
-	vpextrd DWORD PTR [rsi+rdx*1-0x4],xmm0,0x1
-	mov    al,0x1
-	ret
-20:
+17:
 	vinserti128 ymm0,ymm0,xmm1,0x1
 	vpsllw ymm1,ymm0,0xc
 	vpaddw ymm0,ymm0,ymm1
@@ -689,16 +685,6 @@
 	vextracti128 xmm1,ymm0,0x1
 	vpackuswb xmm0,xmm0,xmm1
 	vmovdqu XMMWORD PTR [rsi+rdx*1-0x10],xmm0
-	vzeroupper
-	ret
-21:
-	vpsllw ymm1,ymm0,0xc
-	vpaddw ymm0,ymm0,ymm1
-	vpsrlw ymm0,ymm0,0x8
-	vextracti128 xmm1,ymm0,0x1
-	vpackuswb xmm0,xmm0,xmm1
-	vpextrw WORD PTR [rsi],xmm0,0x0
-	vpextrw WORD PTR [rsi+rdx*1-0x2],xmm0,0x1
 	vzeroupper
 	ret
 	end const_hex_1_0_0_read_v3

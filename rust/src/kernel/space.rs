@@ -35,8 +35,9 @@ impl<const N: usize> Space<N> {
         assert!(digits.len() == N << 1);
         // SAFETY: the count is `N`. There are so many digits, and if the result is true, all bytes are written.
         unsafe {
-            // LLVM would unroll the loop for so few bytes, and write them all at the end: for 16 bytes 252 instructions
-            // in place of 241, and 84 in place of 55 if the first digit is invalid (rustc 1.95, x86-64).
+            // In the portable build LLVM would unroll the loop for so few bytes, and write them all at the end: of a
+            // slice with 16 bytes by 252 instructions in place of 240, and by 84 in place of 54 if the first digit is
+            // invalid. Of a text that is an array, this takes 44 more (rustc 1.95, x86-64).
             let count = if N > 4 && N < 32 && Native::PIECE == 1 { ptr::read_volatile(&N) } else { N };
             match unchecked::read(digits.as_ptr(), self.0.as_mut_ptr().cast(), count) {
                 true => Some(&*self.0.as_ptr()),

@@ -54,8 +54,8 @@ pub use self::formatting::text::*;
 //    1  and the crate's decoder is cloned
 //    1  and writes a text to memory that is not cleared
 //    2  before it reads a part, or ends
-//   55  deleted: attribute
-//  557  deleted: clause
+//   54  deleted: attribute
+//  555  deleted: clause
 //  146  deleted: ghost item
 //    5  deleted: model
 //    1  each value may be dropped

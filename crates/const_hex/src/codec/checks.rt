@@ -54,7 +54,6 @@ pub fn check_with<K: Kernel>(input: &[u8]) -> Result<(), FromHexError>
 /// assert_eq!(rt; const_hex::const_check(b"0xzz"), Err(error));
 /// ```
 #[inline]
-#[tactic(auto, using(std::proofs::lemmas::Grind::common_steps))]
 pub fn const_check(input: &[u8]) -> Result<(), FromHexError>
     ensures { ChecksText input.now result }
 {

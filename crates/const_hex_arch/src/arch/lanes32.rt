@@ -129,12 +129,12 @@ impl Kernel for Lanes32 {
 
     #[inline(always)]
     fn decode_checked(input: &[u8], output: &mut [u8]) -> bool {
-        loops::decode_in_steps::<32, true, Lanes32, Lanes16>(input, output)
+        loops::decode_in_steps::<32, true, false, Lanes32, Lanes16>(input, output)
     }
 
     #[inline(always)]
     fn decode_all(input: &[u8], output: &mut [u8]) -> bool {
-        loops::decode_in_steps::<32, false, Lanes32, Lanes16>(input, output)
+        loops::decode_in_steps::<32, false, false, Lanes32, Lanes16>(input, output)
     }
 
     #[inline(always)]

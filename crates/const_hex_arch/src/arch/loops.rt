@@ -5,7 +5,7 @@
 //! and remainders" in docs/DESIGN.md. The code was reviewed against that table, step by step; how the
 //! steps differ from those of const-hex is in docs/DECISIONS.md.
 
-ghost use Rattle.std.specs.Prelude.{◌≡◌, ◌+◌, ◌*◌, ◌≤◌, ◌↔◌, List, ℕ, IsTrue, false, length, take, drop};
+ghost use Rattle.std.specs.Prelude.{◌≡◌, ◌+◌, ◌*◌, ◌≤◌, ◌↔◌, IsTrue, false, length, take};
 ghost use Rattle.const_hex_arch.specs.{hex_text, AllDigits, Spells, Partial};
 
 use crate::arch::lanes::{LaneOps, PairOps};
@@ -110,11 +110,12 @@ fn check_remainder<const N: usize, V: LaneOps<N>>(input: &[u8], at: usize) -> bo
 
 /// Decodes the input and returns true. Returns false if some character is invalid; then the front
 /// of the output may already be decoded. Less than 16 bytes, and without `FRONT` also 16, are decoded as a whole, and
-/// others by `decode_from`. With `FRONT` the pairs before an invalid character in less than 16 bytes are decoded.
+/// others by `decode_long`. With `FRONT` the pairs before an invalid character in less than 16 bytes are decoded.
 #[inline(always)]
 pub(crate) fn decode_in_steps<
     const N: usize,
     const FRONT: bool,
+    const ALONE: bool,
     V: LaneOps<N>,
     S: LaneOps<16> + PairOps,
 >(input: &[u8], output: &mut [u8]) -> bool
@@ -129,30 +130,35 @@ pub(crate) fn decode_in_steps<
         return small_input::decode_small::<S>(input, output)
             || (FRONT && small_input::decode_pairs(input, output));
     }
-    decode_from::<N, FRONT, V, S>(input, output, 0)
+    decode_long::<N, FRONT, ALONE, V, S>(input, output)
 }
 
-/// As `decode_in_steps`, for at least 16 bytes, of which the first `start` are decoded. Two steps share one test. A step
-/// with an invalid character writes nothing. After the steps of `N` lanes, one of 16 is decoded if more than 16 bytes
-/// are left. The last 16 bytes of the output cover the remainder, some of them again; but without `FRONT` one byte after
-/// the steps of `N` lanes is decoded alone. With `FRONT` a valid first one of two steps is decoded if their test fails,
-/// and of a remainder of less than 16 bytes the pairs before an invalid character. Without it the call ends there.
+/// As `decode_in_steps`, for at least 16 bytes. If `ALONE`, the first 16 have a test of their own, so that most
+/// invalid texts cost little. Two steps share one test. A step with an invalid character writes nothing. After the
+/// steps of `N` lanes, one of 16 is decoded if more than 16 bytes are left. The last 16 bytes of the output cover the
+/// remainder, some of them again; but without `FRONT` one byte after the steps of `N` lanes is decoded alone. With
+/// `FRONT` a valid first one of two steps is decoded if their test fails, and of a remainder of less than 16 bytes the
+/// pairs before an invalid character. Without it the call ends there.
 #[inline(always)]
-pub(crate) fn decode_from<
+fn decode_long<
     const N: usize,
     const FRONT: bool,
+    const ALONE: bool,
     V: LaneOps<N>,
     S: LaneOps<16> + PairOps,
->(input: &[u8], output: &mut [u8], start: usize) -> bool
+>(input: &[u8], output: &mut [u8]) -> bool
     requires size { length input.now ≡ 2 * length output.old }
     requires least { 16 ≤ length output.old }
-    requires within { start ≤ length output.old }
-    requires front { Spells (take (2 * start) input.now) (take start output.old) }
     ensures spells { IsTrue result → Spells input.now output.new }
-    ensures refused { result ≡ false → (old : List ℕ) → length old ≡ length output.old
-        → drop start old ≡ drop start output.old → Partial old input.now output.new }
+    ensures refused { result ≡ false → Partial output.old input.now output.new }
 {
-    let mut at = start;
+    let mut at = 0;
+    if ALONE {
+        if !steps::decode_step::<16, S>(&input[..32], false, &mut output[..16]) {
+            return false;
+        }
+        at = 16;
+    }
     while output.len() - at >= 2 * N {
         let end = at + 2 * N;
         let second_row = lanes16::second_row_for(output.len());

@@ -128,7 +128,7 @@ impl Kernel for Lanes16 {
 
     #[inline(always)]
     fn decode_checked(input: &[u8], output: &mut [u8]) -> bool {
-        loops::decode_in_steps::<16, true, Lanes16, Lanes16>(input, output)
+        loops::decode_in_steps::<16, true, false, Lanes16, Lanes16>(input, output)
     }
 
     #[inline(always)]

@@ -62,8 +62,8 @@ pub(crate) fn locate_invalid(text: &[u8]) -> (u8, usize) {
     find_first_bad(text)
 }
 
-/// The error that names the first byte of a pair that is not a digit. The pair, which stands at the
-/// index, must have one.
+/// The error that names the first byte of a pair, which stands at the index, or the second byte if
+/// the first one is a digit.
 #[inline(always)]
 pub(crate) const fn invalid_pair(first: u8, second: u8, index: usize) -> FromHexError {
     if value_at(first) == NIL {
