@@ -1,5 +1,5 @@
 use Rattle.std.proofs.Common.{◌≡◌, ◌+◌, ◌-◌, ℕ, List, length, drop, Ok, ◌∙◌, refl, arith, length-drop, get_or, get_or-drop, drop-drop, take_all}
-use Rattle.const_hex.specs.Prelude.{body_of, body-parity}
+use Rattle.const_hex.specs.Prelude.{body_of}
 use Rattle.const_hex.proofs.lemmas.Decoding.{body-shorter}
 use Rattle.const_hex.proofs.lemmas.Reading.{Reads-digits, ChecksText-from_Checks}
 use Rattle.const_hex.proofs.lemmas.Searching.{bad_pair, two_more}
@@ -34,12 +34,16 @@ pairs-preserved c =
     let (first, second) = c.are_digits.ensures.0 c.if-not-are_digits.false in
     let two = c.in-len2-up.len_at_least in
     let size = left i _ _ rest in
-    let after = take_all (length c.pairs.rest.now - 2) (drop 2 c.pairs.rest.now) (omega (arith, length-drop 2 c.pairs.rest.now)) in (
+    let first_is = byte i 0 i _ _ rest (omega arith) in
+    let second_is = byte i 1 (i + 1) _ _ rest refl in
+    let shorter = length-drop 2 c.pairs.rest.now in
+    let after = take_all (length c.pairs.rest.now - 2) (drop 2 c.pairs.rest.now) (omega (arith, shorter)) in (
       i + 2,
       after ∙ rw (rest, drop-drop) refl,
       omega (arith, two, size),
-      two_more (body_of c.args.input.now) i (i + 1) (i + 2) (omega (arith, two, size)) refl (omega arith) (rw (byte i 0 i _ _ rest (omega arith)) at first) (rw (byte i 1 (i + 1) _ _ rest refl) at second) done,
-      rw after (omega (arith, even, two, length-drop 2 c.pairs.rest.now)),
+      two_more (body_of c.args.input.now) i (i + 1) (i + 2) (omega (arith, two, size)) refl (omega arith)
+          (rw first_is at first) (rw second_is at second) done,
+      rw after (omega (arith, even, two, shorter)),
     )
 
 pub returns : goal.returns

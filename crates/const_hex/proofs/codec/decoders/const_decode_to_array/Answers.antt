@@ -17,8 +17,8 @@ returns-then-not-are_digits g c =
     let i = 2 * c.pairs.index in
     let body = c.strip_prefix-body.ensures.body in
     let error : Reads t (Err c.invalid_pair.result) =
-    bad_pair t i (length t - length c.strip_prefix-body.result.now + i) c.invalid_pair.result (omega (arith, c.if-input-ne0.false)) (rw (← body) (omega arith))
-    (rw (← body) (Spells-digits _ _ c.pairs.invariant.front)) (rw (← body) (omega arith))
+    bad_pair t i (length t - length c.strip_prefix-body.result.now + i) c.invalid_pair.result
+    (omega (arith, c.if-input-ne0.false)) (rw (← body) (omega arith)) (rw (← body) (Spells-digits _ _ c.pairs.invariant.front)) (rw (← body) (omega arith))
     (rw (← body) (λ both. absurd (cc (c.are_digits.ensures.1 both, c.if-not-are_digits.true))))
     (rw (← body) c.invalid_pair.ensures.first) (rw (← body) c.invalid_pair.ensures.second) in
     DecodesToArray-from_ReadsSized g.row.N t _ (search rules)

@@ -4,7 +4,9 @@ use Rattle.std.proofs.lemmas.List.{length-take-le}
 use borrow.Rule.Slice.PartMut.{put_mid}
 use Rattle.const_hex_arch.proofs.lemmas.Steps.{IsDecoded, decoded_step, decoded_less, kept_step, refused_step, spells_rest, refused_rest}
 use Rattle.const_hex_arch.proofs.arch.loops.decode_long.Goals as goal
-use Rattle.const_hex_arch.proofs.arch.loops.decode_long.Goals.{Joined-output-at-gt16, then-this-ne0+else-not-decode_step, else-this-ne0, else-loop-output-test, then-loop-output-test+then-not-decode_two_steps+else-not-this, then-output-at-gt16+else-not-decode_step-3, else-output-at-gt16+else-not-this-2}
+use Rattle.const_hex_arch.proofs.arch.loops.decode_long.Goals.{Joined-output-at-gt16, then-this-ne0+else-not-decode_step, else-this-ne0}
+use Rattle.const_hex_arch.proofs.arch.loops.decode_long.Goals.{else-loop-output-test, then-loop-output-test+then-not-decode_two_steps+else-not-this}
+use Rattle.const_hex_arch.proofs.arch.loops.decode_long.Goals.{then-output-at-gt16+else-not-decode_step-3, else-output-at-gt16+else-not-this-2}
 
 -- at first
 none : (u old : List ℕ) → IsDecoded u old old 0
@@ -29,7 +31,8 @@ loop-output-init g c =
       | then-this-ne0+else-not-decode_step w ↦
           let long = w.decode_step.auto.output ∙ length-take-le 16 c.args.output.now (omega arith) in
           rw (w.output-is, w.at-is)
-          (decoded_step w.decode_step.new.output 16 32 before refl c.requires.least refl long (w.if-not-decode_step.ensures.spells refl))
+          (decoded_step w.decode_step.new.output 16 32 before refl c.requires.least refl long
+          (w.if-not-decode_step.ensures.spells refl))
       | else-this-ne0 w ↦ rw (w.output-is, w.at-is) before
     ]
 
