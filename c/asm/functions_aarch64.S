@@ -9,63 +9,71 @@
 	stp x29, x30, [sp, #-48]!
 	cmp x0, #0x0
 	mov w8, #0x1000
-	stp x22, x21, [sp, #16]
-	csel x9, x8, xzr, eq
 	stp x20, x19, [sp, #32]
+	mov x19, x2
+	mov x20, x1
+	csel x9, x8, xzr, eq
+	stp x22, x21, [sp, #16]
 	mov x29, sp
-	tbnz w1, #0, 2f
-	subs x8, x1, #0x2
-	add x19, x0, x9
-	mov x21, x2
-	b.cs 4f
-	mov x22, x1
-	mov x20, x1
-	b 5f
+	tbnz w20, #0, 2f
+	subs x8, x20, #0x2
+	add x21, x0, x9
+	b.cs 3f
+	mov x22, x20
+	b 4f
 2:
-	mov w9, wzr
-	mov x8, xzr
-	mov w10, #0x1
+	mov w8, wzr
+	mov x20, xzr
+	mov w9, #0x1
+	b 7f
 3:
-	mov w0, wzr
-	stp w10, w9, [x2]
-	str x8, [x2, #8]
-	ldp x20, x19, [sp, #32]
-	ldp x22, x21, [sp, #16]
-	ldp x29, x30, [sp], #48
-	ret
-4:
-	ldrb w9, [x19, #1]
+	ldrb w9, [x21, #1]
 	mov w10, #0xdf00
-	ldrb w11, [x19]
-	mov x22, x1
-	mov x20, x1
+	ldrb w11, [x21]
+	mov x22, x20
 	and w9, w10, w9, lsl #8
 	mov w10, #0x5830
 	orr w9, w9, w11
 	cmp w9, w10
-	b.ne 5f
-	add x19, x19, #0x2
-	mov x20, x8
-5:
-	mov x0, x19
-	mov x1, x20
+	b.ne 4f
+	add x21, x21, #0x2
+	mov x22, x8
+4:
+	mov x0, x21
+	mov x1, x22
 	bl SYMBOL(const_hex_kernel_check)
-	tbz w0, #0, 6f
+	tbz w0, #0, 5f
 	mov w0, #0x1
 	ldp x20, x19, [sp, #32]
 	ldp x22, x21, [sp, #16]
 	ldp x29, x30, [sp], #48
 	ret
+5:
+	sub x20, x20, x22
+	cbz x22, 8f
+	ldrb w0, [x21]
+	adrp_label x8, const_hex_constant_1
+	add_label x8, x8, const_hex_constant_1
+	ldrb w8, [x8, x0]
+	cmp w8, #0xff
+	b.ne 8f
 6:
-	mov x0, x19
-	mov x1, x20
+	and w8, w0, #0xff
+	mov w9, #0x3
+7:
+	mov w0, wzr
+	stp w9, w8, [x19]
+	str x20, [x19, #8]
+	ldp x20, x19, [sp, #32]
+	ldp x22, x21, [sp, #16]
+	ldp x29, x30, [sp], #48
+	ret
+8:
+	mov x0, x21
+	mov x1, x22
 	bl const_hex_body_locate_invalid
-	sub x8, x22, x20
-	and w9, w0, #0xff
-	mov w10, #0x3
-	add x8, x8, x1
-	mov x2, x21
-	b 3b
+	add x20, x1, x20
+	b 6b
 	end SYMBOL(const_hex_check_nonnull)
 
 /* const_hex_c::const_hex_check_raw */
@@ -101,10 +109,10 @@
 	mov x20, x1
 	b 4f
 2:
-	mov w9, wzr
-	mov x8, xzr
-	mov w10, #0x1
-	b 6f
+	mov w8, wzr
+	mov x21, xzr
+	mov w9, #0x1
+	b 8f
 3:
 	ldrb w10, [x19, #1]
 	mov w11, #0xdf00
@@ -120,40 +128,50 @@
 4:
 	cmp x3, x20, lsr #1
 	b.ne 5f
-	mov x22, x1
+	mov x21, x1
 	add x1, x2, x8
 	mov x0, x19
 	mov x2, x3
-	mov x21, x4
+	mov x22, x4
 	bl SYMBOL(const_hex_kernel_read)
-	tbz w0, #0, 7f
+	tbz w0, #0, 6f
 	mov w0, #0x1
 	ldp x20, x19, [sp, #32]
 	ldp x22, x21, [sp, #16]
 	ldp x29, x30, [sp], #48
 	ret
 5:
-	mov w9, wzr
-	mov x8, xzr
-	mov w10, #0x2
+	mov w8, wzr
+	mov x21, xzr
+	mov w9, #0x2
+	b 8f
 6:
+	sub x21, x21, x20
+	cbz x20, 9f
+	ldrb w0, [x19]
+	adrp_label x8, const_hex_constant_1
+	add_label x8, x8, const_hex_constant_1
+	ldrb w8, [x8, x0]
+	cmp w8, #0xff
+	b.ne 9f
+7:
+	and w8, w0, #0xff
+	mov w9, #0x3
+	mov x4, x22
+8:
 	mov w0, wzr
-	stp w10, w9, [x4]
-	str x8, [x4, #8]
+	stp w9, w8, [x4]
+	str x21, [x4, #8]
 	ldp x20, x19, [sp, #32]
 	ldp x22, x21, [sp, #16]
 	ldp x29, x30, [sp], #48
 	ret
-7:
+9:
 	mov x0, x19
 	mov x1, x20
 	bl const_hex_body_locate_invalid
-	sub x8, x22, x20
-	and w9, w0, #0xff
-	mov w10, #0x3
-	add x8, x8, x1
-	mov x4, x21
-	b 6b
+	add x21, x1, x21
+	b 7b
 	end SYMBOL(const_hex_decode_exact_nonnull)
 
 /* const_hex_c::const_hex_decode_nonnull */
@@ -176,11 +194,11 @@
 	mov x20, x1
 	b 4f
 2:
-	mov w9, wzr
-	mov x8, xzr
+	mov w8, wzr
+	mov x21, xzr
 	str xzr, [x4]
-	mov w10, #0x1
-	b 5f
+	mov w9, #0x1
+	b 8f
 3:
 	ldrb w10, [x19, #1]
 	mov w11, #0xdf00
@@ -196,21 +214,13 @@
 4:
 	lsr x21, x20, #1
 	cmp x3, x21
-	b.cs 6f
-	mov w9, wzr
-	mov x8, xzr
+	b.cs 5f
+	mov w8, wzr
+	mov x21, xzr
 	str xzr, [x4]
-	mov w10, #0x2
+	mov w9, #0x2
+	b 8f
 5:
-	mov w0, wzr
-	stp w10, w9, [x5]
-	str x8, [x5, #8]
-	ldp x20, x19, [sp, #48]
-	ldp x22, x21, [sp, #32]
-	ldp x24, x23, [sp, #16]
-	ldp x29, x30, [sp], #64
-	ret
-6:
 	mov x24, x1
 	add x1, x2, x8
 	mov x0, x19
@@ -218,7 +228,7 @@
 	mov x23, x4
 	mov x22, x5
 	bl SYMBOL(const_hex_kernel_read)
-	cbz w0, 7f
+	tbz w0, #0, 6f
 	str x21, [x23]
 	mov w0, #0x1
 	ldp x20, x19, [sp, #48]
@@ -226,17 +236,37 @@
 	ldp x24, x23, [sp, #16]
 	ldp x29, x30, [sp], #64
 	ret
+6:
+	sub x21, x24, x20
+	cbz x20, 9f
+	ldrb w8, [x19]
+	adrp_label x10, const_hex_constant_1
+	add_label x10, x10, const_hex_constant_1
+	mov x9, x23
+	ldrb w10, [x10, x8]
+	cmp w10, #0xff
+	b.ne 9f
 7:
+	str xzr, [x9]
+	mov w9, #0x3
+	mov x5, x22
+8:
+	mov w0, wzr
+	stp w9, w8, [x5]
+	str x21, [x5, #8]
+	ldp x20, x19, [sp, #48]
+	ldp x22, x21, [sp, #32]
+	ldp x24, x23, [sp, #16]
+	ldp x29, x30, [sp], #64
+	ret
+9:
 	mov x0, x19
 	mov x1, x20
 	bl const_hex_body_locate_invalid
-	sub x8, x24, x20
-	and w9, w0, #0xff
-	mov w10, #0x3
-	add x8, x8, x1
-	mov x5, x22
-	str xzr, [x23]
-	b 5b
+	mov x9, x23
+	add x21, x1, x21
+	and x8, x0, #0xff
+	b 7b
 	end SYMBOL(const_hex_decode_nonnull)
 
 /* const_hex_c::const_hex_decoder_finish_nonnull */
@@ -543,20 +573,20 @@
 	b.eq 2f
 	cmp w8, #0x1
 	b.ne 4f
-	adrp_label x0, const_hex_constant_1
-	add_label x0, x0, const_hex_constant_1
+	adrp_label x0, const_hex_constant_2
+	add_label x0, x0, const_hex_constant_2
 	add x2, x1, x9
 	mov w1, #0x14
 	b const_hex_message_write_ended
 2:
-	adrp_label x0, const_hex_constant_2
-	add_label x0, x0, const_hex_constant_2
+	adrp_label x0, const_hex_constant_3
+	add_label x0, x0, const_hex_constant_3
 	add x2, x1, x9
 	mov w1, #0x15
 	b const_hex_message_write_ended
 3:
-	adrp_label x0, const_hex_constant_3
-	add_label x0, x0, const_hex_constant_3
+	adrp_label x0, const_hex_constant_4
+	add_label x0, x0, const_hex_constant_4
 	add x2, x1, x9
 	mov w1, #0xd
 	b const_hex_message_write_ended
@@ -610,8 +640,8 @@
 7:
 	mov w10, #0x3b
 8:
-	adrp_label x14, const_hex_constant_4
-	add_label x14, x14, const_hex_constant_4
+	adrp_label x14, const_hex_constant_5
+	add_label x14, x14, const_hex_constant_5
 	mov x13, sp
 	ldr x15, [x14]
 	ldur x14, [x14, #6]
@@ -649,8 +679,8 @@
 	b.cs 22f
 14:
 	and x11, x8, #0xf
-	adrp_label x13, const_hex_constant_5
-	add_label x13, x13, const_hex_constant_5
+	adrp_label x13, const_hex_constant_6
+	add_label x13, x13, const_hex_constant_6
 	ldrb w14, [x13, x11]
 	sub x12, x10, #0x11
 	mov w15, #0x7d00
@@ -695,8 +725,8 @@
 20:
 	strh w11, [x8, x10]
 21:
-	adrp_label x11, const_hex_constant_6
-	add_label x11, x11, const_hex_constant_6
+	adrp_label x11, const_hex_constant_7
+	add_label x11, x11, const_hex_constant_7
 	mov x8, sp
 	ldr q0, [x11]
 	mov w11, #0x7265
@@ -742,67 +772,52 @@
 
 /* const_hex::codec::body::locate_invalid */
 	function const_hex_body_locate_invalid
-	adrp_label x10, const_hex_constant_7
-	add_label x10, x10, const_hex_constant_7
-	cbz x1, 3f
-	ldrb w9, [x0]
-	ldrb w8, [x10, x9]
-	cmp w8, #0xff
-	b.eq 6f
-	mov x8, xzr
+	mov x8, x1
 	subs x9, x1, #0x4
-	b.cc 4f
+	adrp_label x10, const_hex_constant_1
+	add_label x10, x10, const_hex_constant_1
+	mov x1, xzr
+	b.cc 3f
 2:
-	add x11, x0, x8
+	add x11, x0, x1
 	ldrb w12, [x11]
 	ldrb w13, [x11, #1]
 	ldrb w12, [x10, x12]
 	ldrb w13, [x10, x13]
 	orr w12, w13, w12
-	tbnz w12, #7, 4f
+	tbnz w12, #7, 3f
 	ldrb w12, [x11, #2]
 	ldrb w11, [x11, #3]
 	ldrb w12, [x10, x12]
 	ldrb w11, [x10, x11]
 	orr w11, w11, w12
-	tbnz w11, #7, 8f
-	add x8, x8, #0x4
-	cmp x8, x9
+	tbnz w11, #7, 6f
+	add x1, x1, #0x4
+	cmp x1, x9
 	b.ls 2b
-	b 4f
 3:
-	mov x8, xzr
+	cmp x1, x8
+	b.cs 7f
 4:
-	cmp x8, x1
-	b.cs 9f
-5:
-	ldrb w9, [x0, x8]
+	ldrb w9, [x0, x1]
 	ldrb w11, [x10, x9]
 	cmp w11, #0xff
-	b.eq 7f
-	add x8, x8, #0x1
-	cmp x1, x8
-	b.ne 5b
+	b.eq 5f
+	add x1, x1, #0x1
+	cmp x8, x1
+	b.ne 4b
 	mov w9, wzr
+	mov x1, x8
+5:
 	mov w0, w9
 	ret
 6:
-	mov x8, xzr
-	mov w0, w9
-	mov x1, x8
-	ret
+	add x1, x1, #0x2
+	cmp x1, x8
+	b.cc 4b
 7:
-	mov w0, w9
-	mov x1, x8
-	ret
-8:
-	add x8, x8, #0x2
-	cmp x8, x1
-	b.cc 5b
-9:
 	mov w9, wzr
 	mov w0, w9
-	mov x1, x8
 	ret
 	end const_hex_body_locate_invalid
 
@@ -873,8 +888,8 @@
 /* const_hex::codec::decoder::Decoder::fail */
 	function const_hex_decoder_fail
 	subs x10, x4, #0x4
-	adrp_label x9, const_hex_constant_7
-	add_label x9, x9, const_hex_constant_7
+	adrp_label x9, const_hex_constant_1
+	add_label x9, x9, const_hex_constant_1
 	mov x8, xzr
 	b.cc 3f
 2:
@@ -958,27 +973,6 @@
 	end const_hex_message_write_ended
 
 	constant const_hex_constant_1, 0
-	.byte 0x6f, 0x64, 0x64, 0x20, 0x6e, 0x75, 0x6d, 0x62, 0x65, 0x72, 0x20, 0x6f, 0x66, 0x20, 0x64, 0x69
-	.byte 0x67, 0x69, 0x74, 0x73
-
-	constant const_hex_constant_2, 0
-	.byte 0x69, 0x6e, 0x76, 0x61, 0x6c, 0x69, 0x64, 0x20, 0x73, 0x74, 0x72, 0x69, 0x6e, 0x67, 0x20, 0x6c
-	.byte 0x65, 0x6e, 0x67, 0x74, 0x68
-
-	constant const_hex_constant_3, 0
-	.byte 0x6f, 0x75, 0x74, 0x20, 0x6f, 0x66, 0x20, 0x6d, 0x65, 0x6d, 0x6f, 0x72, 0x79
-
-	constant const_hex_constant_4, 0
-	.byte 0x27, 0x20, 0x61, 0x74, 0x20, 0x70, 0x6f, 0x73, 0x69, 0x74, 0x69, 0x6f, 0x6e, 0x20
-
-	constant const_hex_constant_5, 4
-	.byte 0x30, 0x31, 0x32, 0x33, 0x34, 0x35, 0x36, 0x37, 0x38, 0x39, 0x61, 0x62, 0x63, 0x64, 0x65, 0x66
-
-	constant const_hex_constant_6, 0
-	.byte 0x69, 0x6e, 0x76, 0x61, 0x6c, 0x69, 0x64, 0x20, 0x63, 0x68, 0x61, 0x72, 0x61, 0x63, 0x74, 0x65
-	.byte 0x72, 0x20, 0x27
-
-	constant const_hex_constant_7, 0
 	.byte 0xff, 0xff, 0xff, 0xff, 0xff, 0xff, 0xff, 0xff, 0xff, 0xff, 0xff, 0xff, 0xff, 0xff, 0xff, 0xff
 	.byte 0xff, 0xff, 0xff, 0xff, 0xff, 0xff, 0xff, 0xff, 0xff, 0xff, 0xff, 0xff, 0xff, 0xff, 0xff, 0xff
 	.byte 0xff, 0xff, 0xff, 0xff, 0xff, 0xff, 0xff, 0xff, 0xff, 0xff, 0xff, 0xff, 0xff, 0xff, 0xff, 0xff
@@ -995,5 +989,26 @@
 	.byte 0xff, 0xff, 0xff, 0xff, 0xff, 0xff, 0xff, 0xff, 0xff, 0xff, 0xff, 0xff, 0xff, 0xff, 0xff, 0xff
 	.byte 0xff, 0xff, 0xff, 0xff, 0xff, 0xff, 0xff, 0xff, 0xff, 0xff, 0xff, 0xff, 0xff, 0xff, 0xff, 0xff
 	.byte 0xff, 0xff, 0xff, 0xff, 0xff, 0xff, 0xff, 0xff, 0xff, 0xff, 0xff, 0xff, 0xff, 0xff, 0xff, 0xff
+
+	constant const_hex_constant_2, 0
+	.byte 0x6f, 0x64, 0x64, 0x20, 0x6e, 0x75, 0x6d, 0x62, 0x65, 0x72, 0x20, 0x6f, 0x66, 0x20, 0x64, 0x69
+	.byte 0x67, 0x69, 0x74, 0x73
+
+	constant const_hex_constant_3, 0
+	.byte 0x69, 0x6e, 0x76, 0x61, 0x6c, 0x69, 0x64, 0x20, 0x73, 0x74, 0x72, 0x69, 0x6e, 0x67, 0x20, 0x6c
+	.byte 0x65, 0x6e, 0x67, 0x74, 0x68
+
+	constant const_hex_constant_4, 0
+	.byte 0x6f, 0x75, 0x74, 0x20, 0x6f, 0x66, 0x20, 0x6d, 0x65, 0x6d, 0x6f, 0x72, 0x79
+
+	constant const_hex_constant_5, 0
+	.byte 0x27, 0x20, 0x61, 0x74, 0x20, 0x70, 0x6f, 0x73, 0x69, 0x74, 0x69, 0x6f, 0x6e, 0x20
+
+	constant const_hex_constant_6, 4
+	.byte 0x30, 0x31, 0x32, 0x33, 0x34, 0x35, 0x36, 0x37, 0x38, 0x39, 0x61, 0x62, 0x63, 0x64, 0x65, 0x66
+
+	constant const_hex_constant_7, 0
+	.byte 0x69, 0x6e, 0x76, 0x61, 0x6c, 0x69, 0x64, 0x20, 0x63, 0x68, 0x61, 0x72, 0x61, 0x63, 0x74, 0x65
+	.byte 0x72, 0x20, 0x27
 
 #endif

@@ -12,16 +12,18 @@
 	push   r12
 	push   rbx
 	push   rax
+	mov    rbx,rdx
+	mov    r14,rsi
 	xor    eax,eax
 	test   rdi,rdi
 	sete   cl
-	test   sil,0x1
+	test   r14b,0x1
 	jne    2f
 	mov    al,cl
 	shl    eax,0xc
 	add    rdi,rax
-	cmp    rsi,0x2
-	jb     4f
+	cmp    r14,0x2
+	jb     3f
 	movzx  eax,BYTE PTR [rdi]
 	movzx  ecx,BYTE PTR [rdi+0x1]
 	and    ecx,0xffffffdf
@@ -29,51 +31,53 @@
 	or     ecx,eax
 	movzx  eax,cx
 	cmp    eax,0x5830
-	jne    4f
-	mov    r15,rdx
-	mov    r12,rsi
-	lea    rbx,[rsi-0x2]
+	jne    3f
+	lea    r15,[r14-0x2]
 	add    rdi,0x2
-	jmp    5f
+	jmp    4f
 2:
 	xor    eax,eax
 	mov    ecx,0x1
-	xor    r12d,r12d
-3:
-	mov    DWORD PTR [rdx],ecx
-	mov    DWORD PTR [rdx+0x4],eax
-	mov    QWORD PTR [rdx+0x8],r12
-	xor    eax,eax
+	xor    r14d,r14d
 	jmp    6f
+3:
+	mov    r15,r14
 4:
-	mov    r15,rdx
-	mov    r12,rsi
-	mov    rbx,rsi
-5:
-	mov    r14,rdi
-	mov    rsi,rbx
+	mov    r12,rdi
+	mov    rsi,r15
 	call   SYMBOL(const_hex_kernel_check)
 	mov    ecx,eax
 	mov    al,0x1
 	test   cl,cl
-	je     7f
+	jne    7f
+	sub    r14,r15
+	test   r15,r15
+	mov    rdi,r12
+	je     8f
+	movzx  eax,BYTE PTR [rdi]
+	lea    rcx,[rip + const_hex_constant_1]
+	cmp    BYTE PTR [rax+rcx*1],0xff
+	jne    8f
+5:
+	movzx  eax,al
+	mov    ecx,0x3
 6:
+	mov    DWORD PTR [rbx],ecx
+	mov    DWORD PTR [rbx+0x4],eax
+	mov    QWORD PTR [rbx+0x8],r14
+	xor    eax,eax
+7:
 	add    rsp,0x8
 	pop    rbx
 	pop    r12
 	pop    r14
 	pop    r15
 	ret
-7:
-	mov    rdi,r14
-	mov    rsi,rbx
+8:
+	mov    rsi,r15
 	call   const_hex_body_locate_invalid
-	sub    r12,rbx
-	add    r12,rdx
-	movzx  eax,al
-	mov    ecx,0x3
-	mov    rdx,r15
-	jmp    3b
+	add    r14,rdx
+	jmp    5b
 	end SYMBOL(const_hex_check_nonnull)
 
 /* const_hex_c::const_hex_check_raw */
@@ -110,7 +114,7 @@
 	shl    r10d,0xc
 	add    rdi,r10
 	cmp    rsi,0x2
-	jb     6f
+	jb     7f
 	movzx  r10d,BYTE PTR [rdi]
 	movzx  r11d,BYTE PTR [rdi+0x1]
 	and    r11d,0xffffffdf
@@ -118,65 +122,75 @@
 	or     r11d,r10d
 	movzx  r10d,r11w
 	cmp    r10d,0x5830
-	jne    6f
+	jne    7f
 	lea    rbx,[rsi-0x2]
 	add    rdi,0x2
 	mov    r10,rbx
 	shr    r10,1
 	cmp    r10,rcx
-	je     7f
+	je     8f
 2:
 	xor    eax,eax
-	mov    ecx,0x2
+	mov    edx,0x2
 	jmp    4f
 3:
 	xor    eax,eax
-	mov    ecx,0x1
+	mov    edx,0x1
 4:
-	xor    r12d,r12d
+	xor    ecx,ecx
 5:
-	mov    DWORD PTR [r8],ecx
+	mov    DWORD PTR [r8],edx
 	mov    DWORD PTR [r8+0x4],eax
-	mov    QWORD PTR [r8+0x8],r12
+	mov    QWORD PTR [r8+0x8],rcx
 	xor    eax,eax
-	jmp    8f
 6:
-	mov    rbx,rsi
-	mov    r10,rbx
-	shr    r10,1
-	cmp    r10,rcx
-	jne    2b
-7:
-	mov    r12,rsi
-	mov    r15,r8
-	mov    al,r9b
-	shl    eax,0xc
-	add    rdx,rax
-	mov    r14,rdi
-	mov    rsi,rdx
-	mov    rdx,rcx
-	call   SYMBOL(const_hex_kernel_read)
-	mov    ecx,eax
-	mov    al,0x1
-	test   cl,cl
-	je     9f
-8:
 	add    rsp,0x8
 	pop    rbx
 	pop    r12
 	pop    r14
 	pop    r15
 	ret
+7:
+	mov    rbx,rsi
+	mov    r10,rbx
+	shr    r10,1
+	cmp    r10,rcx
+	jne    2b
+8:
+	mov    r15,rsi
+	mov    r14,r8
+	mov    al,r9b
+	shl    eax,0xc
+	add    rdx,rax
+	mov    r12,rdi
+	mov    rsi,rdx
+	mov    rdx,rcx
+	call   SYMBOL(const_hex_kernel_read)
+	mov    ecx,eax
+	mov    al,0x1
+	test   cl,cl
+	jne    6b
+	mov    rcx,r15
+	sub    rcx,rbx
+	test   rbx,rbx
+	mov    rdi,r12
+	je     12f
+	movzx  eax,BYTE PTR [rdi]
+	lea    rdx,[rip + const_hex_constant_1]
+	cmp    BYTE PTR [rax+rdx*1],0xff
+	jne    12f
 9:
-	mov    rdi,r14
+	movzx  eax,al
+	mov    edx,0x3
+	mov    r8,r14
+	jmp    5b
+12:
+	mov    r15,rcx
 	mov    rsi,rbx
 	call   const_hex_body_locate_invalid
-	sub    r12,rbx
-	add    r12,rdx
-	movzx  eax,al
-	mov    ecx,0x3
-	mov    r8,r15
-	jmp    5b
+	mov    rcx,r15
+	add    rcx,rdx
+	jmp    9b
 	end SYMBOL(const_hex_decode_exact_nonnull)
 
 /* const_hex_c::const_hex_decode_nonnull */
@@ -217,26 +231,27 @@
 	cmp    rcx,r14
 	jb     5f
 2:
-	mov    r13,r8
-	mov    rbp,rsi
-	mov    r12,r9
+	mov    r12,r8
+	mov    r13,rsi
+	mov    r15,r9
 	mov    al,r10b
 	shl    eax,0xc
 	add    rdx,rax
-	mov    r15,rdi
+	mov    rbp,rdi
 	mov    rsi,rdx
 	mov    rdx,r14
 	call   SYMBOL(const_hex_kernel_read)
 	test   al,al
-	je     9f
-	mov    QWORD PTR [r13+0x0],r14
+	je     6f
+	mov    QWORD PTR [r12],r14
 	mov    al,0x1
-	jmp    8f
+	jmp    9f
 3:
 	mov    QWORD PTR [r8],0x0
 	xor    eax,eax
-	mov    ecx,0x1
-	jmp    6f
+	mov    edx,0x1
+	xor    ecx,ecx
+	jmp    8f
 4:
 	mov    rbx,rsi
 	mov    r14,rbx
@@ -246,15 +261,30 @@
 5:
 	mov    QWORD PTR [r8],0x0
 	xor    eax,eax
-	mov    ecx,0x2
+	mov    edx,0x2
+	xor    ecx,ecx
+	jmp    8f
 6:
-	xor    ebp,ebp
+	mov    rcx,r13
+	sub    rcx,rbx
+	test   rbx,rbx
+	mov    rdi,rbp
+	je     12f
+	movzx  eax,BYTE PTR [rdi]
+	lea    rdx,[rip + const_hex_constant_1]
+	cmp    BYTE PTR [rax+rdx*1],0xff
+	jne    12f
+	mov    rsi,r12
 7:
-	mov    DWORD PTR [r9],ecx
-	mov    DWORD PTR [r9+0x4],eax
-	mov    QWORD PTR [r9+0x8],rbp
-	xor    eax,eax
+	mov    QWORD PTR [rsi],0x0
+	mov    edx,0x3
+	mov    r9,r15
 8:
+	mov    DWORD PTR [r9],edx
+	mov    DWORD PTR [r9+0x4],eax
+	mov    QWORD PTR [r9+0x8],rcx
+	xor    eax,eax
+9:
 	add    rsp,0x8
 	pop    rbx
 	pop    r12
@@ -263,16 +293,14 @@
 	pop    r15
 	pop    rbp
 	ret
-9:
-	mov    rdi,r15
+12:
+	mov    r14,rcx
 	mov    rsi,rbx
 	call   const_hex_body_locate_invalid
-	sub    rbp,rbx
-	add    rbp,rdx
+	mov    rsi,r12
+	mov    rcx,r14
+	add    rcx,rdx
 	movzx  eax,al
-	mov    QWORD PTR [r13+0x0],0x0
-	mov    ecx,0x3
-	mov    r9,r12
 	jmp    7b
 	end SYMBOL(const_hex_decode_nonnull)
 
@@ -507,7 +535,7 @@
 	mov    rcx,QWORD PTR [rsp+0x18]
 	mov    rdx,QWORD PTR [rsp+0x8]
 	mov    QWORD PTR [rdx],0x0
-	lea    rdx,[rip + const_hex_constant_1]
+	lea    rdx,[rip + const_hex_constant_2]
 	movsxd rdi,DWORD PTR [rdx+rax*4]
 	add    rdi,rdx
 	jmp    rdi
@@ -529,11 +557,11 @@
 	jmp    22b
 	end SYMBOL(const_hex_decoder_update_nonnull)
 
-	constant const_hex_constant_1, 2
-	.long 23b - const_hex_constant_1
-	.long 12b - const_hex_constant_1
-	.long 24b - const_hex_constant_1
-	.long 25b - const_hex_constant_1
+	constant const_hex_constant_2, 2
+	.long 23b - const_hex_constant_2
+	.long 12b - const_hex_constant_2
+	.long 24b - const_hex_constant_2
+	.long 25b - const_hex_constant_2
 
 /* const_hex_c::const_hex_encode */
 	exported SYMBOL(const_hex_encode)
@@ -637,15 +665,15 @@
 	je     2f
 	cmp    eax,0x1
 	jne    4f
-	lea    rdi,[rip + const_hex_constant_2]
+	lea    rdi,[rip + const_hex_constant_3]
 	mov    esi,0x14
 	jmp    const_hex_message_write_ended
 2:
-	lea    rdi,[rip + const_hex_constant_3]
+	lea    rdi,[rip + const_hex_constant_4]
 	mov    esi,0x15
 	jmp    const_hex_message_write_ended
 3:
-	lea    rdi,[rip + const_hex_constant_4]
+	lea    rdi,[rip + const_hex_constant_5]
 	mov    esi,0xd
 	jmp    const_hex_message_write_ended
 4:
@@ -704,7 +732,7 @@
 	movzx  eax,r9b
 	cmp    al,0x27
 	ja     12f
-	lea    rdx,[rip + const_hex_constant_5]
+	lea    rdx,[rip + const_hex_constant_6]
 	movsxd rsi,DWORD PTR [rdx+rax*4]
 	add    rsi,rdx
 	mov    rdx,r10
@@ -725,7 +753,7 @@
 14:
 	mov    edi,eax
 	and    edi,0xf
-	lea    rsi,[rip + const_hex_constant_6]
+	lea    rsi,[rip + const_hex_constant_7]
 	movzx  edi,BYTE PTR [rdi+rsi*1]
 	or     edi,0x7d00
 	mov    WORD PTR [rsp+r8*1-0x11],di
@@ -764,7 +792,7 @@
 21:
 	lea    rdi,[rsp+r8*1]
 	add    rdi,0xffffffffffffffed
-	movups xmm0,XMMWORD PTR [rip + const_hex_constant_7]
+	movups xmm0,XMMWORD PTR [rip + const_hex_constant_8]
 	movups XMMWORD PTR [rsp+r8*1-0x13],xmm0
 	mov    DWORD PTR [rsp+r8*1-0x4],0x27207265
 	mov    esi,0x4e
@@ -794,47 +822,47 @@
 	jmp    21b
 	end SYMBOL(const_hex_error_message)
 
-	constant const_hex_constant_5, 2
-	.long 9b - const_hex_constant_5
-	.long 13b - const_hex_constant_5
-	.long 13b - const_hex_constant_5
-	.long 13b - const_hex_constant_5
-	.long 13b - const_hex_constant_5
-	.long 13b - const_hex_constant_5
-	.long 13b - const_hex_constant_5
-	.long 13b - const_hex_constant_5
-	.long 13b - const_hex_constant_5
-	.long 16b - const_hex_constant_5
-	.long 17b - const_hex_constant_5
-	.long 13b - const_hex_constant_5
-	.long 13b - const_hex_constant_5
-	.long 18b - const_hex_constant_5
-	.long 13b - const_hex_constant_5
-	.long 13b - const_hex_constant_5
-	.long 13b - const_hex_constant_5
-	.long 13b - const_hex_constant_5
-	.long 13b - const_hex_constant_5
-	.long 13b - const_hex_constant_5
-	.long 13b - const_hex_constant_5
-	.long 13b - const_hex_constant_5
-	.long 13b - const_hex_constant_5
-	.long 13b - const_hex_constant_5
-	.long 13b - const_hex_constant_5
-	.long 13b - const_hex_constant_5
-	.long 13b - const_hex_constant_5
-	.long 13b - const_hex_constant_5
-	.long 13b - const_hex_constant_5
-	.long 13b - const_hex_constant_5
-	.long 13b - const_hex_constant_5
-	.long 13b - const_hex_constant_5
-	.long 13b - const_hex_constant_5
-	.long 13b - const_hex_constant_5
-	.long 13b - const_hex_constant_5
-	.long 13b - const_hex_constant_5
-	.long 13b - const_hex_constant_5
-	.long 13b - const_hex_constant_5
-	.long 13b - const_hex_constant_5
-	.long 15b - const_hex_constant_5
+	constant const_hex_constant_6, 2
+	.long 9b - const_hex_constant_6
+	.long 13b - const_hex_constant_6
+	.long 13b - const_hex_constant_6
+	.long 13b - const_hex_constant_6
+	.long 13b - const_hex_constant_6
+	.long 13b - const_hex_constant_6
+	.long 13b - const_hex_constant_6
+	.long 13b - const_hex_constant_6
+	.long 13b - const_hex_constant_6
+	.long 16b - const_hex_constant_6
+	.long 17b - const_hex_constant_6
+	.long 13b - const_hex_constant_6
+	.long 13b - const_hex_constant_6
+	.long 18b - const_hex_constant_6
+	.long 13b - const_hex_constant_6
+	.long 13b - const_hex_constant_6
+	.long 13b - const_hex_constant_6
+	.long 13b - const_hex_constant_6
+	.long 13b - const_hex_constant_6
+	.long 13b - const_hex_constant_6
+	.long 13b - const_hex_constant_6
+	.long 13b - const_hex_constant_6
+	.long 13b - const_hex_constant_6
+	.long 13b - const_hex_constant_6
+	.long 13b - const_hex_constant_6
+	.long 13b - const_hex_constant_6
+	.long 13b - const_hex_constant_6
+	.long 13b - const_hex_constant_6
+	.long 13b - const_hex_constant_6
+	.long 13b - const_hex_constant_6
+	.long 13b - const_hex_constant_6
+	.long 13b - const_hex_constant_6
+	.long 13b - const_hex_constant_6
+	.long 13b - const_hex_constant_6
+	.long 13b - const_hex_constant_6
+	.long 13b - const_hex_constant_6
+	.long 13b - const_hex_constant_6
+	.long 13b - const_hex_constant_6
+	.long 13b - const_hex_constant_6
+	.long 15b - const_hex_constant_6
 
 /* const_hex_c::const_hex_version */
 	exported SYMBOL(const_hex_version)
@@ -845,69 +873,56 @@
 
 /* const_hex::codec::body::locate_invalid */
 	function const_hex_body_locate_invalid
-	test   rsi,rsi
-	je     3f
-	movzx  eax,BYTE PTR [rdi]
-	lea    rcx,[rip + const_hex_constant_8]
-	cmp    BYTE PTR [rax+rcx*1],0xff
-	je     4f
 	cmp    rsi,0x4
-	jb     5f
+	jb     3f
 	lea    rax,[rsi-0x4]
 	mov    edx,0x2
-	.byte 0x66, 0x66, 0x66, 0x2e, 0xf, 0x1f, 0x84, 0x0, 0x0, 0x0, 0x0, 0x0  /* data16 data16 cs nop WORD PTR [rax+rax*1+0x0] */
+	nop
 2:
 	movzx  r8d,BYTE PTR [rdi+rdx*1-0x2]
 	movzx  r9d,BYTE PTR [rdi+rdx*1-0x1]
+	lea    rcx,[rip + const_hex_constant_1]
 	movzx  r9d,BYTE PTR [r9+rcx*1]
 	or     r9b,BYTE PTR [r8+rcx*1]
-	js     9f
+	js     7f
 	movzx  r8d,BYTE PTR [rdi+rdx*1]
 	movzx  r9d,BYTE PTR [rdi+rdx*1+0x1]
 	movzx  r9d,BYTE PTR [r9+rcx*1]
 	or     r9b,BYTE PTR [r8+rcx*1]
-	js     6f
-	lea    r8,[rdx+0x4]
+	js     4f
+	lea    rcx,[rdx+0x4]
 	add    rdx,0x2
 	cmp    rdx,rax
-	mov    rdx,r8
+	mov    rdx,rcx
 	jbe    2b
-	add    r8,0xfffffffffffffffe
-	mov    rdx,r8
+	add    rcx,0xfffffffffffffffe
+	mov    rdx,rcx
 	cmp    rdx,rsi
-	jb     7f
-	jmp    12f
+	jb     5f
+	jmp    8f
 3:
 	xor    edx,edx
-	cmp    rdx,rsi
-	jb     7f
-	jmp    12f
 4:
-	xor    edx,edx
-	ret
-5:
-	xor    edx,edx
-6:
 	cmp    rdx,rsi
-	jae    12f
-	.byte 0x66, 0x90  /* xchg   ax,ax */
-7:
+	jae    8f
+	.byte 0xf, 0x1f, 0x80, 0x0, 0x0, 0x0, 0x0  /* nop    DWORD PTR [rax+0x0] */
+5:
 	movzx  eax,BYTE PTR [rdi+rdx*1]
-	lea    rcx,[rip + const_hex_constant_8]
+	lea    rcx,[rip + const_hex_constant_1]
 	cmp    BYTE PTR [rax+rcx*1],0xff
-	je     8f
+	je     6f
 	inc    rdx
 	cmp    rsi,rdx
-	jne    7b
+	jne    5b
 	xor    eax,eax
 	mov    rdx,rsi
-8:
+6:
 	ret
-9:
+7:
 	add    rdx,0xfffffffffffffffe
 	cmp    rdx,rsi
-	jb     7b
-12:
+	jb     5b
+8:
 	xor    eax,eax
 	ret
 	end const_hex_body_locate_invalid
@@ -991,7 +1006,7 @@
 2:
 	movzx  r11d,BYTE PTR [rcx+rax*1-0x2]
 	movzx  ebx,BYTE PTR [rcx+rax*1-0x1]
-	lea    r10,[rip + const_hex_constant_8]
+	lea    r10,[rip + const_hex_constant_1]
 	movzx  ebx,BYTE PTR [rbx+r10*1]
 	or     bl,BYTE PTR [r11+r10*1]
 	js     6f
@@ -1018,7 +1033,7 @@
 	.byte 0x66, 0xf, 0x1f, 0x84, 0x0, 0x0, 0x0, 0x0, 0x0  /* nop    WORD PTR [rax+rax*1+0x0] */
 5:
 	movzx  r9d,BYTE PTR [rcx+rax*1]
-	lea    r10,[rip + const_hex_constant_8]
+	lea    r10,[rip + const_hex_constant_1]
 	cmp    BYTE PTR [r9+r10*1],0xff
 	je     8f
 	inc    rax
@@ -1080,25 +1095,7 @@
 	ret
 	end const_hex_message_write_ended
 
-	constant const_hex_constant_2, 0
-	.byte 0x6f, 0x64, 0x64, 0x20, 0x6e, 0x75, 0x6d, 0x62, 0x65, 0x72, 0x20, 0x6f, 0x66, 0x20, 0x64, 0x69
-	.byte 0x67, 0x69, 0x74, 0x73
-
-	constant const_hex_constant_3, 0
-	.byte 0x69, 0x6e, 0x76, 0x61, 0x6c, 0x69, 0x64, 0x20, 0x73, 0x74, 0x72, 0x69, 0x6e, 0x67, 0x20, 0x6c
-	.byte 0x65, 0x6e, 0x67, 0x74, 0x68
-
-	constant const_hex_constant_4, 0
-	.byte 0x6f, 0x75, 0x74, 0x20, 0x6f, 0x66, 0x20, 0x6d, 0x65, 0x6d, 0x6f, 0x72, 0x79
-
-	constant const_hex_constant_6, 4
-	.byte 0x30, 0x31, 0x32, 0x33, 0x34, 0x35, 0x36, 0x37, 0x38, 0x39, 0x61, 0x62, 0x63, 0x64, 0x65, 0x66
-
-	constant const_hex_constant_7, 0
-	.byte 0x69, 0x6e, 0x76, 0x61, 0x6c, 0x69, 0x64, 0x20, 0x63, 0x68, 0x61, 0x72, 0x61, 0x63, 0x74, 0x65
-	.byte 0x72, 0x20, 0x27
-
-	constant const_hex_constant_8, 0
+	constant const_hex_constant_1, 0
 	.byte 0xff, 0xff, 0xff, 0xff, 0xff, 0xff, 0xff, 0xff, 0xff, 0xff, 0xff, 0xff, 0xff, 0xff, 0xff, 0xff
 	.byte 0xff, 0xff, 0xff, 0xff, 0xff, 0xff, 0xff, 0xff, 0xff, 0xff, 0xff, 0xff, 0xff, 0xff, 0xff, 0xff
 	.byte 0xff, 0xff, 0xff, 0xff, 0xff, 0xff, 0xff, 0xff, 0xff, 0xff, 0xff, 0xff, 0xff, 0xff, 0xff, 0xff
@@ -1115,5 +1112,23 @@
 	.byte 0xff, 0xff, 0xff, 0xff, 0xff, 0xff, 0xff, 0xff, 0xff, 0xff, 0xff, 0xff, 0xff, 0xff, 0xff, 0xff
 	.byte 0xff, 0xff, 0xff, 0xff, 0xff, 0xff, 0xff, 0xff, 0xff, 0xff, 0xff, 0xff, 0xff, 0xff, 0xff, 0xff
 	.byte 0xff, 0xff, 0xff, 0xff, 0xff, 0xff, 0xff, 0xff, 0xff, 0xff, 0xff, 0xff, 0xff, 0xff, 0xff, 0xff
+
+	constant const_hex_constant_3, 0
+	.byte 0x6f, 0x64, 0x64, 0x20, 0x6e, 0x75, 0x6d, 0x62, 0x65, 0x72, 0x20, 0x6f, 0x66, 0x20, 0x64, 0x69
+	.byte 0x67, 0x69, 0x74, 0x73
+
+	constant const_hex_constant_4, 0
+	.byte 0x69, 0x6e, 0x76, 0x61, 0x6c, 0x69, 0x64, 0x20, 0x73, 0x74, 0x72, 0x69, 0x6e, 0x67, 0x20, 0x6c
+	.byte 0x65, 0x6e, 0x67, 0x74, 0x68
+
+	constant const_hex_constant_5, 0
+	.byte 0x6f, 0x75, 0x74, 0x20, 0x6f, 0x66, 0x20, 0x6d, 0x65, 0x6d, 0x6f, 0x72, 0x79
+
+	constant const_hex_constant_7, 4
+	.byte 0x30, 0x31, 0x32, 0x33, 0x34, 0x35, 0x36, 0x37, 0x38, 0x39, 0x61, 0x62, 0x63, 0x64, 0x65, 0x66
+
+	constant const_hex_constant_8, 0
+	.byte 0x69, 0x6e, 0x76, 0x61, 0x6c, 0x69, 0x64, 0x20, 0x63, 0x68, 0x61, 0x72, 0x61, 0x63, 0x74, 0x65
+	.byte 0x72, 0x20, 0x27
 
 #endif

@@ -85,7 +85,7 @@ pub use crate::traits::{FromHex, ToHex};
 
 use crate::proved::codec::body::{find_invalid_character, strip_even};
 #[cfg(feature = "alloc")]
-use crate::proved::codec::body::{invalid_character, locate_invalid};
+use crate::proved::codec::body::{invalid_character, invalid_first, locate_invalid};
 use crate::proved::codec::encoders::encode_full_to_slice;
 use crate::proved::codec::{checks, decoders};
 #[cfg(feature = "alloc")]
@@ -232,7 +232,10 @@ pub fn decode<T: AsRef<[u8]>>(data: T) -> Result<Vec<u8>, FromHexError> {
 #[cold]
 fn drop_and_locate(digits: &[u8], bytes: Vec<u8>) -> (u8, usize) {
     drop(bytes);
-    locate_invalid(digits)
+    match invalid_first(digits) {
+        Some(byte) => (byte, 0),
+        None => locate_invalid(digits),
+    }
 }
 
 /// Appends the bytes that a text decodes to to a vector, and returns their number, or the errors of [`check`].

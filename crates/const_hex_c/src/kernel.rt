@@ -2,7 +2,7 @@
 //! these functions.
 //!
 //! `c/asm/freeze` writes what `rt` makes of `fill`, `check` and `read`, for AArch64 of `interleaved_fill`,
-//! `check` and `interleaved_read`, where it changes the stores of a loop. They require that the lengths fit, which
+//! `interleaved_check` and `interleaved_read`, where it changes the stores of a loop. They require that the lengths fit, which
 //! their callers make sure of, and which registers hold their arguments is left to the compiler:
 //! `machine_code` proves their code with the arguments where `rust/src/kernel/machine_code.rs` passes them.
 
@@ -82,6 +82,14 @@ fn interleaved_fill(bytes: &[u8], upper: bool, text: &mut [u8])
     Interleaved::fill(bytes, upper, text);
 }
 
+/// As `check`, for AArch64.
+#[inline(never)]
+fn interleaved_check(text: &[u8]) -> bool
+    ensures { IsTrue result ↔ AllDigits text.now }
+{
+    Interleaved::check(text)
+}
+
 /// As `read`, for AArch64.
 #[inline(never)]
 fn interleaved_read(text: &[u8], bytes: &mut [u8]) -> bool
@@ -93,7 +101,7 @@ fn interleaved_read(text: &[u8], bytes: &mut [u8]) -> bool
 }
 
 /// Calls `interleaved_fill` if the text has two characters for each byte, and returns whether it has. No header has this
-/// function and the next one: `rt` compiles what they call only because an exported function calls it.
+/// function and the next two: `rt` compiles what they call only because an exported function calls it.
 #[unsafe(no_mangle)]
 pub extern "C" fn const_hex_interleaved_fill(bytes: &[u8], upper: bool, text: &mut [u8]) -> bool
     ensures fits { IsTrue result ↔ (2 * length bytes.now ≡ length text.old) }
@@ -105,6 +113,14 @@ pub extern "C" fn const_hex_interleaved_fill(bytes: &[u8], upper: bool, text: &m
     }
     interleaved_fill(bytes, upper, text);
     true
+}
+
+/// Calls `interleaved_check`.
+#[unsafe(no_mangle)]
+pub extern "C" fn const_hex_interleaved_check(text: &[u8]) -> bool
+    ensures { IsTrue result ↔ AllDigits text.now }
+{
+    interleaved_check(text)
 }
 
 /// Calls `interleaved_read` if the text has two characters for each byte, and returns false otherwise.

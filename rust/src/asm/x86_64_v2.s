@@ -6,23 +6,21 @@
 	hidden const_hex_1_0_0_check_v2
 	function const_hex_1_0_0_check_v2
 	cmp    rsi,0x1f
-	ja     2f
-	cmp    rsi,0xf
-	ja     4f
-	cmp    rsi,0x8
-	jb     6f
-	movq   xmm0,QWORD PTR [rdi+rsi*1-0x8]
-	movq   xmm1,QWORD PTR [rdi]
-	punpcklqdq xmm1,xmm0
-	movdqa xmm0,XMMWORD PTR [rip + const_hex_1_0_0_constant_1_v2]
-	paddb  xmm0,xmm1
+	ja     3f
+	cmp    rsi,0x10
+	jb     5f
+	jne    8f
+	movdqu xmm0,XMMWORD PTR [rdi]
+2:
+	movdqa xmm1,XMMWORD PTR [rip + const_hex_1_0_0_constant_1_v2]
+	paddb  xmm1,xmm0
 	movdqa xmm2,XMMWORD PTR [rip + const_hex_1_0_0_constant_2_v2]
-	pshufb xmm2,xmm1
-	psubusb xmm0,xmm2
-	ptest  xmm0,XMMWORD PTR [rip + const_hex_1_0_0_constant_3_v2]
+	pshufb xmm2,xmm0
+	psubusb xmm1,xmm2
+	ptest  xmm1,XMMWORD PTR [rip + const_hex_1_0_0_constant_3_v2]
 	sete   al
 	ret
-2:
+3:
 	movdqa xmm0,XMMWORD PTR [rip + const_hex_1_0_0_constant_1_v2]
 	movdqu xmm2,XMMWORD PTR [rdi]
 	movdqu xmm3,XMMWORD PTR [rdi+0x10]
@@ -37,38 +35,31 @@
 	psubusb xmm3,xmm4
 	por    xmm3,xmm2
 	ptest  xmm3,XMMWORD PTR [rip + const_hex_1_0_0_constant_3_v2]
-	je     5f
-3:
+	je     7f
+4:
 	xor    eax,eax
 	ret
-4:
-	cmp    rsi,0x10
-	jne    8f
-	movdqu xmm0,XMMWORD PTR [rdi]
-	jmp    7f
 5:
-	cmp    rsi,0x41
-	jae    9f
-	mov    al,0x1
-	cmp    rsi,0x20
-	jne    16f
-	ret
+	cmp    rsi,0x2
+	jne    9f
+	movzx  eax,WORD PTR [rdi]
+	movd   xmm0,eax
 6:
-	cmp    rsi,0x4
-	jb     14f
-	movd   xmm0,DWORD PTR [rdi]
-	pinsrd xmm0,DWORD PTR [rdi+rsi*1-0x4],0x1
-	mov    eax,0x30303030
-	pinsrd xmm0,eax,0x2
-	pinsrd xmm0,eax,0x3
-7:
 	movdqa xmm1,XMMWORD PTR [rip + const_hex_1_0_0_constant_1_v2]
 	paddb  xmm1,xmm0
 	movdqa xmm2,XMMWORD PTR [rip + const_hex_1_0_0_constant_2_v2]
 	pshufb xmm2,xmm0
 	psubusb xmm1,xmm2
-	ptest  xmm1,XMMWORD PTR [rip + const_hex_1_0_0_constant_3_v2]
+	movd   eax,xmm1
+	test   eax,0xd8d8
 	sete   al
+	ret
+7:
+	cmp    rsi,0x41
+	jae    12f
+	mov    al,0x1
+	cmp    rsi,0x20
+	jne    17f
 	ret
 8:
 	movdqu xmm0,XMMWORD PTR [rdi]
@@ -87,12 +78,26 @@
 	sete   al
 	ret
 9:
+	cmp    rsi,0x8
+	jb     15f
+	movq   xmm0,QWORD PTR [rdi+rsi*1-0x8]
+	movq   xmm1,QWORD PTR [rdi]
+	punpcklqdq xmm1,xmm0
+	movdqa xmm0,XMMWORD PTR [rip + const_hex_1_0_0_constant_1_v2]
+	paddb  xmm0,xmm1
+	movdqa xmm2,XMMWORD PTR [rip + const_hex_1_0_0_constant_2_v2]
+	pshufb xmm2,xmm1
+	psubusb xmm0,xmm2
+	ptest  xmm0,XMMWORD PTR [rip + const_hex_1_0_0_constant_3_v2]
+	sete   al
+	ret
+12:
 	lea    rcx,[rsi-0x20]
 	mov    eax,0x20
 	cmp    rcx,0x81
-	jb     13f
-	.byte 0x66, 0x66, 0x66, 0x66, 0x66, 0x2e, 0xf, 0x1f, 0x84, 0x0, 0x0, 0x0, 0x0, 0x0  /* data16 data16 data16 data16 cs nop WORD PTR [rax+rax*1+0x0] */
-12:
+	jb     14f
+	.byte 0x66, 0x66, 0x66, 0x2e, 0xf, 0x1f, 0x84, 0x0, 0x0, 0x0, 0x0, 0x0  /* data16 data16 cs nop WORD PTR [rax+rax*1+0x0] */
+13:
 	movdqu xmm4,XMMWORD PTR [rdi+rax*1]
 	movdqu xmm5,XMMWORD PTR [rdi+rax*1+0x10]
 	movdqu xmm3,XMMWORD PTR [rdi+rax*1+0x20]
@@ -141,16 +146,16 @@
 	por    xmm6,xmm2
 	por    xmm6,xmm7
 	ptest  xmm6,XMMWORD PTR [rip + const_hex_1_0_0_constant_3_v2]
-	jne    3b
+	jne    4b
 	sub    rax,0xffffffffffffff80
 	add    rcx,0xffffffffffffff80
 	cmp    rcx,0x80
-	ja     12b
-13:
+	ja     13b
+14:
 	cmp    rcx,0x41
-	jb     15f
+	jb     16f
 	cmp    rcx,0x61
-	jb     17f
+	jb     19f
 	movdqu xmm4,XMMWORD PTR [rdi+rax*1]
 	movdqu xmm5,XMMWORD PTR [rdi+rax*1+0x10]
 	movdqu xmm3,XMMWORD PTR [rdi+rax*1+0x20]
@@ -195,20 +200,19 @@
 	por    xmm0,xmm3
 	psubusb xmm7,xmm1
 	por    xmm7,xmm4
-	jmp    18f
-14:
-	test   rsi,rsi
-	je     21f
-	cmp    rsi,0x1
-	je     19f
-	cmp    rsi,0x2
-	jne    22f
-	movzx  eax,WORD PTR [rdi]
-	movd   xmm0,eax
 	jmp    20f
 15:
+	cmp    rsi,0x4
+	jb     18f
+	movd   xmm0,DWORD PTR [rdi]
+	pinsrd xmm0,DWORD PTR [rdi+rsi*1-0x4],0x1
+	mov    eax,0x30303030
+	pinsrd xmm0,eax,0x2
+	pinsrd xmm0,eax,0x3
+	jmp    2b
+16:
 	cmp    rcx,0x21
-	jb     16f
+	jb     17f
 	movdqu xmm3,XMMWORD PTR [rdi+rax*1]
 	movdqu xmm2,XMMWORD PTR [rdi+rax*1+0x10]
 	movdqa xmm4,xmm1
@@ -234,7 +238,7 @@
 	ptest  xmm5,XMMWORD PTR [rip + const_hex_1_0_0_constant_3_v2]
 	sete   al
 	ret
-16:
+17:
 	movdqu xmm2,XMMWORD PTR [rdi+rsi*1-0x20]
 	movdqu xmm3,XMMWORD PTR [rdi+rsi*1-0x10]
 	movdqa xmm4,xmm1
@@ -248,7 +252,18 @@
 	ptest  xmm0,XMMWORD PTR [rip + const_hex_1_0_0_constant_3_v2]
 	sete   al
 	ret
-17:
+18:
+	test   rsi,rsi
+	je     21f
+	cmp    rsi,0x1
+	jne    22f
+	movzx  eax,BYTE PTR [rdi]
+	mov    ecx,eax
+	shl    ecx,0x8
+	or     ecx,eax
+	movd   xmm0,ecx
+	jmp    6b
+19:
 	movdqu xmm5,XMMWORD PTR [rdi+rsi*1-0x20]
 	movdqu xmm6,XMMWORD PTR [rdi+rsi*1-0x10]
 	movdqa xmm2,xmm1
@@ -281,26 +296,10 @@
 	psubusb xmm0,xmm5
 	por    xmm0,xmm3
 	psubusb xmm7,xmm1
-18:
+20:
 	por    xmm7,xmm2
 	por    xmm7,xmm0
 	ptest  xmm7,XMMWORD PTR [rip + const_hex_1_0_0_constant_3_v2]
-	sete   al
-	ret
-19:
-	movzx  eax,BYTE PTR [rdi]
-	mov    ecx,eax
-	shl    ecx,0x8
-	or     ecx,eax
-	movd   xmm0,ecx
-20:
-	movdqa xmm1,XMMWORD PTR [rip + const_hex_1_0_0_constant_1_v2]
-	paddb  xmm1,xmm0
-	movdqa xmm2,XMMWORD PTR [rip + const_hex_1_0_0_constant_2_v2]
-	pshufb xmm2,xmm0
-	psubusb xmm1,xmm2
-	movd   eax,xmm1
-	test   eax,0xd8d8
 	sete   al
 	ret
 21:
@@ -317,7 +316,7 @@
 	pinsrw xmm0,eax,0x5
 	pinsrw xmm0,eax,0x6
 	pinsrw xmm0,eax,0x7
-	jmp    7b
+	jmp    2b
 	end const_hex_1_0_0_check_v2
 
 /* const_hex_c::kernel::fill */

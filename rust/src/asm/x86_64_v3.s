@@ -7,14 +7,11 @@
 	function const_hex_1_0_0_check_v3
 	cmp    rsi,0x1f
 	ja     2f
-	cmp    rsi,0xf
-	ja     4f
-	cmp    rsi,0x8
-	jb     6f
-	vmovq  xmm0,QWORD PTR [rdi+rsi*1-0x8]
-	vmovq  xmm1,QWORD PTR [rdi]
-	vpunpcklqdq xmm0,xmm1,xmm0
-	jmp    7f
+	cmp    rsi,0x10
+	jb     4f
+	jne    7f
+	vmovdqu xmm0,XMMWORD PTR [rdi]
+	jmp    21f
 2:
 	vmovdqu ymm0,YMMWORD PTR [rdi]
 	vpaddb ymm2,ymm0,YMMWORD PTR [rip + const_hex_1_0_0_constant_1_v3]
@@ -23,17 +20,26 @@
 	vpsubusb ymm2,ymm2,ymm0
 	vpbroadcastq ymm0,QWORD PTR [rip + const_hex_1_0_0_constant_3_v3]
 	vptest ymm2,ymm0
-	je     5f
+	je     6f
 3:
 	xor    eax,eax
 	vzeroupper
 	ret
 4:
-	cmp    rsi,0x10
+	cmp    rsi,0x2
 	jne    8f
-	vmovdqu xmm0,XMMWORD PTR [rdi]
-	jmp    7f
+	movzx  eax,WORD PTR [rdi]
+	vmovd  xmm0,eax
 5:
+	vpaddb xmm1,xmm0,XMMWORD PTR [rip + const_hex_1_0_0_constant_4_v3]
+	vmovdqa xmm2,XMMWORD PTR [rip + const_hex_1_0_0_constant_2_v3]
+	vpshufb xmm0,xmm2,xmm0
+	vpsubusb xmm0,xmm1,xmm0
+	vmovd  eax,xmm0
+	test   eax,0xd8d8
+	sete   al
+	ret
+6:
 	cmp    rsi,0x41
 	jae    9f
 	mov    al,0x1
@@ -41,26 +47,10 @@
 	jne    16f
 	vzeroupper
 	ret
-6:
-	cmp    rsi,0x4
-	jb     14f
-	vmovd  xmm0,DWORD PTR [rdi]
-	vpinsrd xmm0,xmm0,DWORD PTR [rdi+rsi*1-0x4],0x1
-	mov    eax,0x30303030
-	vpinsrd xmm0,xmm0,eax,0x2
-	vpinsrd xmm0,xmm0,eax,0x3
 7:
-	vpaddb xmm1,xmm0,XMMWORD PTR [rip + const_hex_1_0_0_constant_4_v3]
-	vmovdqa xmm2,XMMWORD PTR [rip + const_hex_1_0_0_constant_2_v3]
-	vpshufb xmm0,xmm2,xmm0
-	vpsubusb xmm0,xmm1,xmm0
-	vptest xmm0,XMMWORD PTR [rip + const_hex_1_0_0_constant_5_v3]
-	sete   al
-	ret
-8:
 	vmovdqu xmm0,XMMWORD PTR [rdi]
 	vmovdqu xmm1,XMMWORD PTR [rdi+rsi*1-0x10]
-	vpbroadcastd xmm2,DWORD PTR [rip + const_hex_1_0_0_constant_6_v3]
+	vpbroadcastd xmm2,DWORD PTR [rip + const_hex_1_0_0_constant_5_v3]
 	vpaddb xmm3,xmm0,xmm2
 	vmovdqa xmm4,XMMWORD PTR [rip + const_hex_1_0_0_constant_2_v3]
 	vpshufb xmm0,xmm4,xmm0
@@ -69,17 +59,24 @@
 	vpshufb xmm1,xmm4,xmm1
 	vpsubusb xmm1,xmm2,xmm1
 	vpor   xmm0,xmm1,xmm0
-	vptest xmm0,XMMWORD PTR [rip + const_hex_1_0_0_constant_5_v3]
+	vptest xmm0,XMMWORD PTR [rip + const_hex_1_0_0_constant_6_v3]
 	sete   al
 	ret
+8:
+	cmp    rsi,0x8
+	jb     14f
+	vmovq  xmm0,QWORD PTR [rdi+rsi*1-0x8]
+	vmovq  xmm1,QWORD PTR [rdi]
+	vpunpcklqdq xmm0,xmm1,xmm0
+	jmp    21f
 9:
 	lea    rcx,[rsi-0x20]
 	mov    eax,0x20
 	cmp    rcx,0x81
 	jb     13f
-	.byte 0xf, 0x1f, 0x84, 0x0, 0x0, 0x0, 0x0, 0x0  /* nop    DWORD PTR [rax+rax*1+0x0] */
+	.byte 0x66, 0x66, 0x2e, 0xf, 0x1f, 0x84, 0x0, 0x0, 0x0, 0x0, 0x0  /* data16 cs nop WORD PTR [rax+rax*1+0x0] */
 12:
-	vpbroadcastd ymm2,DWORD PTR [rip + const_hex_1_0_0_constant_6_v3]
+	vpbroadcastd ymm2,DWORD PTR [rip + const_hex_1_0_0_constant_5_v3]
 	vmovdqu ymm3,YMMWORD PTR [rdi+rax*1]
 	vmovdqu ymm4,YMMWORD PTR [rdi+rax*1+0x20]
 	vmovdqu ymm5,YMMWORD PTR [rdi+rax*1+0x40]
@@ -109,10 +106,10 @@
 	cmp    rcx,0x41
 	jb     15f
 	cmp    rcx,0x61
-	jb     17f
+	jb     18f
 	vmovdqu ymm2,YMMWORD PTR [rdi+rax*1]
 	vmovdqu ymm3,YMMWORD PTR [rdi+rax*1+0x20]
-	vpbroadcastd ymm4,DWORD PTR [rip + const_hex_1_0_0_constant_6_v3]
+	vpbroadcastd ymm4,DWORD PTR [rip + const_hex_1_0_0_constant_5_v3]
 	vpaddb ymm5,ymm2,ymm4
 	vpshufb ymm2,ymm1,ymm2
 	vpsubusb ymm2,ymm5,ymm2
@@ -135,21 +132,20 @@
 	vzeroupper
 	ret
 14:
-	test   rsi,rsi
-	je     20f
-	cmp    rsi,0x1
-	je     18f
-	cmp    rsi,0x2
-	jne    21f
-	movzx  eax,WORD PTR [rdi]
-	vmovd  xmm0,eax
-	jmp    19f
+	cmp    rsi,0x4
+	jb     17f
+	vmovd  xmm0,DWORD PTR [rdi]
+	vpinsrd xmm0,xmm0,DWORD PTR [rdi+rsi*1-0x4],0x1
+	mov    eax,0x30303030
+	vpinsrd xmm0,xmm0,eax,0x2
+	vpinsrd xmm0,xmm0,eax,0x3
+	jmp    21f
 15:
 	cmp    rcx,0x21
 	jb     16f
 	vmovdqu ymm2,YMMWORD PTR [rdi+rax*1]
 	vmovdqu ymm3,YMMWORD PTR [rdi+rsi*1-0x20]
-	vpbroadcastd ymm4,DWORD PTR [rip + const_hex_1_0_0_constant_6_v3]
+	vpbroadcastd ymm4,DWORD PTR [rip + const_hex_1_0_0_constant_5_v3]
 	vpaddb ymm5,ymm2,ymm4
 	vpshufb ymm2,ymm1,ymm2
 	vpsubusb ymm2,ymm5,ymm2
@@ -171,8 +167,19 @@
 	vzeroupper
 	ret
 17:
+	test   rsi,rsi
+	je     19f
+	cmp    rsi,0x1
+	jne    20f
+	movzx  eax,BYTE PTR [rdi]
+	mov    ecx,eax
+	shl    ecx,0x8
+	or     ecx,eax
+	vmovd  xmm0,ecx
+	jmp    5b
+18:
 	vmovdqu ymm2,YMMWORD PTR [rdi+rsi*1-0x20]
-	vpbroadcastd ymm3,DWORD PTR [rip + const_hex_1_0_0_constant_6_v3]
+	vpbroadcastd ymm3,DWORD PTR [rip + const_hex_1_0_0_constant_5_v3]
 	vpaddb ymm4,ymm2,ymm3
 	vpshufb ymm2,ymm1,ymm2
 	vpsubusb ymm2,ymm4,ymm2
@@ -190,25 +197,10 @@
 	sete   al
 	vzeroupper
 	ret
-18:
-	movzx  eax,BYTE PTR [rdi]
-	mov    ecx,eax
-	shl    ecx,0x8
-	or     ecx,eax
-	vmovd  xmm0,ecx
 19:
-	vpaddb xmm1,xmm0,XMMWORD PTR [rip + const_hex_1_0_0_constant_4_v3]
-	vmovdqa xmm2,XMMWORD PTR [rip + const_hex_1_0_0_constant_2_v3]
-	vpshufb xmm0,xmm2,xmm0
-	vpsubusb xmm0,xmm1,xmm0
-	vmovd  eax,xmm0
-	test   eax,0xd8d8
-	sete   al
-	ret
-20:
 	mov    al,0x1
 	ret
-21:
+20:
 	movzx  eax,WORD PTR [rdi]
 	vmovd  xmm0,eax
 	vpinsrw xmm0,xmm0,WORD PTR [rdi+rsi*1-0x2],0x1
@@ -219,7 +211,14 @@
 	vpinsrw xmm0,xmm0,eax,0x5
 	vpinsrw xmm0,xmm0,eax,0x6
 	vpinsrw xmm0,xmm0,eax,0x7
-	jmp    7b
+21:
+	vpaddb xmm1,xmm0,XMMWORD PTR [rip + const_hex_1_0_0_constant_4_v3]
+	vmovdqa xmm2,XMMWORD PTR [rip + const_hex_1_0_0_constant_2_v3]
+	vpshufb xmm0,xmm2,xmm0
+	vpsubusb xmm0,xmm1,xmm0
+	vptest xmm0,XMMWORD PTR [rip + const_hex_1_0_0_constant_6_v3]
+	sete   al
+	ret
 	end const_hex_1_0_0_check_v3
 
 /* const_hex_c::kernel::fill */
@@ -440,7 +439,7 @@
 	mov    r8,rdx
 	.byte 0xf, 0x1f, 0x44, 0x0, 0x0  /* nop    DWORD PTR [rax+rax*1+0x0] */
 3:
-	vpbroadcastd ymm3,DWORD PTR [rip + const_hex_1_0_0_constant_6_v3]
+	vpbroadcastd ymm3,DWORD PTR [rip + const_hex_1_0_0_constant_5_v3]
 	vmovdqu ymm0,YMMWORD PTR [rdi+rcx*2]
 	vmovdqu ymm1,YMMWORD PTR [rdi+rcx*2+0x20]
 	vmovdqu ymm2,YMMWORD PTR [rdi+rcx*2+0x40]
@@ -496,7 +495,7 @@
 4:
 	vmovdqu ymm0,YMMWORD PTR [rdi+rcx*2]
 	vmovdqu ymm1,YMMWORD PTR [rdi+rcx*2+0x20]
-	vpbroadcastd ymm2,DWORD PTR [rip + const_hex_1_0_0_constant_6_v3]
+	vpbroadcastd ymm2,DWORD PTR [rip + const_hex_1_0_0_constant_5_v3]
 	vpaddb ymm3,ymm0,ymm2
 	vbroadcasti128 ymm4,XMMWORD PTR [rip + const_hex_1_0_0_constant_2_v3]
 	vpshufb ymm0,ymm4,ymm0
@@ -529,7 +528,7 @@
 	jb     12f
 	vmovdqu xmm0,XMMWORD PTR [rdi]
 	vmovdqu xmm1,XMMWORD PTR [rdi+rdx*2-0x10]
-	vpbroadcastd xmm2,DWORD PTR [rip + const_hex_1_0_0_constant_6_v3]
+	vpbroadcastd xmm2,DWORD PTR [rip + const_hex_1_0_0_constant_5_v3]
 	vpaddb xmm3,xmm0,xmm2
 	vmovdqa xmm4,XMMWORD PTR [rip + const_hex_1_0_0_constant_2_v3]
 	vpshufb xmm0,xmm4,xmm0
@@ -540,7 +539,7 @@
 	vpminub xmm1,xmm2,xmm1
 	vpsubb xmm2,xmm2,xmm1
 	vpor   xmm2,xmm2,xmm3
-	vptest xmm2,XMMWORD PTR [rip + const_hex_1_0_0_constant_5_v3]
+	vptest xmm2,XMMWORD PTR [rip + const_hex_1_0_0_constant_6_v3]
 	jne    16f
 	vinserti128 ymm0,ymm0,xmm1,0x1
 	vpsllw ymm1,ymm0,0xc
@@ -571,7 +570,7 @@
 	jb     13f
 	vmovdqu xmm0,XMMWORD PTR [rdi+rcx*2]
 	vmovdqu xmm1,XMMWORD PTR [rdi+rcx*2+0x10]
-	vpbroadcastd xmm2,DWORD PTR [rip + const_hex_1_0_0_constant_6_v3]
+	vpbroadcastd xmm2,DWORD PTR [rip + const_hex_1_0_0_constant_5_v3]
 	vpaddb xmm3,xmm0,xmm2
 	vmovdqa xmm4,XMMWORD PTR [rip + const_hex_1_0_0_constant_2_v3]
 	vpshufb xmm0,xmm4,xmm0
@@ -582,7 +581,7 @@
 	vpminub xmm1,xmm2,xmm1
 	vpsubb xmm2,xmm2,xmm1
 	vpor   xmm2,xmm2,xmm3
-	vptest xmm2,XMMWORD PTR [rip + const_hex_1_0_0_constant_5_v3]
+	vptest xmm2,XMMWORD PTR [rip + const_hex_1_0_0_constant_6_v3]
 	jne    16f
 	vinserti128 ymm0,ymm0,xmm1,0x1
 	vpsllw ymm1,ymm0,0xc
@@ -603,7 +602,7 @@
 	vpshufb xmm0,xmm2,xmm0
 	vpminub xmm0,xmm1,xmm0
 	vpsubb xmm1,xmm1,xmm0
-	vptest xmm1,XMMWORD PTR [rip + const_hex_1_0_0_constant_5_v3]
+	vptest xmm1,XMMWORD PTR [rip + const_hex_1_0_0_constant_6_v3]
 	jne    16f
 	vpsllw xmm1,xmm0,0xc
 	vpaddw xmm0,xmm0,xmm1
@@ -646,7 +645,7 @@
 	vpshufb xmm0,xmm2,xmm0
 	vpminub xmm0,xmm1,xmm0
 	vpsubb xmm1,xmm1,xmm0
-	vptest xmm1,XMMWORD PTR [rip + const_hex_1_0_0_constant_5_v3]
+	vptest xmm1,XMMWORD PTR [rip + const_hex_1_0_0_constant_6_v3]
 	jne    16f
 	vpsllw ymm1,ymm0,0xc
 	vpaddw ymm0,ymm0,ymm1
@@ -660,7 +659,7 @@
 15:
 	vmovdqu xmm0,XMMWORD PTR [rdi+rdx*2-0x20]
 	vmovdqu xmm1,XMMWORD PTR [rdi+rdx*2-0x10]
-	vpbroadcastd xmm2,DWORD PTR [rip + const_hex_1_0_0_constant_6_v3]
+	vpbroadcastd xmm2,DWORD PTR [rip + const_hex_1_0_0_constant_5_v3]
 	vpaddb xmm3,xmm0,xmm2
 	vmovdqa xmm4,XMMWORD PTR [rip + const_hex_1_0_0_constant_2_v3]
 	vpshufb xmm0,xmm4,xmm0
@@ -671,7 +670,7 @@
 	vpminub xmm1,xmm2,xmm1
 	vpsubb xmm2,xmm2,xmm1
 	vpor   xmm2,xmm2,xmm3
-	vptest xmm2,XMMWORD PTR [rip + const_hex_1_0_0_constant_5_v3]
+	vptest xmm2,XMMWORD PTR [rip + const_hex_1_0_0_constant_6_v3]
 	je     17f
 16:
 	xor    eax,eax
@@ -702,11 +701,11 @@
 	constant const_hex_1_0_0_constant_4_v3, 4
 	.byte 0xd0, 0xd0, 0xd0, 0xd0, 0xd0, 0xd0, 0xd0, 0xd0, 0xd0, 0xd0, 0xd0, 0xd0, 0xd0, 0xd0, 0xd0, 0xd0
 
-	constant const_hex_1_0_0_constant_5_v3, 4
-	.byte 0xd8, 0xd8, 0xd8, 0xd8, 0xd8, 0xd8, 0xd8, 0xd8, 0xd8, 0xd8, 0xd8, 0xd8, 0xd8, 0xd8, 0xd8, 0xd8
-
-	constant const_hex_1_0_0_constant_6_v3, 2
+	constant const_hex_1_0_0_constant_5_v3, 2
 	.byte 0xd0, 0xd0, 0xd0, 0xd0
+
+	constant const_hex_1_0_0_constant_6_v3, 4
+	.byte 0xd8, 0xd8, 0xd8, 0xd8, 0xd8, 0xd8, 0xd8, 0xd8, 0xd8, 0xd8, 0xd8, 0xd8, 0xd8, 0xd8, 0xd8, 0xd8
 
 	constant const_hex_1_0_0_constant_7_v3, 5
 	.byte 0x01, 0x10, 0x01, 0x10, 0x01, 0x10, 0x01, 0x10, 0x01, 0x10, 0x01, 0x10, 0x01, 0x10, 0x01, 0x10

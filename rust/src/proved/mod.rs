@@ -55,7 +55,7 @@ pub use self::formatting::text::*;
 //    1  and writes a text to memory that is not cleared
 //    2  before it reads a part, or ends
 //   54  deleted: attribute
-//  555  deleted: clause
+//  556  deleted: clause
 //  146  deleted: ghost item
 //    5  deleted: model
 //    1  each value may be dropped

@@ -1,7 +1,7 @@
 //! The body of a text, which is what follows the prefix: the rule of the prefix, the first invalid
 //! character, and decoding by a kernel.
 
-ghost use Rattle.std.specs.Prelude.{◌≡◌, ◌+◌, ◌-◌, ◌*◌, ◌%◌, ◌<◌, ◌≤◌, ◌==◌, ◌&&◌, ◌||◌, ◌↔◌, true, false, length, take, drop, slice_index, Err, IfErr, IfOk, IsTrue};
+ghost use Rattle.std.specs.Prelude.{◌≡◌, ◌+◌, ◌-◌, ◌*◌, ◌%◌, ◌<◌, ◌≤◌, ◌==◌, ◌&&◌, ◌||◌, ◌↔◌, true, false, length, take, drop, slice_index, Err, IfErr, IfOk, IsTrue, IfSome};
 ghost use Rattle.const_hex_arch.specs.Texts.{AllDigits, IsDigit, FirstBad, Spells, Partial};
 ghost use Rattle.const_hex.specs.Results.{IsEven, IsOdd, NamesFirstBad, Reads, body_of};
 ghost use Rattle.const_hex.specs.declared.error.FromHexError.TheVariants.{OddLength, InvalidHexCharacter};
@@ -63,12 +63,27 @@ pub(crate) fn find_invalid_character(text: &[u8], body: &[u8]) -> FromHexError
     requires bad { AllDigits body.now → ⊥ }
     ensures { Reads text.now (Err result) }
 {
+    let prefix = text.len() - body.len();
+    if let Some(byte) = invalid_first(body) {
+        return invalid_character(byte, prefix);
+    }
     let (byte, index) = locate_invalid(body);
-    invalid_character(byte, index + (text.len() - body.len()))
+    invalid_character(byte, index + prefix)
 }
 
-/// As `find_first_bad`, for a text that a kernel has refused.
-// It asks for the first byte before anything else.
+/// The first byte, if it is not a digit. Callers ask for it before they search.
+#[inline(always)]
+pub(crate) fn invalid_first(text: &[u8]) -> Option<u8>
+    ensures { IfSome result (λ byte. FirstBad text.now 0 × byte ≡ slice_index text.now 0) }
+{
+    match text {
+        [first, ..] if value_at(*first) == NIL => Some(*first),
+        _ => None,
+    }
+}
+
+/// As `find_first_bad`, which it calls.
+// Not inlined: so the search stands once, and the public decoders stay small.
 #[cold]
 #[inline(never)]
 pub(crate) fn locate_invalid(text: &[u8]) -> (u8, usize)
@@ -77,11 +92,6 @@ pub(crate) fn locate_invalid(text: &[u8]) -> (u8, usize)
     ensures within { result.1 ≤ length text.now }
     ensures all { (result.1 ≡ length text.now) ↔ AllDigits text.now }
 {
-    if let [first, ..] = text {
-        if value_at(*first) == NIL {
-            return (*first, 0);
-        }
-    }
     find_first_bad(text)
 }
 

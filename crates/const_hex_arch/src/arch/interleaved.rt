@@ -49,14 +49,30 @@ impl Kernel for Interleaved {
         }
     }
 
+    // The text of 4 bytes, such as that of a selector, is asked for by its length before shorter ones.
     #[inline]
     fn check(input: &[u8]) -> bool {
-        Lanes32::check(input)
+        if input.len() >= 32 {
+            loops::check_in_steps::<32, Interleaved>(input)
+        } else if input.len() == 8 {
+            small_input::check_ends::<8, Interleaved>(&input[..8])
+        } else {
+            small_input::check::<Interleaved>(input)
+        }
     }
 
     #[inline(always)]
+    #[tactic(auto, using(crate::proofs::lemmas::FirstInvalid::none_decoded))]
     fn decode_checked(input: &[u8], output: &mut [u8]) -> bool {
-        loops::decode_in_steps::<32, false, true, Interleaved, Interleaved>(input, output)
+        if output.len() > 16 {
+            loops::decode_long::<32, false, true, Interleaved, Interleaved>(input, output)
+        } else if output.len() == 4 {
+            small_input::decode_ends::<4, 8, Interleaved>(input, output)
+        } else if output.len() == 1 {
+            small_input::decode_byte::<Interleaved>(input, output)
+        } else {
+            small_input::decode_short::<Interleaved>(input, output)
+        }
     }
 
     #[inline(always)]

@@ -180,14 +180,14 @@ impl Kernel for Lanes16 {
     #[inline]
     fn check(input: &[u8]) -> bool {
         if input.len() < 16 {
-            return small_input::check(input);
+            return small_input::check::<Lanes16>(input);
         }
         loops::check_in_steps::<16, Lanes16>(input)
     }
 
     #[inline(always)]
     fn decode_checked(input: &[u8], output: &mut [u8]) -> bool {
-        loops::decode_in_steps::<16, true, false, Lanes16, Lanes16>(input, output)
+        loops::decode_in_steps::<16, true, Lanes16, Lanes16>(input, output)
     }
 
     #[inline(always)]

@@ -119,22 +119,19 @@ impl Kernel for Lanes32 {
     #[inline]
     fn check(input: &[u8]) -> bool {
         if input.len() < 32 {
-            if input.len() < 16 {
-                return small_input::check(input);
-            }
-            return small_input::check_overlapping::<16, Lanes16>(input);
+            return small_input::check::<Lanes16>(input);
         }
         loops::check_in_steps::<32, Lanes32>(input)
     }
 
     #[inline(always)]
     fn decode_checked(input: &[u8], output: &mut [u8]) -> bool {
-        loops::decode_in_steps::<32, true, false, Lanes32, Lanes16>(input, output)
+        loops::decode_in_steps::<32, true, Lanes32, Lanes16>(input, output)
     }
 
     #[inline(always)]
     fn decode_all(input: &[u8], output: &mut [u8]) -> bool {
-        loops::decode_in_steps::<32, false, false, Lanes32, Lanes16>(input, output)
+        loops::decode_in_steps::<32, false, Lanes32, Lanes16>(input, output)
     }
 
     #[inline(always)]

@@ -4,7 +4,7 @@ ghost use Rattle.std.specs.Prelude.{◌≡◌, [], ◌∷◌, ◌+◌, ◌*◌, 
 ghost use Rattle.const_hex_arch.specs.{AllDigits, Spells, Partial, hex_text};
 
 use crate::arch::lanes::{self, LaneOps, PairOps};
-use crate::arch::lanes16::{self, Lanes16};
+use crate::arch::lanes16;
 use crate::arch::plain::Plain;
 use crate::arch::{Kernel, steps};
 use std::simd::prelude::*;
@@ -89,37 +89,39 @@ fn fill_ends<const H: usize, const D: usize, S: LaneOps<16>>(
     put::<D>(first, last, 2 * bytes.len() - D, output);
 }
 
-/// Whether every byte of a text of at most 16 bytes is a digit.
+/// Whether every byte of a text of less than 32 bytes is a digit.
 #[inline(always)]
-pub(crate) fn check(text: &[u8]) -> bool
-    requires { length text.now ≤ 16 }
+pub(crate) fn check<S: LaneOps<16> + PairOps>(text: &[u8]) -> bool
+    requires { length text.now < 32 }
     ensures { IsTrue result ↔ AllDigits text.now }
 {
-    if text.len() >= 8 {
-        check_ends::<8>(text)
-    } else if text.len() >= 4 {
-        check_ends::<4>(text)
+    if text.len() >= 16 {
+        check_overlapping::<16, S>(text)
     } else if text.len() == 2 {
-        check_two(text[0], text[1])
+        check_two::<S>(text[0], text[1])
+    } else if text.len() >= 8 {
+        check_ends::<8, S>(text)
+    } else if text.len() >= 4 {
+        check_ends::<4, S>(text)
     } else if text.len() == 1 {
-        check_two(text[0], text[0])
+        check_two::<S>(text[0], text[0])
     } else {
-        text.is_empty() || check_ends::<2>(text)
+        text.is_empty() || check_ends::<2, S>(text)
     }
 }
 
 /// As `check`, for two characters.
 #[inline(always)]
-fn check_two(first: u8, second: u8) -> bool
+fn check_two<S: LaneOps<16> + PairOps>(first: u8, second: u8) -> bool
     ensures { IsTrue result ↔ AllDigits (first ∷ second ∷ []) }
 {
-    let marks = lanes::marks::<16, Lanes16>(Lanes16::from_pair(first, second));
+    let marks = lanes::marks::<16, S>(S::from_pair(first, second));
     lanes16::is_pair_unmarked(marks)
 }
 
 /// As `check`, for one to two steps: one test covers the first one and the last one. `V` has the `N` lanes of a step.
 #[inline(always)]
-pub(crate) fn check_overlapping<const N: usize, V: LaneOps<N>>(text: &[u8]) -> bool
+fn check_overlapping<const N: usize, V: LaneOps<N>>(text: &[u8]) -> bool
     requires least { N ≤ length text.now }
     requires most { length text.now ≤ 2 * N }
     ensures { IsTrue result ↔ AllDigits text.now }
@@ -133,13 +135,13 @@ pub(crate) fn check_overlapping<const N: usize, V: LaneOps<N>>(text: &[u8]) -> b
 /// As `check`, for `H` to `2 * H` bytes.
 #[inline(always)]
 #[tactic(auto, using(crate::proofs::lemmas::Standard::through, crate::proofs::lemmas::Ends::digits_ends))]
-fn check_ends<const H: usize>(text: &[u8]) -> bool
+pub(crate) fn check_ends<const H: usize, S: LaneOps<16>>(text: &[u8]) -> bool
     requires half { H ≤ 8 }
     requires least { H ≤ length text.now }
     requires most { length text.now ≤ 2 * H }
     ensures { IsTrue result ↔ AllDigits text.now }
 {
-    steps::check_step::<16, Lanes16>(&steps::load_ends::<H, 16>(text, b'0'))
+    steps::check_step::<16, S>(&steps::load_ends::<H, 16>(text, b'0'))
 }
 
 /// Decodes a text to at most 16 bytes, by one vector operation on its first and last characters, and
@@ -192,7 +194,7 @@ pub(crate) fn decode_pairs(text: &[u8], output: &mut [u8]) -> bool
 /// false, and the output is unchanged. `D` is `2 * H`, the number of digits of `H` bytes.
 #[inline(always)]
 #[tactic(auto, using(crate::proofs::lemmas::Standard::through, crate::proofs::lemmas::Ends::digits_ends, std::proofs::lemmas::List::take_all))]
-fn decode_ends<const H: usize, const D: usize, S: LaneOps<16>>(
+pub(crate) fn decode_ends<const H: usize, const D: usize, S: LaneOps<16>>(
     text: &[u8],
     output: &mut [u8],
 ) -> bool

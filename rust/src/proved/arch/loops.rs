@@ -102,7 +102,6 @@ fn check_remainder<const N: usize, V: LaneOps<N>>(input: &[u8], at: usize) -> bo
 pub(crate) fn decode_in_steps<
     const N: usize,
     const FRONT: bool,
-    const ALONE: bool,
     V: LaneOps<N>,
     S: LaneOps<16> + PairOps,
 >(input: &[u8], output: &mut [u8]) -> bool {
@@ -113,7 +112,7 @@ pub(crate) fn decode_in_steps<
         return small_input::decode_small::<S>(input, output)
             || (FRONT && small_input::decode_pairs(input, output));
     }
-    decode_long::<N, FRONT, ALONE, V, S>(input, output)
+    decode_long::<N, FRONT, false, V, S>(input, output)
 }
 
 /// As `decode_in_steps`, for at least 16 bytes. If `ALONE`, the first 16 have a test of their own, so that most
@@ -123,7 +122,7 @@ pub(crate) fn decode_in_steps<
 /// `FRONT` a valid first one of two steps is decoded if their test fails, and of a remainder of less than 16 bytes the
 /// pairs before an invalid character. Without it the call ends there.
 #[inline(always)]
-fn decode_long<
+pub(crate) fn decode_long<
     const N: usize,
     const FRONT: bool,
     const ALONE: bool,

@@ -45,20 +45,28 @@ pub(crate) const fn are_digits(first: u8, second: u8) -> bool {
 /// whole text. The text must have an even length.
 #[inline(always)]
 pub(crate) fn find_invalid_character(text: &[u8], body: &[u8]) -> FromHexError {
+    let prefix = text.len() - body.len();
+    if let Some(byte) = invalid_first(body) {
+        return invalid_character(byte, prefix);
+    }
     let (byte, index) = locate_invalid(body);
-    invalid_character(byte, index + (text.len() - body.len()))
+    invalid_character(byte, index + prefix)
 }
 
-/// As `find_first_bad`, for a text that a kernel has refused.
-// It asks for the first byte before anything else.
+/// The first byte, if it is not a digit. Callers ask for it before they search.
+#[inline(always)]
+pub(crate) fn invalid_first(text: &[u8]) -> Option<u8> {
+    match text {
+        [first, ..] if value_at(*first) == NIL => Some(*first),
+        _ => None,
+    }
+}
+
+/// As `find_first_bad`, which it calls.
+// Not inlined: so the search stands once, and the public decoders stay small.
 #[cold]
 #[inline(never)]
 pub(crate) fn locate_invalid(text: &[u8]) -> (u8, usize) {
-    if let [first, ..] = text {
-        if value_at(*first) == NIL {
-            return (*first, 0);
-        }
-    }
     find_first_bad(text)
 }
 
