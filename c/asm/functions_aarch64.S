@@ -10,69 +10,72 @@
 	cmp x0, #0x0
 	mov w8, #0x1000
 	stp x20, x19, [sp, #32]
-	mov x19, x2
-	mov x20, x1
+	mov x19, x1
 	csel x9, x8, xzr, eq
 	stp x22, x21, [sp, #16]
 	mov x29, sp
-	tbnz w20, #0, 2f
-	subs x8, x20, #0x2
-	add x21, x0, x9
+	tbnz w19, #0, 2f
+	subs x8, x19, #0x2
+	add x20, x0, x9
+	mov x22, x2
 	b.cs 3f
-	mov x22, x20
+	mov x21, x19
 	b 4f
 2:
-	mov w8, wzr
-	mov x20, xzr
+	mov w0, wzr
+	mov x19, xzr
 	mov w9, #0x1
 	b 7f
 3:
-	ldrb w9, [x21, #1]
+	ldrb w9, [x20, #1]
 	mov w10, #0xdf00
-	ldrb w11, [x21]
-	mov x22, x20
+	ldrb w11, [x20]
+	mov x21, x19
 	and w9, w10, w9, lsl #8
 	mov w10, #0x5830
 	orr w9, w9, w11
 	cmp w9, w10
 	b.ne 4f
-	add x21, x21, #0x2
-	mov x22, x8
+	add x20, x20, #0x2
+	mov x21, x8
 4:
-	mov x0, x21
-	mov x1, x22
+	mov x0, x20
+	mov x1, x21
 	bl SYMBOL(const_hex_kernel_check)
 	tbz w0, #0, 5f
-	mov w0, #0x1
+	mov w8, #0x1
 	ldp x20, x19, [sp, #32]
+	mov w0, w8
 	ldp x22, x21, [sp, #16]
 	ldp x29, x30, [sp], #48
 	ret
 5:
-	sub x20, x20, x22
-	cbz x22, 8f
-	ldrb w0, [x21]
+	sub x19, x19, x21
+	cbz x21, 8f
+	ldrb w0, [x20]
 	adrp_label x8, const_hex_constant_1
 	add_label x8, x8, const_hex_constant_1
 	ldrb w8, [x8, x0]
 	cmp w8, #0xff
 	b.ne 8f
-6:
-	and w8, w0, #0xff
 	mov w9, #0x3
+6:
+	mov x2, x22
 7:
-	mov w0, wzr
-	stp w9, w8, [x19]
-	str x20, [x19, #8]
+	mov w8, wzr
+	stp w9, w0, [x2]
+	str x19, [x2, #8]
 	ldp x20, x19, [sp, #32]
+	mov w0, w8
 	ldp x22, x21, [sp, #16]
 	ldp x29, x30, [sp], #48
 	ret
 8:
-	mov x0, x21
-	mov x1, x22
+	mov x0, x20
+	mov x1, x21
 	bl const_hex_body_locate_invalid
-	add x20, x1, x20
+	mov w9, #0x3
+	add x19, x1, x19
 	b 6b
 	end SYMBOL(const_hex_check_nonnull)
 
@@ -109,10 +112,10 @@
 	mov x20, x1
 	b 4f
 2:
-	mov w8, wzr
+	mov w0, wzr
 	mov x21, xzr
 	mov w9, #0x1
-	b 8f
+	b 7f
 3:
 	ldrb w10, [x19, #1]
 	mov w11, #0xdf00
@@ -135,41 +138,43 @@
 	mov x22, x4
 	bl SYMBOL(const_hex_kernel_read)
 	tbz w0, #0, 6f
-	mov w0, #0x1
+	mov w8, #0x1
 	ldp x20, x19, [sp, #32]
+	mov w0, w8
 	ldp x22, x21, [sp, #16]
 	ldp x29, x30, [sp], #48
 	ret
 5:
-	mov w8, wzr
+	mov w0, wzr
 	mov x21, xzr
 	mov w9, #0x2
-	b 8f
+	b 7f
 6:
 	sub x21, x21, x20
-	cbz x20, 9f
+	cbz x20, 8f
 	ldrb w0, [x19]
 	adrp_label x8, const_hex_constant_1
 	add_label x8, x8, const_hex_constant_1
 	ldrb w8, [x8, x0]
 	cmp w8, #0xff
-	b.ne 9f
-7:
-	and w8, w0, #0xff
-	mov w9, #0x3
+	b.ne 8f
 	mov x4, x22
-8:
-	mov w0, wzr
-	stp w9, w8, [x4]
+	mov w9, #0x3
+7:
+	mov w8, wzr
+	stp w9, w0, [x4]
 	str x21, [x4, #8]
 	ldp x20, x19, [sp, #32]
+	mov w0, w8
 	ldp x22, x21, [sp, #16]
 	ldp x29, x30, [sp], #48
 	ret
-9:
+8:
 	mov x0, x19
 	mov x1, x20
 	bl const_hex_body_locate_invalid
+	mov x4, x22
+	mov w9, #0x3
 	add x21, x1, x21
 	b 7b
 	end SYMBOL(const_hex_decode_exact_nonnull)
@@ -194,7 +199,7 @@
 	mov x20, x1
 	b 4f
 2:
-	mov w8, wzr
+	mov w0, wzr
 	mov x21, xzr
 	str xzr, [x4]
 	mov w9, #0x1
@@ -215,7 +220,7 @@
 	lsr x21, x20, #1
 	cmp x3, x21
 	b.cs 5f
-	mov w8, wzr
+	mov w0, wzr
 	mov x21, xzr
 	str xzr, [x4]
 	mov w9, #0x2
@@ -230,8 +235,9 @@
 	bl SYMBOL(const_hex_kernel_read)
 	tbz w0, #0, 6f
 	str x21, [x23]
-	mov w0, #0x1
+	mov w8, #0x1
 	ldp x20, x19, [sp, #48]
+	mov w0, w8
 	ldp x22, x21, [sp, #32]
 	ldp x24, x23, [sp, #16]
 	ldp x29, x30, [sp], #64
@@ -239,22 +245,23 @@
 6:
 	sub x21, x24, x20
 	cbz x20, 9f
-	ldrb w8, [x19]
-	adrp_label x10, const_hex_constant_1
-	add_label x10, x10, const_hex_constant_1
-	mov x9, x23
-	ldrb w10, [x10, x8]
-	cmp w10, #0xff
+	ldrb w0, [x19]
+	adrp_label x9, const_hex_constant_1
+	add_label x9, x9, const_hex_constant_1
+	ldrb w9, [x9, x0]
+	cmp w9, #0xff
 	b.ne 9f
+	mov x8, x23
 7:
-	str xzr, [x9]
 	mov w9, #0x3
 	mov x5, x22
+	str xzr, [x8]
 8:
-	mov w0, wzr
-	stp w9, w8, [x5]
+	mov w8, wzr
+	stp w9, w0, [x5]
 	str x21, [x5, #8]
 	ldp x20, x19, [sp, #48]
+	mov w0, w8
 	ldp x22, x21, [sp, #32]
 	ldp x24, x23, [sp, #16]
 	ldp x29, x30, [sp], #64
@@ -263,9 +270,8 @@
 	mov x0, x19
 	mov x1, x20
 	bl const_hex_body_locate_invalid
-	mov x9, x23
+	mov x8, x23
 	add x21, x1, x21
-	and x8, x0, #0xff
 	b 7b
 	end SYMBOL(const_hex_decode_nonnull)
 

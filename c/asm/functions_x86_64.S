@@ -12,17 +12,16 @@
 	push   r12
 	push   rbx
 	push   rax
-	mov    rbx,rdx
-	mov    r14,rsi
+	mov    rbx,rsi
 	xor    eax,eax
 	test   rdi,rdi
 	sete   cl
-	test   r14b,0x1
+	test   bl,0x1
 	jne    2f
 	mov    al,cl
 	shl    eax,0xc
 	add    rdi,rax
-	cmp    r14,0x2
+	cmp    rbx,0x2
 	jb     3f
 	movzx  eax,BYTE PTR [rdi]
 	movzx  ecx,BYTE PTR [rdi+0x1]
@@ -32,26 +31,28 @@
 	movzx  eax,cx
 	cmp    eax,0x5830
 	jne    3f
-	lea    r15,[r14-0x2]
+	mov    r15,rdx
+	lea    r14,[rbx-0x2]
 	add    rdi,0x2
 	jmp    4f
 2:
 	xor    eax,eax
 	mov    ecx,0x1
-	xor    r14d,r14d
+	xor    ebx,ebx
 	jmp    6f
 3:
-	mov    r15,r14
+	mov    r15,rdx
+	mov    r14,rbx
 4:
 	mov    r12,rdi
-	mov    rsi,r15
+	mov    rsi,r14
 	call   SYMBOL(const_hex_kernel_check)
 	mov    ecx,eax
 	mov    al,0x1
 	test   cl,cl
 	jne    7f
-	sub    r14,r15
-	test   r15,r15
+	sub    rbx,r14
+	test   r14,r14
 	mov    rdi,r12
 	je     8f
 	movzx  eax,BYTE PTR [rdi]
@@ -59,12 +60,12 @@
 	cmp    BYTE PTR [rax+rcx*1],0xff
 	jne    8f
 5:
-	movzx  eax,al
 	mov    ecx,0x3
+	mov    rdx,r15
 6:
-	mov    DWORD PTR [rbx],ecx
-	mov    DWORD PTR [rbx+0x4],eax
-	mov    QWORD PTR [rbx+0x8],r14
+	mov    DWORD PTR [rdx],ecx
+	mov    DWORD PTR [rdx+0x4],eax
+	mov    QWORD PTR [rdx+0x8],rbx
 	xor    eax,eax
 7:
 	add    rsp,0x8
@@ -74,9 +75,9 @@
 	pop    r15
 	ret
 8:
-	mov    rsi,r15
+	mov    rsi,r14
 	call   const_hex_body_locate_invalid
-	add    r14,rdx
+	add    rbx,rdx
 	jmp    5b
 	end SYMBOL(const_hex_check_nonnull)
 
@@ -179,16 +180,16 @@
 	lea    rdx,[rip + const_hex_constant_1]
 	cmp    BYTE PTR [rax+rdx*1],0xff
 	jne    12f
-9:
-	movzx  eax,al
-	mov    edx,0x3
 	mov    r8,r14
+9:
+	mov    edx,0x3
 	jmp    5b
 12:
 	mov    r15,rcx
 	mov    rsi,rbx
 	call   const_hex_body_locate_invalid
 	mov    rcx,r15
+	mov    r8,r14
 	add    rcx,rdx
 	jmp    9b
 	end SYMBOL(const_hex_decode_exact_nonnull)
@@ -300,7 +301,6 @@
 	mov    rsi,r12
 	mov    rcx,r14
 	add    rcx,rdx
-	movzx  eax,al
 	jmp    7b
 	end SYMBOL(const_hex_decode_nonnull)
 
@@ -873,38 +873,39 @@
 
 /* const_hex::codec::body::locate_invalid */
 	function const_hex_body_locate_invalid
+	xor    eax,eax
 	cmp    rsi,0x4
 	jb     3f
-	lea    rax,[rsi-0x4]
+	lea    rcx,[rsi-0x4]
 	mov    edx,0x2
-	nop
+	.byte 0x66, 0x66, 0x66, 0x66, 0x66, 0x66, 0x2e, 0xf, 0x1f, 0x84, 0x0, 0x0, 0x0, 0x0, 0x0  /* data16 data16 data16 data16 data16 cs nop WORD PTR [rax+rax*1+0x0] */
 2:
-	movzx  r8d,BYTE PTR [rdi+rdx*1-0x2]
-	movzx  r9d,BYTE PTR [rdi+rdx*1-0x1]
-	lea    rcx,[rip + const_hex_constant_1]
-	movzx  r9d,BYTE PTR [r9+rcx*1]
-	or     r9b,BYTE PTR [r8+rcx*1]
-	js     7f
-	movzx  r8d,BYTE PTR [rdi+rdx*1]
-	movzx  r9d,BYTE PTR [rdi+rdx*1+0x1]
-	movzx  r9d,BYTE PTR [r9+rcx*1]
-	or     r9b,BYTE PTR [r8+rcx*1]
+	movzx  r9d,BYTE PTR [rdi+rdx*1-0x2]
+	movzx  r10d,BYTE PTR [rdi+rdx*1-0x1]
+	lea    r8,[rip + const_hex_constant_1]
+	movzx  r10d,BYTE PTR [r10+r8*1]
+	or     r10b,BYTE PTR [r9+r8*1]
+	js     8f
+	movzx  r9d,BYTE PTR [rdi+rdx*1]
+	movzx  r10d,BYTE PTR [rdi+rdx*1+0x1]
+	movzx  r10d,BYTE PTR [r10+r8*1]
+	or     r10b,BYTE PTR [r9+r8*1]
 	js     4f
-	lea    rcx,[rdx+0x4]
+	lea    r8,[rdx+0x4]
 	add    rdx,0x2
-	cmp    rdx,rax
-	mov    rdx,rcx
+	cmp    rdx,rcx
+	mov    rdx,r8
 	jbe    2b
-	add    rcx,0xfffffffffffffffe
-	mov    rdx,rcx
+	add    r8,0xfffffffffffffffe
+	mov    rdx,r8
 	cmp    rdx,rsi
 	jb     5f
-	jmp    8f
+	jmp    7f
 3:
 	xor    edx,edx
 4:
 	cmp    rdx,rsi
-	jae    8f
+	jae    7f
 	.byte 0xf, 0x1f, 0x80, 0x0, 0x0, 0x0, 0x0  /* nop    DWORD PTR [rax+0x0] */
 5:
 	movzx  eax,BYTE PTR [rdi+rdx*1]
@@ -917,14 +918,14 @@
 	xor    eax,eax
 	mov    rdx,rsi
 6:
-	ret
+	movzx  eax,al
 7:
+	ret
+8:
 	add    rdx,0xfffffffffffffffe
 	cmp    rdx,rsi
 	jb     5b
-8:
-	xor    eax,eax
-	ret
+	jmp    7b
 	end const_hex_body_locate_invalid
 
 /* const_hex::codec::decoder::decode_after */

@@ -125,11 +125,11 @@ class FirstInvalid(Function):
 
     def returns(self, state):
         index, character = first_invalid(state)
-        state.must(state.result(8) == character, "another character")
+        state.must(state.result(32) == z3.ZeroExt(24, character), "another character")
         state.must(state.result(64, 1) == index, "another index")
 
     def called(self, state, input, n):
-        return ((way, character, index) for way, index, character in first_invalid_from(state, input, n))
+        return ((way, z3.ZeroExt(24, character), index) for way, index, character in first_invalid_from(state, input, n))
 
 
 class Text(Exported):

@@ -85,7 +85,7 @@ pub use crate::traits::{FromHex, ToHex};
 
 use crate::proved::codec::body::{find_invalid_character, strip_even};
 #[cfg(feature = "alloc")]
-use crate::proved::codec::body::{invalid_character, invalid_first, locate_invalid};
+use crate::proved::codec::body::{invalid_first, locate_invalid};
 use crate::proved::codec::encoders::encode_full_to_slice;
 use crate::proved::codec::{checks, decoders};
 #[cfg(feature = "alloc")]
@@ -220,20 +220,20 @@ pub fn decode<T: AsRef<[u8]>>(data: T) -> Result<Vec<u8>, FromHexError> {
     match kernel::decode_append(digits, &mut bytes) {
         true => Ok(bytes),
         false => {
-            let (byte, index) = drop_and_locate(digits, bytes);
-            Err(invalid_character(byte, index + (text.len() - digits.len())))
+            let (c, index) = drop_and_locate(digits, bytes);
+            Err(FromHexError::InvalidHexCharacter { c, index: index + (text.len() - digits.len()) })
         }
     }
 }
 
-/// Returns the first byte that is not a digit, and its index, and drops the vector for what the digits decode to.
+/// Returns the first character that is not a digit, and its index, and drops the vector for what the digits decode to.
 // A function of its own, so that less code is inlined for a valid text.
 #[cfg(feature = "alloc")]
 #[cold]
-fn drop_and_locate(digits: &[u8], bytes: Vec<u8>) -> (u8, usize) {
+fn drop_and_locate(digits: &[u8], bytes: Vec<u8>) -> (char, usize) {
     drop(bytes);
     match invalid_first(digits) {
-        Some(byte) => (byte, 0),
+        Some(c) => (c, 0),
         None => locate_invalid(digits),
     }
 }

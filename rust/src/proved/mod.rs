@@ -46,7 +46,7 @@ pub use self::formatting::text::*;
 //   85  an assertion names no runtime
 //    2  an example names a kernel that each target has
 //    4  an example uses no allocator
-//    1  and a constant converts by a cast
+//    2  and a constant converts by a cast
 //    1  and an error is borrowed
 //    5  and is a module of const_hex
 //    5  and kernels over vectors are there for WebAssembly alone

@@ -64,35 +64,36 @@ pub(crate) fn find_invalid_character(text: &[u8], body: &[u8]) -> FromHexError
     ensures { Reads text.now (Err result) }
 {
     let prefix = text.len() - body.len();
-    if let Some(byte) = invalid_first(body) {
-        return invalid_character(byte, prefix);
+    if let Some(c) = invalid_first(body) {
+        return FromHexError::InvalidHexCharacter { c, index: prefix };
     }
-    let (byte, index) = locate_invalid(body);
-    invalid_character(byte, index + prefix)
+    let (c, index) = locate_invalid(body);
+    FromHexError::InvalidHexCharacter { c, index: index + prefix }
 }
 
 /// The first byte, if it is not a digit. Callers ask for it before they search.
 #[inline(always)]
-pub(crate) fn invalid_first(text: &[u8]) -> Option<u8>
-    ensures { IfSome result (λ byte. FirstBad text.now 0 × byte ≡ slice_index text.now 0) }
+pub(crate) fn invalid_first(text: &[u8]) -> Option<char>
+    ensures { IfSome result (λ c. FirstBad text.now 0 × c ≡ slice_index text.now 0) }
 {
     match text {
-        [first, ..] if value_at(*first) == NIL => Some(*first),
+        [first, ..] if value_at(*first) == NIL => Some(char::from(*first)),
         _ => None,
     }
 }
 
-/// As `find_first_bad`, which it calls.
+/// As `find_first_bad`.
 // Not inlined: so the search stands once, and the public decoders stay small.
 #[cold]
 #[inline(never)]
-pub(crate) fn locate_invalid(text: &[u8]) -> (u8, usize)
+pub(crate) fn locate_invalid(text: &[u8]) -> (char, usize)
     ensures bad { (AllDigits text.now → ⊥) → FirstBad text.now result.1 }
     ensures byte { result.0 ≡ slice_index text.now result.1 }
     ensures within { result.1 ≤ length text.now }
     ensures all { (result.1 ≡ length text.now) ↔ AllDigits text.now }
 {
-    find_first_bad(text)
+    let (byte, index) = find_first_bad(text);
+    (char::from(byte), index)
 }
 
 /// The error that names the first byte of a pair, which stands at the index, or the second byte if

@@ -46,28 +46,29 @@ pub(crate) const fn are_digits(first: u8, second: u8) -> bool {
 #[inline(always)]
 pub(crate) fn find_invalid_character(text: &[u8], body: &[u8]) -> FromHexError {
     let prefix = text.len() - body.len();
-    if let Some(byte) = invalid_first(body) {
-        return invalid_character(byte, prefix);
+    if let Some(c) = invalid_first(body) {
+        return FromHexError::InvalidHexCharacter { c, index: prefix };
     }
-    let (byte, index) = locate_invalid(body);
-    invalid_character(byte, index + prefix)
+    let (c, index) = locate_invalid(body);
+    FromHexError::InvalidHexCharacter { c, index: index + prefix }
 }
 
 /// The first byte, if it is not a digit. Callers ask for it before they search.
 #[inline(always)]
-pub(crate) fn invalid_first(text: &[u8]) -> Option<u8> {
+pub(crate) fn invalid_first(text: &[u8]) -> Option<char> {
     match text {
-        [first, ..] if value_at(*first) == NIL => Some(*first),
+        [first, ..] if value_at(*first) == NIL => Some(char::from(*first)),
         _ => None,
     }
 }
 
-/// As `find_first_bad`, which it calls.
+/// As `find_first_bad`.
 // Not inlined: so the search stands once, and the public decoders stay small.
 #[cold]
 #[inline(never)]
-pub(crate) fn locate_invalid(text: &[u8]) -> (u8, usize) {
-    find_first_bad(text)
+pub(crate) fn locate_invalid(text: &[u8]) -> (char, usize) {
+    let (byte, index) = find_first_bad(text);
+    (byte as char, index)
 }
 
 /// The error that names the first byte of a pair, which stands at the index, or the second byte if
