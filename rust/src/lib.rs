@@ -21,7 +21,8 @@
 //!
 //! Features: `alloc` adds what returns a `String` or a vector; `std` (by default) adds `alloc`, `DecodeReader`,
 //! `EncodeWriter` and `std::error::Error`; `serde` adds `#[serde(with = "const_hex_proved")]`; `core-error` implements
-//! `core::error::Error` without `std`, and needs Rust 1.81; `force-generic` uses no machine code.
+//! `core::error::Error` without `std`, and needs Rust 1.81; `force-generic` uses no machine code. The feature `c` is for
+//! the library for C, and no part of the interface.
 //!
 //! No function is claimed to be constant-time: of what runs, only the machine code is, and for valid input.
 #![no_std]
@@ -60,6 +61,7 @@ pub mod traits;
 
 /// The functions for C, which `capi` exports. This module is no part of the interface: any release may change it.
 // They have no conditions. What they call has some, which nothing here would test, so it is not exported.
+#[cfg(feature = "c")]
 #[doc(hidden)]
 pub mod c {
     pub use crate::proved::c::*;

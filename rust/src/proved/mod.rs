@@ -11,6 +11,7 @@ pub(crate) mod text;
 pub(crate) mod codec;
 pub(crate) mod error;
 pub(crate) mod formatting;
+#[cfg(feature = "c")]
 pub(crate) mod c;
 #[cfg(all(test, feature = "std"))]
 mod examples;
