@@ -1,6 +1,7 @@
 //! Printing, which does not allocate.
 
-use crate::proved::formatting;
+use crate::kernel::Space;
+use crate::proved::ascii_text;
 use core::fmt;
 
 /// Returns a value that prints the digits of bytes. Does not allocate.
@@ -35,23 +36,34 @@ macro_rules! printed {
 }
 printed! { Display false LowerHex false UpperHex true }
 
-/// Prints the digits of bytes, and `0x` before them if `PREFIX` is true. No call follows an error of the formatter.
+/// Prints the digits of bytes, and `0x` before them if `PREFIX` is true. Each call of the formatter but the last writes
+/// 4096 characters. An empty text makes no call, and no call follows an error.
 #[inline]
 pub(crate) fn print<const UPPER: bool, const PREFIX: bool>(bytes: &[u8], f: &mut fmt::Formatter<'_>) -> fmt::Result {
-    match bytes.len() < PART {
-        true => formatting::display(bytes).write_full::<UPPER, PREFIX>(f),
-        false => print_parts::<UPPER, PREFIX>(bytes, f),
+    // The prefix takes as much space as one byte. Without optimization the space is copied, so a short text has less.
+    match bytes.len() + usize::from(PREFIX) {
+        0 => Ok(()),
+        1..=128 => print_in::<256, UPPER, PREFIX>(bytes, f),
+        129..=512 => print_in::<1024, UPPER, PREFIX>(bytes, f),
+        513..=2048 => print_in::<4096, UPPER, PREFIX>(bytes, f),
+        _ => print_parts::<UPPER, PREFIX>(bytes, f),
     }
 }
 
-/// So many bytes have 4096 digits, which one call writes.
-const PART: usize = 2048;
+/// Does the same by one call, for a text of at most `N` characters.
+fn print_in<const N: usize, const UPPER: bool, const PREFIX: bool>(
+    bytes: &[u8],
+    f: &mut fmt::Formatter<'_>,
+) -> fmt::Result {
+    f.write_str(ascii_text(Space::<N>::new().text(bytes, PREFIX, UPPER)))
+}
 
-/// Does the same for bytes of which all calls but the last write 4096 characters.
-// `BufferedHex` would gather them from pieces of 64 characters, which takes four times as many instructions.
+/// Does the same for a longer text.
 #[inline(never)]
 fn print_parts<const UPPER: bool, const PREFIX: bool>(bytes: &[u8], f: &mut fmt::Formatter<'_>) -> fmt::Result {
-    let (first, rest) = bytes.split_at(PART - usize::from(PREFIX));
-    formatting::display(first).write_full::<UPPER, PREFIX>(f)?;
-    rest.chunks(PART).try_for_each(|part| formatting::display(part).write_full::<UPPER, false>(f))
+    let (first, rest) = bytes.split_at(2048 - usize::from(PREFIX));
+    print_in::<4096, UPPER, PREFIX>(first, f)?;
+    let mut parts = rest.chunks_exact(2048);
+    parts.try_for_each(|part| print_in::<4096, UPPER, false>(part, f))?;
+    print::<UPPER, false>(parts.remainder(), f)
 }

@@ -16,8 +16,6 @@ mod small_input;
 #[cfg(all(target_arch = "wasm32", target_feature = "simd128"))]
 mod steps;
 
-use crate::proved::output::Output;
-
 /// The kernel of every call that does not name one. It is named here and nowhere else.
 pub type FixedKernel = crate::kernel::Native;
 
@@ -30,33 +28,13 @@ pub trait Kernel {
     /// their output unchanged.
     const USE_CHECK_FN: bool;
 
-    /// How many bytes of text each piece of [`encode`](Kernel::encode) has: 1, or an even number up to
+    /// How many bytes of text each piece of `encode` in Rattle has: 1, or an even number up to
     /// 64. Of another number, the next smaller one of these counts, and 1 for 0.
     const PIECE: usize;
 
     /// Fills the output with two digits for each byte, in order. The output must have exactly the
     /// length of that text.
     fn fill(input: &[u8], upper: bool, output: &mut [u8]);
-
-    /// Writes two digits for each byte, in order, in pieces of [`PIECE`](Kernel::PIECE) bytes, of
-    /// which the last may be shorter. The output must have space for the text.
-    #[inline]
-    fn encode<O: Output>(input: &[u8], upper: bool, output: &mut O) {
-        let mut rest = input;
-        while rest.len() > 0 {
-            let (bytes, after) = rest.split_at(rest.len().min((Self::PIECE / 2).clamp(1, 32)));
-            let mut text = [0; 64];
-            let piece = &mut text[..2 * bytes.len()];
-            Self::fill(bytes, upper, piece);
-            if Self::PIECE < 2 {
-                output.write_byte(piece[0]);
-                output.write_byte(piece[1]);
-            } else {
-                output.write(piece);
-            }
-            rest = after;
-        }
-    }
 
     /// Whether every byte is a digit.
     fn check(input: &[u8]) -> bool;

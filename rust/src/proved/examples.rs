@@ -48,13 +48,6 @@ fn arch_fill() {
 }
 
 #[test]
-fn arch_encode() {
-    let mut text = [0; 8];
-    FixedKernel::encode(b"kiwi", false, &mut SliceOutput::new(&mut text));
-    assert_eq!(text, *b"6b697769");
-}
-
-#[test]
 fn arch_check() {
     assert!(FixedKernel::check(b"6B6"));
     assert!(!FixedKernel::check(b"0x6b"));
@@ -80,63 +73,6 @@ fn arch_decode_unchecked() {
     let mut bytes = [0; 4];
     FixedKernel::decode_unchecked(b"6b697769", &mut bytes);
     assert_eq!(bytes, *b"kiwi");
-}
-
-#[test]
-fn output_buffered_bufferedoutput() {
-    let mut text = [0u8; 6];
-    let mut output = BufferedOutput::<SliceOutput<'_>, 4>::new(SliceOutput::new(&mut text));
-    output.write(b"abc");
-    output.write(b"def");
-    let _ = output.finish();
-    assert_eq!(text, *b"abcdef");
-}
-
-#[test]
-fn output_buffered_new() {
-    let mut text = [0; 6];
-    let output = BufferedOutput::<SliceOutput<'_>, 4>::new(SliceOutput::new(&mut text));
-    assert_eq!(output.remaining(), Some(6));
-}
-
-#[test]
-fn output_buffered_finish() {
-    let mut text = [0; 6];
-    let mut output = BufferedOutput::<SliceOutput<'_>, 4>::new(SliceOutput::new(&mut text));
-    output.write(b"abc");
-    assert_eq!(output.finish().remaining(), Some(3));
-}
-
-#[test]
-fn output_slice_sliceoutput() {
-    let mut text = [b'.'; 4];
-    let mut output = SliceOutput::new(&mut text);
-    output.write(b"abc");
-    assert_eq!(output.remaining(), Some(1));
-}
-
-#[test]
-fn output_slice_new() {
-    assert_eq!(SliceOutput::new(&mut [0; 4]).remaining(), Some(4));
-}
-
-#[test]
-fn output_remaining() {
-    assert_eq!(SliceOutput::new(&mut [0; 4]).remaining(), Some(4));
-}
-
-#[test]
-fn output_write() {
-    let mut text = [b'.'; 4];
-    SliceOutput::new(&mut text).write(b"abc");
-    assert_eq!(text, *b"abc.");
-}
-
-#[test]
-fn output_write_byte() {
-    let mut text = [b'.'; 4];
-    SliceOutput::new(&mut text).write_byte(b'a');
-    assert_eq!(text, *b"a...");
 }
 
 #[test]
@@ -181,14 +117,6 @@ fn text_text_length() {
 fn text_fill_text() {
     let mut text = [0; 10];
     fill_text::<Plain>(b"kiwi", true, false, &mut text);
-    assert_eq!(text, *b"0x6b697769");
-}
-
-#[test]
-fn text_encode_full() {
-    let mut text = [0; 10];
-    let mut output = SliceOutput::new(&mut text);
-    encode_full::<Plain, SliceOutput>(b"kiwi", true, false, &mut output);
     assert_eq!(text, *b"0x6b697769");
 }
 

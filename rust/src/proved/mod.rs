@@ -3,14 +3,10 @@
 #![allow(clippy::all)]
 
 pub(crate) mod arch;
-pub(crate) mod output;
-pub(crate) mod sink;
-pub(crate) mod stream;
 pub(crate) mod tables;
 pub(crate) mod text;
 pub(crate) mod codec;
 pub(crate) mod error;
-pub(crate) mod formatting;
 #[cfg(feature = "c")]
 pub(crate) mod c;
 #[cfg(all(test, feature = "std"))]
@@ -19,12 +15,6 @@ mod examples;
 pub use self::arch::check_first::*;
 pub use self::arch::plain::*;
 pub use self::arch::*;
-pub use self::output::*;
-pub use self::output::buffered::*;
-pub use self::output::slice::*;
-pub use self::sink::output::*;
-pub use self::sink::*;
-pub use self::stream::*;
 pub use self::tables::*;
 pub use self::text::*;
 pub use self::codec::checks::*;
@@ -32,35 +22,32 @@ pub use self::codec::decoder::*;
 pub use self::codec::decoders::*;
 pub use self::codec::encoders::*;
 pub use self::error::*;
-pub use self::formatting::*;
-pub use self::formatting::sink::*;
-pub use self::formatting::text::*;
 
 // The places that each rule of rust/erase has changed:
 //
-//   18  Rattle's std is the module std_shim
+//   14  Rattle's std is the module std_shim
 //    1  Rust's errors are not copied
-//   26  a formatter has a lifetime in place of its writer's type
+//    2  a formatter has a lifetime in place of its writer's type
 //   10  a function for C takes slices, which capi makes of pointers and lengths, and is compiled there alone
-//   82  all crates are one module
+//   66  all crates are one module
 //    3  an allocation never fails: without memory the program ends
-//   85  an assertion names no runtime
+//   75  an assertion names no runtime
 //    2  an example names a kernel that each target has
 //    4  an example uses no allocator
-//    2  and a constant converts by a cast
+//    1  and a constant converts by a cast
 //    1  and an error is borrowed
 //    5  and is a module of const_hex
 //    5  and kernels over vectors are there for WebAssembly alone
 //   13  and panics instead of returning an error
 //    1  and the crate's decoder is cloned
-//    1  and writes a text to memory that is not cleared
 //    2  before it reads a part, or ends
-//   54  deleted: attribute
-//  556  deleted: clause
-//  146  deleted: ghost item
-//    5  deleted: model
+//   46  deleted: attribute
+//  498  deleted: clause
+//   99  deleted: ghost item
+//    3  deleted: model
+//    5  deleted: output
 //    1  each value may be dropped
-//    7  kernels that no target uses are left out, callers that nothing exports, and a sink that allocates
+//    6  kernels that no target uses are left out, and callers that nothing exports
 //    1  the kernel is chosen for the processor
 //   15  what a constant calls is constant
 //    2  what hexfilter uses of const_hex is a module of std_shim

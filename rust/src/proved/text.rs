@@ -3,7 +3,6 @@
 
 use crate::std_shim::prelude::*;
 use crate::proved::arch::Kernel;
-use crate::proved::output::Output;
 
 /// The length of the text of `count` bytes, with `0x` before it if `prefix` is true. If that does
 /// not fit into a `usize`, this is `usize::MAX`, which no text has, since it is odd.
@@ -24,22 +23,6 @@ pub fn fill_text<K: Kernel>(input: &[u8], prefix: bool, upper: bool, output: &mu
         front[1] = b'x';
     }
     K::fill(input, upper, digits);
-}
-
-/// Writes `0x` if `prefix` is true, and then two digits for each byte, by the kernel `K`. The
-/// output must have space for them. Allocates only what the output allocates.
-#[inline(always)]
-pub fn encode_full<K: Kernel, O: Output>(input: &[u8], prefix: bool, upper: bool, output: &mut O) {
-    write_prefix(prefix, output);
-    K::encode(input, upper, output);
-}
-
-/// Writes `0x` if `prefix` is true.
-#[inline(always)]
-fn write_prefix<O: Output>(prefix: bool, output: &mut O) {
-    if prefix {
-        output.write(b"0x");
-    }
 }
 
 /// ASCII bytes as text, without a copy or a test at run time. Does not allocate.
