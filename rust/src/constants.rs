@@ -61,7 +61,9 @@ pub const fn bytes_of<const N: usize>(text: &[u8]) -> [u8; N] {
 }
 
 /// Panics with a message that ends in a position. A constant cannot format a number.
+// `inline`: few crates call it at run time, and only these compile it.
 #[cold]
+#[inline]
 #[track_caller]
 const fn panic_at(position: usize) -> ! {
     let mut message = *b"invalid character at position                     ";

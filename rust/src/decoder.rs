@@ -82,6 +82,7 @@ impl Decoder {
 
 /// Shows the [`position`](Decoder::position), and no digit.
 impl fmt::Debug for Decoder {
+    #[inline]
     fn fmt(&self, f: &mut fmt::Formatter<'_>) -> fmt::Result {
         let mut shown = f.debug_struct("Decoder");
         shown.field("position", &self.position()).finish_non_exhaustive()

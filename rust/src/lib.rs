@@ -229,9 +229,10 @@ pub fn decode<T: AsRef<[u8]>>(data: T) -> Result<Vec<u8>, FromHexError> {
 }
 
 /// Returns the first character that is not a digit, and its index, and drops the vector for what the digits decode to.
-// A function of its own, so that less code is inlined for a valid text.
+// A function of its own, so that less code is inlined for a valid text. `inline` leaves it to the crates that call it.
 #[cfg(feature = "alloc")]
 #[cold]
+#[inline]
 fn drop_and_locate(digits: &[u8], bytes: Vec<u8>) -> (char, usize) {
     drop(bytes);
     match invalid_first(digits) {
