@@ -25,6 +25,7 @@ pub enum FromHexError {
 }
 
 impl fmt::Display for FromHexError {
+    #[inline]
     fn fmt<'w>(&self, f: &mut fmt::Formatter<'w>) -> fmt::Result {
         match *self {
             FromHexError::OddLength => f.write_str("odd number of digits"),

@@ -179,6 +179,7 @@ impl Decoder {
     /// Ends with the first invalid character of these digits, which stand so many bytes after what was
     /// read.
     #[cold]
+    #[inline]
     fn fail(&mut self, skipped: usize, digits: &[u8]) -> FromHexError {
         let (byte, index) = find_first_bad(digits);
         let index = self.index.saturating_add(skipped).saturating_add(index);
