@@ -34,7 +34,7 @@ pub use self::error::*;
 //   75  an assertion names no runtime
 //    2  an example names a kernel that each target has
 //    4  an example uses no allocator
-//    1  and a constant converts by a cast
+//    2  and a constant converts by a cast
 //    1  and an error is borrowed
 //    5  and is a module of const_hex
 //    5  and kernels over vectors are there for WebAssembly alone
@@ -42,7 +42,7 @@ pub use self::error::*;
 //    1  and the crate's decoder is cloned
 //    2  before it reads a part, or ends
 //   46  deleted: attribute
-//  498  deleted: clause
+//  499  deleted: clause
 //   99  deleted: ghost item
 //    3  deleted: model
 //    5  deleted: output
