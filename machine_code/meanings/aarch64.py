@@ -209,10 +209,12 @@ def either(of_general, of_vectors):
     return lambda s, i: (of_general if i.operands[0].kind == "general" else of_vectors)(s, i)
 
 
-def shift_right(s, i):
-    *vectors, by = i.operands
-    to, one = same(*vectors)
-    s.put_lane(to, each(lambda a: z3.LShR(a, by.value), to.lane, s.lane(one)))
+def shifted(function):
+    def handler(s, i):
+        *vectors, by = i.operands
+        to, one = same(*vectors)
+        s.put_lane(to, each(lambda a: function(a, by.value), to.lane, s.lane(one)))
+    return handler
 
 
 def shift_left_and_insert(s, i):
@@ -346,7 +348,9 @@ HANDLERS = {
     "adrp": lambda s, i: s.put(i.operands[0], s.code.placed(i.operands[1].value)), "cset": set_if,
     "csel": select(lambda b: b), "csinv": select(lambda b: ~b), "b": jump, "bl": jump, "ret": ret, "cbz": jump_if_zero,
     "cbnz": jump_if_zero, "tbz": jump_if_bit, "tbnz": jump_if_bit, "umin": by_units(MINIMUM),
-    "uqsub": by_units(SUBTRACT_SATURATED), "ushr": shift_right, "sli": shift_left_and_insert,
+    "uqsub": by_units(SUBTRACT_SATURATED), "ushr": shifted(z3.LShR), "shl": shifted(lambda a, count: a << count),
+    "sli": shift_left_and_insert,
+    "rev16": lambda s, i: s.put_lane(i.operands[0], each(lambda a: z3.RotateLeft(a, 8), 2, s.lane(i.operands[1]))),
     "movi": constant, "mov": move, "fmov": move, "umov": move, "dup": duplicate, "xtn": narrow, "ext": extract,
     "tbl": look_up, "uzp1": mixed(lambda a, b: (a + b)[::2]), "uzp2": mixed(lambda a, b: (a + b)[1::2]),
     "zip1": mixed(lambda a, b: pairs(a, b)[: len(a)]), "zip2": mixed(lambda a, b: pairs(a, b)[len(a) :]),
