@@ -29,7 +29,7 @@ pub use self::error::*;
 //    1  Rust's errors are not copied
 //    2  a formatter has a lifetime in place of its writer's type
 //   10  a function for C takes slices, which capi makes of pointers and lengths, and is compiled there alone
-//   66  all crates are one module
+//   65  all crates are one module
 //    3  an allocation never fails: without memory the program ends
 //   75  an assertion names no runtime
 //    2  an example names a kernel that each target has

@@ -4,9 +4,8 @@ ghost use Rattle.std.specs.Prelude.{◌≡◌, [], ◌∷◌, ◌+◌, ◌*◌, 
 ghost use Rattle.const_hex_arch.specs.{AllDigits, Spells, Partial, hex_text};
 
 use crate::arch::lanes::{self, LaneOps, PairOps};
-use crate::arch::lanes16;
 use crate::arch::plain::Plain;
-use crate::arch::{Kernel, steps};
+use crate::arch::{Kernel, lanes16, steps};
 use std::simd::prelude::*;
 
 /// Fills the output with two digits for each of at most 15 bytes.

@@ -3,9 +3,8 @@
 
 use crate::std_shim::prelude::*;
 use crate::proved::arch::lanes::{self, LaneOps, PairOps};
-use crate::proved::arch::lanes16;
 use crate::proved::arch::plain::Plain;
-use crate::proved::arch::{Kernel, steps};
+use crate::proved::arch::{Kernel, lanes16, steps};
 use crate::std_shim::simd::prelude::*;
 
 /// Fills the output with two digits for each of at most 15 bytes.

@@ -50,7 +50,10 @@ pub(crate) fn find_invalid_character(text: &[u8], body: &[u8]) -> FromHexError {
         return FromHexError::InvalidHexCharacter { c, index: prefix };
     }
     let (c, index) = locate_invalid(body);
-    FromHexError::InvalidHexCharacter { c, index: index + prefix }
+    FromHexError::InvalidHexCharacter {
+        c,
+        index: index + prefix,
+    }
 }
 
 /// The first byte, if it is not a digit. Callers ask for it before they search.
