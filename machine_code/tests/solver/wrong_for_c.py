@@ -35,7 +35,7 @@ WRONG = [
     ("check_raw", "a length that is too great", "add rdi,rax", "add rdi,rax; or rsi,-1", LENGTH),
     ("check_raw", "a secret length", "add rdi,rax", "add rdi,rax; and rsi,r15", "an argument depends on bytes"),
     ("check_raw", "a text in the stack", "add rdi,rax", "mov rdi,rsp; mov esi,4", "neither in the input nor a pair"),
-    ("locate_invalid", "another index", "3:; xor edx,edx", "3: mov edx,1", "another index"),
+    ("locate_invalid", "another index", "6:; movzx eax,al", "6: movzx eax,al; inc rdx", "another index"),
     ("locate_invalid", "another character", "xor eax,eax; mov rdx,rsi", "mov eax,1; mov rdx,rsi", "another character"),
     ("locate_invalid", "the end before the last character", "mov rdx,rsi; 6:", "lea rdx,[rsi-1]; 6:", "another index"),
     ("locate_invalid", "an end after one character", "jne 5b", "", PASSES),

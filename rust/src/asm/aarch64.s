@@ -980,11 +980,12 @@
 	ret
 14:
 	xtn v1.8b, v0.8h
-	movi v2.8b, #0xf
+	ext v0.16b, v0.16b, v0.16b, #8
 	mov w0, #0x1
+	movi v2.8b, #0xf
 	shl v1.16b, v1.16b, #4
 	and v0.8b, v0.8b, v2.8b
-	zip1 v1.8b, v1.8b, v0.8b
+	zip2 v1.8b, v1.8b, v0.8b
 	rev16 v0.8b, v0.8b
 	orr v0.8b, v1.8b, v0.8b
 	uzp1 v0.8b, v0.8b, v0.8b

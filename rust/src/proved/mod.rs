@@ -41,8 +41,8 @@ pub use self::error::*;
 //   13  and panics instead of returning an error
 //    1  and the crate's decoder is cloned
 //    2  before it reads a part, or ends
-//   47  deleted: attribute
-//  504  deleted: clause
+//   46  deleted: attribute
+//  499  deleted: clause
 //   99  deleted: ghost item
 //    3  deleted: model
 //    5  deleted: output

@@ -69,7 +69,7 @@ impl Kernel for Interleaved {
         if output.len() > 16 {
             loops::decode_long::<32, false, true, Interleaved, Interleaved>(input, output)
         } else if output.len() == 4 {
-            small_input::decode_four::<Interleaved>(input, output)
+            small_input::decode_ends::<4, 8, Interleaved>(input, output)
         } else if output.len() == 1 {
             small_input::decode_byte::<Interleaved>(input, output)
         } else {

@@ -139,7 +139,7 @@ pub(crate) fn decode_pairs(text: &[u8], output: &mut [u8]) -> bool {
 /// Decodes a text to `H` to `2 * H` bytes and returns true. If some byte is not a digit, returns
 /// false, and the output is unchanged. `D` is `2 * H`, the number of digits of `H` bytes.
 #[inline(always)]
-fn decode_ends<const H: usize, const D: usize, S: LaneOps<16>>(
+pub(crate) fn decode_ends<const H: usize, const D: usize, S: LaneOps<16>>(
     text: &[u8],
     output: &mut [u8],
 ) -> bool {
@@ -150,18 +150,6 @@ fn decode_ends<const H: usize, const D: usize, S: LaneOps<16>>(
     if are_digits {
         let last = Simd::from_slice(&bytes[H..]);
         put::<H>(Simd::from_slice(&bytes), last, output.len() - H, output);
-    }
-    are_digits
-}
-
-/// As `decode_short`, for 4 bytes, whose text fills a vector twice.
-#[inline(always)]
-pub(crate) fn decode_four<S: LaneOps<16>>(text: &[u8], output: &mut [u8]) -> bool {
-    let mut bytes = [0; 16];
-    let step = steps::load_ends::<8, 32>(&text[..8], b'0');
-    let are_digits = steps::decode_step::<16, S>(&step, false, &mut bytes);
-    if are_digits {
-        Simd::<u8, 4>::from_slice(&bytes).copy_to_slice(output);
     }
     are_digits
 }
