@@ -129,7 +129,8 @@ class FirstInvalid(Function):
         state.must(state.result(64, 1) == index, "another index")
 
     def called(self, state, input, n):
-        return ((way, z3.ZeroExt(24, character), index) for way, index, character in first_invalid_from(state, input, n))
+        for way, index, character in first_invalid_from(state, input, n):
+            yield way, z3.ZeroExt(24, character), index
 
 
 class Text(Exported):

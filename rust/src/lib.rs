@@ -21,8 +21,8 @@
 //!
 //! Features: `alloc` adds what returns a `String` or a vector; `std` (by default) adds `alloc`, `DecodeReader`,
 //! `EncodeWriter` and `std::error::Error`; `serde` adds `#[serde(with = "const_hex_proved")]`; `core-error` implements
-//! `core::error::Error` without `std`, and needs Rust 1.81; `force-generic` uses no machine code. The feature `c` is for
-//! the library for C, and no part of the interface.
+//! `core::error::Error` without `std`, and needs Rust 1.81; `force-generic` uses no machine code. The feature `c` is
+//! for the library for C, and no part of the interface.
 //!
 //! No function is claimed to be constant-time: of what runs, only the machine code is, and for valid input.
 #![no_std]
@@ -229,7 +229,7 @@ pub fn decode<T: AsRef<[u8]>>(data: T) -> Result<Vec<u8>, FromHexError> {
 }
 
 /// Returns the first character that is not a digit, and its index, and drops the vector for what the digits decode to.
-// A function of its own, so that less code is inlined for a valid text. `inline` leaves it to the crates that call it.
+// A function of its own, so that less code is inlined for a valid text. By `inline` only crates that call it compile it.
 #[cfg(feature = "alloc")]
 #[cold]
 #[inline]

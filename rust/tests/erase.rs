@@ -55,6 +55,7 @@ fn what_is_not_understood() {
         ("unknown", "trait T {\n    ghost a: { B } = { c };\n\n    fn f();\n}", "the ghost item ghost a: @ = @;"),
         ("unknown", "fn f() {\n    #[tactic(auto)] if x {\n        g();\n    }\n}", "the attribute #@ if x @"),
         ("unknown", "impl Model for S {} fn f() {}", "the model impl Model for S @ fn f@ @"),
+        ("unknown", "impl A {\n    /// F.\n    #[inline]\n    fn f<O: Output>(o: O) {\n        g();\n    }\n}\n\nimpl B {\n    fn g() {\n    }\n\n    fn h() {}\n}", "the output O: Output>"),
         ("unknown", "fn f(&mut self) {\n    /* no ghost */\n    if self.is_full() {\n        return;\n    }\n}", "the form /*"),
         ("unknown", "fn f() -> &str {\n    r\"\\\"\n}", "the form r\""),
         ("unknown", "fn f() -> &[u8] {\n    br#\"\"ghost;\"#\n}", "the form br#\""),

@@ -18,7 +18,7 @@ fn an_error_of_core() {
 #[test]
 fn printing() {
     assert_eq!(format!("{:>20}", display(BYTES)), TEXT);
-    for length in [300, 2047, 2048, 2049, 5000, 16_384, 16_385, 40_000] {
+    for length in [127, 128, 129, 511, 512, 513, 2047, 2048, 2049, 5000, 16_384, 16_385, 40_000] {
         let bytes: Vec<u8> = (0..length).map(|at| (at * 73 + length) as u8).collect();
         let wanted: String = bytes.iter().map(|byte| format!("{byte:02X}")).collect();
         assert_eq!(format!("{:X}", display(&bytes)), wanted);
@@ -45,6 +45,8 @@ fn calls_of_a_formatter() {
     for (length, last, last_prefixed) in [
         (0, None, Some(2)),
         (1, Some(2), Some(4)),
+        (128, Some(256), Some(258)),
+        (512, Some(1024), Some(1026)),
         (2047, Some(4094), Some(4096)),
         (2048, Some(4096), Some(2)),
         (2049, Some(2), Some(4)),
@@ -53,14 +55,16 @@ fn calls_of_a_formatter() {
         (40_000, Some(2176), Some(2178)),
     ] {
         for (is_prefixed, last) in [(false, last), (true, last_prefixed)] {
-            let mut space = Space(Some(usize::MAX), Vec::new());
-            match is_prefixed {
+            let print = |space: &mut Space| match is_prefixed {
                 false => write!(space, "{}", display(&bytes[..length])),
                 true => write!(space, "{:#}", display(&bytes[..length])),
-            }
-            .unwrap();
+            };
+            let mut space = Space(Some(usize::MAX), Vec::new());
+            print(&mut space).unwrap();
             assert_eq!(space.1.pop(), last);
             assert!(space.1.iter().all(|length| *length == 4096));
+            // Without space the first call fails.
+            assert_eq!(print(&mut Space(Some(0), Vec::new())).is_err(), last.is_some());
         }
     }
     // A formatter's error ends the printing.

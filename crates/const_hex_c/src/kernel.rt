@@ -2,9 +2,9 @@
 //! these functions.
 //!
 //! `c/asm/freeze` writes what `rt` makes of `fill`, `check` and `read`, for AArch64 of `interleaved_fill`,
-//! `interleaved_check` and `interleaved_read`, where it changes the stores of a loop. They require that the lengths fit, which
-//! their callers make sure of, and which registers hold their arguments is left to the compiler:
-//! `machine_code` proves their code with the arguments where `rust/src/kernel/machine_code.rs` passes them.
+//! `interleaved_check` and `interleaved_read`, where it changes the stores of a loop. They require that the
+//! lengths fit, which their callers make sure of, and which registers hold their arguments is left to the
+//! compiler: `machine_code` proves their code with the arguments where `rust/src/kernel/machine_code.rs` passes them.
 
 ghost use Rattle.std.specs.Prelude.{◌≡◌, ◌*◌, ◌↔◌, IsTrue, false, length};
 ghost use Rattle.const_hex.specs.Texts.{hex_text, AllDigits, Spells, Partial};

@@ -42,7 +42,7 @@ pub use self::error::*;
 //    1  and the crate's decoder is cloned
 //    2  before it reads a part, or ends
 //   46  deleted: attribute
-//  499  deleted: clause
+//  500  deleted: clause
 //   99  deleted: ghost item
 //    3  deleted: model
 //    5  deleted: output

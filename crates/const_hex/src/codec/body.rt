@@ -1,7 +1,7 @@
 //! The body of a text, which is what follows the prefix: the rule of the prefix, the first invalid
 //! character, and decoding by a kernel.
 
-ghost use Rattle.std.specs.Prelude.{◌≡◌, ◌+◌, ◌-◌, ◌*◌, ◌%◌, ◌<◌, ◌≤◌, ◌==◌, ◌&&◌, ◌||◌, ◌↔◌, true, false, length, take, drop, slice_index, Err, IfErr, IfOk, IsTrue, IfSome};
+ghost use Rattle.std.specs.Prelude.{◌≡◌, ◌+◌, ◌-◌, ◌*◌, ◌%◌, ◌<◌, ◌≤◌, ◌==◌, ◌&&◌, ◌||◌, ◌↔◌, true, false, length, take, drop, slice_index, Err, IfErr, IfOk, IsTrue, IfSome, None};
 ghost use Rattle.const_hex_arch.specs.Texts.{AllDigits, IsDigit, FirstBad, Spells, Partial};
 ghost use Rattle.const_hex.specs.Results.{IsEven, IsOdd, NamesFirstBad, Reads, body_of};
 ghost use Rattle.const_hex.specs.declared.error.FromHexError.TheVariants.{OddLength, InvalidHexCharacter};
@@ -77,7 +77,8 @@ pub(crate) fn find_invalid_character(text: &[u8], body: &[u8]) -> FromHexError
 /// The first byte, if it is not a digit. Callers ask for it before they search.
 #[inline(always)]
 pub(crate) fn invalid_first(text: &[u8]) -> Option<char>
-    ensures { IfSome result (λ c. FirstBad text.now 0 × c ≡ slice_index text.now 0) }
+    ensures some { IfSome result (λ c. FirstBad text.now 0 × c ≡ slice_index text.now 0) }
+    ensures none { result ≡ None → AllDigits (take 1 text.now) }
 {
     match text {
         [first, ..] if value_at(*first) == NIL => Some(char::from(*first)),
@@ -85,7 +86,7 @@ pub(crate) fn invalid_first(text: &[u8]) -> Option<char>
     }
 }
 
-/// As `find_first_bad`.
+/// As `find_first_bad`, with the byte as a character.
 // Not inlined: so the search stands once, and the public decoders stay small.
 #[cold]
 #[inline(never)]

@@ -56,6 +56,7 @@ impl Kernel for Interleaved {
         if input.len() >= 32 {
             loops::check_in_steps::<32, Interleaved>(input)
         } else if input.len() == 8 {
+            // A slice whose length LLVM knows.
             small_input::check_ends::<8, Interleaved>(&input[..8])
         } else {
             small_input::check::<Interleaved>(input)

@@ -65,7 +65,7 @@ pub(crate) fn invalid_first(text: &[u8]) -> Option<char> {
     }
 }
 
-/// As `find_first_bad`.
+/// As `find_first_bad`, with the byte as a character.
 // Not inlined: so the search stands once, and the public decoders stay small.
 #[cold]
 #[inline(never)]
