@@ -229,10 +229,9 @@ pub fn decode<T: AsRef<[u8]>>(data: T) -> Result<Vec<u8>, FromHexError> {
 }
 
 /// Returns the first character that is not a digit, and its index, and drops the vector for what the digits decode to.
-// A function of its own, so that less code is inlined for a valid text. By `inline` only crates that call it compile it.
+// A function of its own, so that less code is inlined for a valid text, and no second copy of the table of digits.
 #[cfg(feature = "alloc")]
 #[cold]
-#[inline]
 fn drop_and_locate(digits: &[u8], bytes: Vec<u8>) -> (char, usize) {
     drop(bytes);
     match invalid_first(digits) {
