@@ -12,7 +12,8 @@
 #define const_hex_1_0_0_choice choice
 #define const_hex_1_0_0_build SYMBOL(const_hex_kernel_build)
 #define const_hex_1_0_0_check SYMBOL(const_hex_kernel_check)
-#define const_hex_1_0_0_fill SYMBOL(const_hex_kernel_fill)
+#define const_hex_1_0_0_fill_lower SYMBOL(const_hex_kernel_fill_lower)
+#define const_hex_1_0_0_fill_upper SYMBOL(const_hex_kernel_fill_upper)
 #define const_hex_1_0_0_read SYMBOL(const_hex_kernel_read)
 #define rust c
 #include "../../rust/src/asm/dispatch.s"

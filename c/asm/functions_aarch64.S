@@ -499,48 +499,52 @@
 /* const_hex_c::const_hex_encode */
 	exported SYMBOL(const_hex_encode)
 	function SYMBOL(const_hex_encode)
-	mov w10, #0x1000
+	mov w9, #0x1000
 	cmp x0, #0x0
-	mov x8, x3
-	csel x9, x10, xzr, eq
+	csel x8, x9, xzr, eq
 	cmp x2, #0x0
-	csel x10, x10, xzr, eq
-	add x3, x2, x10
+	csel x9, x9, xzr, eq
+	add x2, x2, x9
 	tbnz x1, #63, 2f
-	lsl x11, x1, #1
-	and w10, w4, #0x2
-	adds x11, x11, w10, uxtw
+	lsl x10, x1, #1
+	and w9, w4, #0x2
+	adds x10, x10, w9, uxtw
 	b.cc 4f
 2:
 	mov w0, wzr
-	cbz x8, 3f
+	cbz x3, 3f
 	tbnz w4, #2, 3f
 	mov w0, wzr
-	strb wzr, [x3]
+	strb wzr, [x2]
 3:
 	ret
 4:
 	cmp w4, #0x3
 	b.hi 5f
-	cmp x11, x8
+	cmp x10, x3
 	b.cs 2b
-	strb wzr, [x3, x11]
+	strb wzr, [x2, x10]
 	b 6f
 5:
 	cmp w4, #0x7
 	b.hi 2b
-	cmp x11, x8
+	cmp x10, x3
 	b.hi 2b
 6:
-	cbz w10, 7f
-	mov w8, #0x7830
-	strh w8, [x3], #2
+	cbz w9, 7f
+	mov w9, #0x7830
+	strh w9, [x2], #2
 7:
 	stp x29, x30, [sp, #-16]!
-	add x0, x0, x9
-	and w2, w4, #0x1
+	add x0, x0, x8
 	mov x29, sp
-	bl SYMBOL(const_hex_kernel_fill)
+	tbnz w4, #0, 8f
+	bl SYMBOL(const_hex_kernel_fill_lower)
+	mov w0, #0x1
+	ldp x29, x30, [sp], #16
+	ret
+8:
+	bl SYMBOL(const_hex_kernel_fill_upper)
 	mov w0, #0x1
 	ldp x29, x30, [sp], #16
 	ret

@@ -567,31 +567,31 @@
 	exported SYMBOL(const_hex_encode)
 	function SYMBOL(const_hex_encode)
 	push   rbx
-	mov    rax,rcx
+	mov    rax,rdx
 	xor    r9d,r9d
 	test   rdi,rdi
 	sete   r10b
-	xor    ecx,ecx
-	test   rdx,rdx
-	sete   cl
-	shl    ecx,0xc
-	add    rcx,rdx
+	xor    edx,edx
+	test   rax,rax
+	sete   dl
+	shl    edx,0xc
+	add    rdx,rax
 	test   rsi,rsi
 	js     2f
-	mov    edx,r8d
-	and    edx,0x2
+	mov    eax,r8d
+	and    eax,0x2
 	lea    rbx,[rsi+rsi*1]
-	mov    r11d,edx
+	mov    r11d,eax
 	add    r11,rbx
 	jae    4f
 2:
 	and    r8d,0x4
 	shr    r8d,0x2
-	test   rax,rax
+	test   rcx,rcx
 	sete   al
 	or     al,r8b
 	jne    3f
-	mov    BYTE PTR [rcx],0x0
+	mov    BYTE PTR [rdx],0x0
 3:
 	xor    eax,eax
 	pop    rbx
@@ -599,29 +599,34 @@
 4:
 	cmp    r8d,0x3
 	ja     5f
-	cmp    r11,rax
+	cmp    r11,rcx
 	jae    2b
-	mov    BYTE PTR [rcx+r11*1],0x0
+	mov    BYTE PTR [rdx+r11*1],0x0
 	jmp    6f
 5:
 	cmp    r8d,0x8
 	setae  bl
-	cmp    r11,rax
+	cmp    r11,rcx
 	seta   r11b
 	or     r11b,bl
 	jne    2b
 6:
 	mov    r9b,r10b
 	shl    r9d,0xc
-	add    rdi,r9
-	test   edx,edx
+	test   eax,eax
 	je     7f
-	mov    WORD PTR [rcx],0x7830
-	add    rcx,0x2
+	mov    WORD PTR [rdx],0x7830
+	add    rdx,0x2
 7:
-	and    r8d,0x1
-	mov    edx,r8d
-	call   SYMBOL(const_hex_kernel_fill)
+	add    rdi,r9
+	test   r8b,0x1
+	jne    8f
+	call   SYMBOL(const_hex_kernel_fill_lower)
+	mov    al,0x1
+	pop    rbx
+	ret
+8:
+	call   SYMBOL(const_hex_kernel_fill_upper)
 	mov    al,0x1
 	pop    rbx
 	ret

@@ -7,7 +7,8 @@
 #define const_hex_1_0_0_constant_2 SYMBOL(const_hex_kernel_constant_2)
 #define const_hex_1_0_0_constant_3 SYMBOL(const_hex_kernel_constant_3)
 #define const_hex_1_0_0_constant_4 SYMBOL(const_hex_kernel_constant_4)
-#define const_hex_1_0_0_fill SYMBOL(const_hex_kernel_fill)
+#define const_hex_1_0_0_fill_lower SYMBOL(const_hex_kernel_fill_lower)
+#define const_hex_1_0_0_fill_upper SYMBOL(const_hex_kernel_fill_upper)
 #define const_hex_1_0_0_read SYMBOL(const_hex_kernel_read)
 #include "../../rust/src/asm/aarch64.s"
 #endif

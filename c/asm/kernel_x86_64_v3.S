@@ -4,6 +4,9 @@
 #ifdef __x86_64__
 #define const_hex_1_0_0_check_v3 SYMBOL(const_hex_kernel_check_v3)
 #define const_hex_1_0_0_constant_10_v3 SYMBOL(const_hex_kernel_constant_10_v3)
+#define const_hex_1_0_0_constant_11_v3 SYMBOL(const_hex_kernel_constant_11_v3)
+#define const_hex_1_0_0_constant_12_v3 SYMBOL(const_hex_kernel_constant_12_v3)
+#define const_hex_1_0_0_constant_13_v3 SYMBOL(const_hex_kernel_constant_13_v3)
 #define const_hex_1_0_0_constant_1_v3 SYMBOL(const_hex_kernel_constant_1_v3)
 #define const_hex_1_0_0_constant_2_v3 SYMBOL(const_hex_kernel_constant_2_v3)
 #define const_hex_1_0_0_constant_3_v3 SYMBOL(const_hex_kernel_constant_3_v3)
@@ -13,7 +16,8 @@
 #define const_hex_1_0_0_constant_7_v3 SYMBOL(const_hex_kernel_constant_7_v3)
 #define const_hex_1_0_0_constant_8_v3 SYMBOL(const_hex_kernel_constant_8_v3)
 #define const_hex_1_0_0_constant_9_v3 SYMBOL(const_hex_kernel_constant_9_v3)
-#define const_hex_1_0_0_fill_v3 SYMBOL(const_hex_kernel_fill_v3)
+#define const_hex_1_0_0_fill_lower_v3 SYMBOL(const_hex_kernel_fill_lower_v3)
+#define const_hex_1_0_0_fill_upper_v3 SYMBOL(const_hex_kernel_fill_upper_v3)
 #define const_hex_1_0_0_read_v3 SYMBOL(const_hex_kernel_read_v3)
 #include "../../rust/src/asm/x86_64_v3.s"
 #endif

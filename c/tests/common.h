@@ -29,32 +29,40 @@ static const struct build {
 static const struct build *build = BUILDS;
 #else
 typedef bool check_function(const char *text, size_t text_length);
-typedef void fill_function(const char *bytes, size_t bytes_length, unsigned upper, char *text);
+typedef void fill_lower_function(const char *bytes, size_t bytes_length, char *text);
+typedef void fill_upper_function(const char *bytes, size_t bytes_length, char *text);
 typedef bool read_function(const char *text, char *bytes, size_t bytes_size);
-check_function __real_const_hex_kernel_check, const_hex_kernel_check_v2, const_hex_kernel_check_v3;
-fill_function __real_const_hex_kernel_fill, const_hex_kernel_fill_v2, const_hex_kernel_fill_v3;
-read_function __real_const_hex_kernel_read, const_hex_kernel_read_v2, const_hex_kernel_read_v3;
+/* The function of the kernel that the library picks for this CPU, that of each kernel, and the one that the library
+ * calls in its place, by ld's option --wrap. */
+#define FUNCTIONS(name) \
+    name##_function __real_const_hex_kernel_##name, const_hex_kernel_##name##_v2, const_hex_kernel_##name##_v3, \
+        __wrap_const_hex_kernel_##name
+FUNCTIONS(check);
+FUNCTIONS(fill_lower);
+FUNCTIONS(fill_upper);
+FUNCTIONS(read);
 
-/* The kernels: the one that the library picks for this CPU, and each. */
+#define BUILD(label, prefix, suffix) \
+    {label, prefix##check##suffix, prefix##fill_lower##suffix, prefix##fill_upper##suffix, prefix##read##suffix}
 static const struct build {
     const char *label;
     check_function *check;
-    fill_function *fill;
+    fill_lower_function *fill_lower;
+    fill_upper_function *fill_upper;
     read_function *read;
 } BUILDS[] = {
-    {"the library", __real_const_hex_kernel_check, __real_const_hex_kernel_fill, __real_const_hex_kernel_read},
-    {"the kernel for x86-64-v2", const_hex_kernel_check_v2, const_hex_kernel_fill_v2, const_hex_kernel_read_v2},
-    {"the kernel for x86-64-v3", const_hex_kernel_check_v3, const_hex_kernel_fill_v3, const_hex_kernel_read_v3},
+    BUILD("the library", __real_const_hex_kernel_, ),
+    BUILD("the kernel for x86-64-v2", const_hex_kernel_, _v2),
+    BUILD("the kernel for x86-64-v3", const_hex_kernel_, _v3),
 };
 static const struct build *build = BUILDS;
 
-/* By ld's option --wrap, the library calls these. */
-check_function __wrap_const_hex_kernel_check;
-fill_function __wrap_const_hex_kernel_fill;
-read_function __wrap_const_hex_kernel_read;
 bool __wrap_const_hex_kernel_check(const char *text, size_t text_length) { return build->check(text, text_length); }
-void __wrap_const_hex_kernel_fill(const char *bytes, size_t bytes_length, unsigned upper, char *text) {
-    build->fill(bytes, bytes_length, upper, text);
+void __wrap_const_hex_kernel_fill_lower(const char *bytes, size_t bytes_length, char *text) {
+    build->fill_lower(bytes, bytes_length, text);
+}
+void __wrap_const_hex_kernel_fill_upper(const char *bytes, size_t bytes_length, char *text) {
+    build->fill_upper(bytes, bytes_length, text);
 }
 bool __wrap_const_hex_kernel_read(const char *text, char *bytes, size_t bytes_size) {
     return build->read(text, bytes, bytes_size);

@@ -24,7 +24,7 @@ if(NOT CONST_HEX_CARGO)
       test(library.vectors_in_${file} COMMAND sh -ec
         "ar p '$<TARGET_FILE:const_hex_static>' ${file}.S.o > ${file}.o
          '${CMAKE_OBJDUMP}' -d --no-show-raw-insn ${file}.o > ${file}.code
-         for name in check fill read; do
+         for name in check fill_lower fill_upper read; do
            sed -n \"/<const_hex_kernel_$name\\(_v[23]\\)\\{0,1\\}>:/,/^$/p\" ${file}.code | grep -q '${CMAKE_MATCH_2}'
          done")
     endif()

@@ -16,33 +16,21 @@ from solver.questions import is_public, names, require
 
 def effects(contracts):
     """What functions do by their contracts, by the names that others call them with."""
-    by_name = {}
-    for contract in contracts:
-        by_name.setdefault(contract.called_as, []).append(contract)
-    return {name: functools.partial(_called, of_name) for name, of_name in by_name.items()}
+    return {contract.called_as: functools.partial(_called, contract) for contract in contracts}
 
 
-def _called(contracts, state):
-    """The states after a call of a function that has some contracts, one of which is for the arguments, each with the
-    result, if there is one. It takes the state at the first instruction of the function."""
-    ways = [(contract, *_passed(state, contract)) for contract in contracts]
-    state.must(z3.Or(*[condition for _, condition, _ in ways]), "arguments that the contract does not allow")
-    for contract, condition, arguments in ways:
-        is_constant = not contract.may_leak and all(map(is_public, arguments.values()))
-        require(state.may_leak or is_constant, "how long a call takes may depend on bytes that are secret")
-        if way := state.when(condition):
-            yield from contract.called(way, **arguments)
-
-
-def _passed(state, contract):
-    """Whether the arguments of a call are those of a contract, and these by their names in it."""
-    arguments = list(zip(contract.arguments, state.arguments(len(contract.arguments))))
-    named = [(formal, given) for formal, given in arguments if z3.is_const(formal)]
-    fixed = [z3.Extract(31, 0, formal) == z3.Extract(31, 0, given) for formal, given in arguments
-             if not z3.is_const(formal)]
-    condition = z3.And(*fixed, *[z3.substitute(condition, *named) for condition in contract.requires])
-    require(state.may_leak or is_public(simple(condition)), "an argument depends on bytes that are secret")
-    return simple(condition), {formal.decl().name().removeprefix("p_"): given for formal, given in named}
+def _called(contract, state):
+    """The states after a call of a function, each with the result, if there is one. It takes the state at the first
+    instruction of the function."""
+    passed = list(zip(contract.arguments, state.arguments(len(contract.arguments))))
+    condition = simple(z3.And(*[z3.substitute(condition, *passed) for condition in contract.requires]))
+    require(state.may_leak or is_public(condition), "an argument depends on bytes that are secret")
+    state.must(condition, "arguments that the contract does not allow")
+    arguments = {formal.decl().name().removeprefix("p_"): given for formal, given in passed}
+    is_constant = not contract.may_leak and all(map(is_public, arguments.values()))
+    require(state.may_leak or is_constant, "how long a call takes may depend on bytes that are secret")
+    if way := state.when(condition):
+        yield from contract.called(way, **arguments)
 
 
 def any_below(state, count):

@@ -10,9 +10,9 @@ import functools
 
 import z3
 
-from contracts.functions import Function, of_32_bits
+from contracts.functions import Function
 from contracts.names import FUNCTIONS, KERNELS, WITH_ERROR
-from execution.state import fresh, simple, split, word
+from execution.state import fresh, split, word
 from meanings.x86_64 import reported
 from solver.questions import require
 
@@ -46,8 +46,7 @@ class Dispatched(Function):
 
     def __init__(self, function, parameters):
         self.function, self.symbol, self.parameters = function, f"const_hex_{function}", parameters.split()
-        self.arguments = [of_32_bits(z3.BitVec("g_upper", 32)) if name == "upper" else z3.BitVec(f"g_{name}", 64)
-                          for name in self.parameters]
+        self.arguments = [z3.BitVec(f"g_{name}", 64) for name in self.parameters]
         self.imported = {end: functools.partial(self.calls, end) for end in self.ends}
 
     def cases(self, state):
@@ -65,8 +64,6 @@ class Dispatched(Function):
         yield state, state.result_of_call
 
     def must_pass(self, state, index, given, wanted):
-        bits = 32 if self.parameters[index] == "upper" else 64
-        given, wanted = [simple(z3.Extract(bits - 1, 0, term)) for term in (given, wanted)]
         state.must(given == wanted, f"argument {index} is another")
 
     def returns(self, state):

@@ -8,7 +8,7 @@ import z3
 
 from contracts.callees import any_below, is_in, judged, offset_in, write
 from contracts.functions import (N, Function, base, decoded, digits_of, is_digit, must_be_a_front, must_be_digits,
-                                 must_be_written, of_32_bits)
+                                 must_be_written)
 from execution.state import Region, simple, word
 from solver.questions import holds, require
 
@@ -40,14 +40,13 @@ class Kernel(Function):
 
 
 class Fill(Kernel):
-    """fill(bytes, n, upper, text): the text has the two digits of each byte. There is no result."""
+    """fill_lower(bytes, n, text), or fill_upper: the text has the two digits of each byte. There is no result."""
 
-    function, is_any_valid = "fill", True
+    is_any_valid, name, arguments = True, "any bytes", (base("input"), N, base("output"))
     input_size, output_size = N, simple(2 * N)
 
     def __init__(self, is_upper):
-        self.is_upper, self.name = is_upper, "uppercase" if is_upper else "lowercase"
-        self.arguments = base("input"), N, simple(of_32_bits(z3.BitVecVal(is_upper, 32))), base("output")
+        self.is_upper, self.function = is_upper, "fill_upper" if is_upper else "fill_lower"
 
     def store(self, state, offset, lane):
         """At an even offset stands the higher digit of a byte, and at the next one the lower."""

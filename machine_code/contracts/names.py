@@ -17,6 +17,6 @@ FUNCTIONS = {"encoded_size": Function("bytes_length flags", False, True, False),
              "error_message": Function("error message message_size", False, False, False),
              "version": Function("", False, True, False)}
 # The kernels' functions, which are called with these.
-KERNELS = {"kernel_check": "text text_length", "kernel_fill": "bytes bytes_length upper text",
-           "kernel_read": "text bytes bytes_size"}
+KERNELS = {"kernel_check": "text text_length", "kernel_fill_lower": "bytes bytes_length text",
+           "kernel_fill_upper": "bytes bytes_length text", "kernel_read": "text bytes bytes_size"}
 WITH_ERROR = {name for name, function in FUNCTIONS.items() if function.error_may_be_null}

@@ -165,11 +165,13 @@ def move_part(s, i):
 
 
 def insert_bits(s, i):
-    """The lowest bits come from anywhere in another register, and the others are kept."""
-    to, by, low, count = i.operands
+    """bfxil: bits from anywhere in a register replace the lowest of another. bfi: the lowest replace bits anywhere."""
+    to, by, place, count = i.operands
     require(count.value < 8 * to.size, "all bits")
-    kept = z3.Extract(8 * to.size - 1, count.value, s.number(to))
-    s.put(to, simple(z3.Concat(kept, z3.Extract(low.value + count.value - 1, low.value, s.number(by, to.size)))))
+    low, at = (place.value, 0) if i.mnemonic == "bfxil" else (0, place.value)
+    kept = z3.Extract(8 * to.size - 1, count.value, z3.RotateRight(s.number(to), at))
+    new = z3.Extract(low + count.value - 1, low, s.number(by, to.size))
+    s.put(to, simple(z3.RotateLeft(z3.Concat(kept, new), at)))
 
 
 def shift(s, i):
@@ -344,7 +346,7 @@ HANDLERS = {
     "cmp": general(SUBTRACT, comparison_flags, is_kept=False), "and": either(general(AND), by_units(AND)),
     "orr": either(general(OR), by_units(OR)), "eor": general(XOR), "neg": general(lambda a: -a),
     "mvn": general(lambda a: ~a), "msub": general(lambda a, b, c: c - a * b), "umulh": upper_product,
-    "movk": move_part, "bfxil": insert_bits, "lsl": shift, "lsr": shift,
+    "movk": move_part, "bfi": insert_bits, "bfxil": insert_bits, "lsl": shift, "lsr": shift,
     "adrp": lambda s, i: s.put(i.operands[0], s.code.placed(i.operands[1].value)), "cset": set_if,
     "csel": select(lambda b: b), "csinv": select(lambda b: ~b), "b": jump, "bl": jump, "ret": ret, "cbz": jump_if_zero,
     "cbnz": jump_if_zero, "tbz": jump_if_bit, "tbnz": jump_if_bit, "umin": by_units(MINIMUM),

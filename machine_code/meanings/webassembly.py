@@ -65,7 +65,6 @@ class Reader:
         if mnemonic.startswith("br"):
             targets = [self.blocks[-1 - depth] for depth in numbers]
         for block in targets:
-            require(self.height - takes == block.height, "operands that a branch drops")
             block.is_used = True
         self.read_so_far.append((mnemonic, Operands(self.height, numbers, targets), text))
         self.height += gives - takes
@@ -229,7 +228,7 @@ def _count(term, bits):
     return term.as_long() % bits
 
 
-for _name, _function in {"add": ADD, "sub": SUBTRACT, "and": AND, "or": OR, "xor": XOR}.items():
+for _name, _function in {"add": ADD, "sub": SUBTRACT, "mul": MULTIPLY, "and": AND, "or": OR, "xor": XOR}.items():
     computes(f"i32.{_name}", "ii", lambda s, numbers, a, b, function=_function: function(a, b))
 for _name, _function in {"eq": lambda a, b: a == b, "ne": lambda a, b: a != b, "lt_u": z3.ULT, "le_u": z3.ULE,
                          "gt_u": z3.UGT, "ge_u": z3.UGE,

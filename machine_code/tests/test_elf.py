@@ -119,7 +119,7 @@ def other_call(file):
 
 of_threads = lambda **changes: lambda file: (segment(6, 0x6474E551, **changes)(file), put("<I", STACK, 7)(file))
 WRITTEN, ENDS, PLAIN = "a place that has no constant, or may be written", "it leaves the code", "is no plain function"
-VERSION, CHECK, FILL = "const_hex_version", "const_hex_kernel_check", "const_hex_kernel_fill_v3"
+VERSION, CHECK, FILL = "const_hex_version", "const_hex_kernel_check", "const_hex_kernel_fill_lower_v3"
 CLOSED, KNOWN, PLACES = "is no part of a segment", "twice or not known here", "another kind, or has two places"
 START, TWO, SAID = "start of the first segment", "another size, in two segments, or", "PT_PHDR is missing, or"
 OTHERS, PARTS, CONSTANT = "other flags than its segment", "a table of relocations without", "what must not be written"
@@ -252,7 +252,7 @@ LINKED = [
      "", "", "without a meaning|is not fixed"),
     # As by a group that another object has, by the first of two objects, or by code for the linker's plugin.
     ("a function of another object", "const_hex_encode", [],
-     [(C, "call SYMBOL(const_hex_kernel_fill)", "call SYMBOL(const_hex_kernel_fxll)")],
+     [(C, "call SYMBOL(const_hex_kernel_fill_lower)", "call SYMBOL(const_hex_kernel_fxll)")],
      ".weak const_hex_kernel_fxll; .hidden const_hex_kernel_fxll; .type const_hex_kernel_fxll, @function; "
      f"const_hex_kernel_fxll: {FALSE}", "", WRONG),
     ("relocations of code", "", ["-Wl,-z,notext"], [(C, END, f"\t.quad const_hex_check_raw; {END}")], "", "", KNOWN),

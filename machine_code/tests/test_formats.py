@@ -15,7 +15,7 @@ from tests.library import ASM, MEMBERS, MODULE, RUST, File, add_tests, assembled
 
 MINGW, LLD = "x86_64-w64-mingw32-gcc", next(map(str, pathlib.Path("/usr/lib").glob("llvm-*/bin/ld64.lld")), "ld64.lld")
 NAMES = sorted(image.HEADER)
-FILL, CONSTANT_OF_FILL, CHOICE = (f"const_hex_1_0_0_{name}" for name in ("fill_v2", "constant_4_v2", "choice"))
+FILL, CONSTANT_OF_FILL, CHOICE = (f"const_hex_1_0_0_{name}" for name in ("fill_lower_v2", "constant_4_v2", "choice"))
 NO_CONSTANT, NO_CODE, NO_CHOICE = "no constant", "no code", "no byte that is kept"
 NOWHERE, NO_FORM, BRANCHES = "is written, or nowhere", "no library and no program", "in which two branches fit"
 OTHER_KIND, MUST_NOT = "is a symbol of another kind, or has two places", "what must not be written"
@@ -334,7 +334,7 @@ MACH_OS = [
     ("a branch without a function", put("<B", node("version"), 0), NOT_FOUND),
     ("a branch that is missing", put("<B", edge("version"), ord("x")), NOT_FOUND),
     ("a function of another library", put("<B", node("version", 1), 8), OTHER_KIND),
-    ("another function in the tree", put("<B", node("version", 2), 128), OTHER_KIND),
+    ("another function in the tree", put("<B", node("version", 2), 129), OTHER_KIND),
     ("a choice by a variable", put("<B", node("shown", 2), lambda file: file.value("_more") & 127 | 128), NO_CHOICE),
     ("a variable at a number", put("<B", node("shown", 1), 2), "an address that is none of the file"),
     ("a choice that others see", put("<B", lambda file: file.symbol("choice") + 4, 15), NO_CHOICE),
@@ -354,7 +354,7 @@ MODULES = [
     ("a table of functions", "(table 1 funcref) (elem (i32.const 0) 0)", "not known here: (table"),
     ("a second name for the memory", '(export "more" (memory 0))', "not known here: (export"),
     ("data that are written later", '(data "more")', "not known here: (data"),
-    ("another function by a name", ('"const_hex_decoder_finish" (func 7)', '"const_hex_decoder_finisi" (func 7)'),
+    ("another function by a name", ('"const_hex_decoder_finish" (func 8)', '"const_hex_decoder_finisi" (func 8)'),
      "the export 'const_hex_decoder_finis"),
     ("an import", ("(module\n", '(module (import "js" "table" (table 1 funcref))\n'), "not known here: (import"),
     ("a function by the name of the memory", (MEMORY, '(export "memory" (func 9))'), "not known here: (export"),

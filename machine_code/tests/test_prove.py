@@ -66,10 +66,10 @@ class TestProve(unittest.TestCase):
     def test_last_lines(self):
         for argv, refused, wanted in (
             (["/dev/null"], None, "0 passed, 1 failed"), (["nowhere"], None, "0 passed, 1 failed"),
-            ([self.file], None, "43 passed, 0 failed"), ([self.file], "version", "42 passed, 1 failed"),
-            ([self.file, self.other, "/dev/null"], "version", "84 passed, 3 failed"),
-            ([self.file, "--call", "version"], None, "1 passed, 0 failed; --call has left out 42 of 43 proofs"),
-            ([self.file, "--call", "kernel_fill"], None, "5 passed, 0 failed; --call has left out 38 of 43 proofs"),
+            ([self.file], None, "44 passed, 0 failed"), ([self.file], "version", "43 passed, 1 failed"),
+            ([self.file, self.other, "/dev/null"], "version", "86 passed, 3 failed"),
+            ([self.file, "--call", "version"], None, "1 passed, 0 failed; --call has left out 43 of 44 proofs"),
+            ([self.file, "--call", "kernel_read"], None, "3 passed, 0 failed; --call has left out 41 of 44 proofs"),
         ):
             has_failed, output = self.said(*argv, refused=refused)
             self.assertEqual((has_failed, output.splitlines()[-1]), ("0 failed" not in wanted, wanted))

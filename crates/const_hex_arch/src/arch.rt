@@ -63,6 +63,21 @@ pub trait Kernel {
         requires { length output.old ≡ 2 * length input.now }
         ensures { output.new ≡ hex_text upper input.now };
 
+    /// As `fill` in uppercase, by code that may be its own.
+    ///
+    /// ```rust
+    /// let mut text = [0; 8];
+    /// FixedKernel::fill_upper(b"kiwi", &mut text);
+    /// assert_eq!(rt; text, *b"6B697769");
+    /// ```
+    #[inline(always)]
+    fn fill_upper(input: &[u8], output: &mut [u8])
+        requires { length output.old ≡ 2 * length input.now }
+        ensures { output.new ≡ hex_text true input.now }
+    {
+        Self::fill(input, true, output);
+    }
+
     /// Writes two digits for each byte, in order, in pieces of [`PIECE`](Kernel::PIECE) bytes, of
     /// which the last may be shorter. The output must have space for the text.
     ///

@@ -31,9 +31,9 @@ FILL = """
     1: test rsi, rsi; je 2f
     movzx eax, byte ptr [rdi]; {character}
     mov r9d, eax; shr r9d, 4; and eax, 15
-    lea r10d, [r9+0x30]; lea r11d, [r9+0x57]; cmp r9d, 10; cmovb r11d, r10d; mov [rcx], r11b
-    lea r10d, [rax+0x30]; lea r11d, [rax+0x57]; cmp eax, 10; cmovb r11d, r10d; mov [rcx+1], r11b
-    add rdi, 1; add rcx, 2; add rsi, -1; {round}
+    lea r10d, [r9+0x30]; lea r11d, [r9+0x57]; cmp r9d, 10; cmovb r11d, r10d; mov [rdx], r11b
+    lea r10d, [rax+0x30]; lea r11d, [rax+0x57]; cmp eax, 10; cmovb r11d, r10d; mov [rdx+1], r11b
+    add rdi, 1; add rdx, 2; add rsi, -1; {round}
     jmp 1b
     2: {end}
     ret
@@ -71,7 +71,7 @@ AFTER = """
     .section .rodata.other, "a"; .balign 16; other: .skip 32
     .section .text.helper, "ax"; helper: {helper} ret
 """
-PROGRAMS = {"check": CHECK, "fill": FILL, "read": READ}
+PROGRAMS = {"check": CHECK, "fill_lower": FILL, "read": READ}
 # What is committed: the files of each build, and the contracts of its functions.
 COMMITTED = {
     **{level: ([RUST / f"{part}.s" for part in ("elf", name, "end")], KERNELS) for level, name in (

@@ -23,6 +23,7 @@ import tempfile
 MACHINE_CODE = pathlib.Path(__file__).resolve().parents[2]
 sys.path[:0] = [str(MACHINE_CODE)]
 
+from contracts.names import KERNELS  # noqa: E402
 from execution import proofs  # noqa: E402
 from reading import library  # noqa: E402
 from reading.image import AARCH64, FIXED, X86_64  # noqa: E402
@@ -106,7 +107,7 @@ def reason(content, contracts):
 def with_kernel(content, level):
     """A library in which what chooses a kernel jumps to one."""
     symbols, file = library.read(content).symbols, Elf(content)
-    for name in ("const_hex_kernel_check", "const_hex_kernel_fill", "const_hex_kernel_read"):
+    for name in (f"const_hex_{kernel}" for kernel in KERNELS):
         file.put("<Bi", file.offset(symbols[name]), 0xE9, symbols[name + level] - symbols[name] - 5)
     return bytes(file)
 

@@ -22,8 +22,9 @@ WRONG = [
     ("what holds before the first round alone", "check", {}, {"guards": lambda k: [k == 0]}, AT_HEAD),
     ("more that is read", "check", {}, {"read": lambda k: k + 1}, PASSES),
     ("nothing that is read", "check", {}, {"read": lambda k: word(0)}, PASSES),
-    ("more that is written", "fill", {}, {"written": lambda k: 2 * k + 2}, "a character of the text is left out"),
-    ("nothing that is written", "fill", {}, {"written": lambda k: word(0)}, "a character of the text is left out"),
+    ("more that is written", "fill_lower", {}, {"written": lambda k: 2 * k + 2}, "a character of the text is left out"),
+    ("nothing that is written", "fill_lower", {}, {"written": lambda k: word(0)},
+     "a character of the text is left out"),
 ]
 
 

@@ -4,7 +4,7 @@ from wrong_for_c import CALL_CHECK, CALL_READ, PASSES
 
 NEITHER, SECRET, OUTSIDE = "neither true nor false", "a branch depends on bytes", "may lie outside"
 UNWRITTEN, STACK = "output is read", "the stack of a function that is called"
-CALL_FILL = "call SYMBOL(const_hex_kernel_fill)"
+CALL_FILL = "call SYMBOL(const_hex_kernel_fill_lower)"
 # An instruction that no other function of the module has than what searches in a chunk.
 SEARCH = "i32.store8 offset=5"
 # After a chunk was decoded that has some digits; and the starts where no digit waits: with an output, and with none.
@@ -20,22 +20,22 @@ FIND, FAIL = "locate_invalid", "decoder_fail"
 # not the first; the function, the constant or the macro, if it is not the function's own; and the starts, if not all.
 WRONG = [
     # Kernels
-    ("a digit of a table", "v3", "fill", "0x61, 0x62", "0x61, 0x64", "a wrong character at", "lowercase",
-     "const_hex_1_0_0_constant_9_v3"),
-    ("a letter in the other case", "v3", "fill", "0x41", "0x61", "a wrong character at", "uppercase",
-     "const_hex_1_0_0_constant_9_v3"),
-    ("a store is missing", "v3", "fill", "vmovdqu YMMWORD PTR [rcx+rdx*2+0x60],ymm2", "", "left out"),
-    ("63 bytes are read as 64", "v3", "fill", "cmp rsi,0x3f", "cmp rsi,0x3e", OUTSIDE),
-    ("a byte decides a jump in a round", "v3", "fill", "vpmovzxbw ymm2,XMMWORD PTR [rdi+rdx*1]; ",
-     "cmp byte ptr [rdi+rdx],0x61; jb 1f; nop; 1: vpmovzxbw ymm2,XMMWORD PTR [rdi+rdx*1]; ", SECRET),
+    ("a digit of a table", "v3", "fill_lower", "0x61, 0x62", "0x61, 0x64", "a wrong character at", None,
+     "const_hex_1_0_0_constant_7_v3"),
+    ("a letter in the other case", "v3", "fill_upper", "0x41", "0x61", "a wrong character at", None,
+     "const_hex_1_0_0_constant_11_v3"),
+    ("a store is missing", "v3", "fill_lower", "vmovdqu YMMWORD PTR [rdx+rcx*2+0x60],ymm2", "", "left out"),
+    ("63 bytes are read as 64", "v3", "fill_lower", "cmp rsi,0x3f", "cmp rsi,0x3e", OUTSIDE),
+    ("a byte decides a jump in a round", "v3", "fill_lower", "vpmovzxbw ymm2,XMMWORD PTR [rdi+rcx*1]; ",
+     "cmp byte ptr [rdi+rcx],0x61; jb 1f; nop; 1: vpmovzxbw ymm2,XMMWORD PTR [rdi+rcx*1]; ", SECRET),
     ("a limit that lets g pass", "v3", "check", "0x0f, 0x08", "0x0f, 0x57", PASSES, "any text",
      "const_hex_1_0_0_constant_2_v3"),
     ("a decoded byte", "v3", "read", "vpsrlw ymm1,ymm1,0x8", "vpsrlw ymm1,ymm1,0x7", "a wrong byte at"),
-    ("a byte of the output decides a jump", "v2", "fill", "", "test rsi,rsi; je 1f; cmp BYTE PTR [rcx],0; 1:",
+    ("a byte of the output decides a jump", "v2", "fill_lower", "", "test rsi,rsi; je 1f; cmp BYTE PTR [rdx],0; 1:",
      UNWRITTEN),
-    ("one of eight vectors is not tested", "v2", "read", "por xmm9,xmm6", "", "a wrong byte|before it is|passed"),
-    ("the lower bits of another constant", "aarch64", "fill", "add_label x9, x9, const_hex_1_0_0_constant_3",
-     "add_label x9, x9, const_hex_1_0_0_constant_3+16", "a wrong character at"),
+    ("one of four vectors is not tested", "v2", "read", "por xmm4,xmm6", "", "a wrong byte|before it is|passed"),
+    ("the lower bits of another constant", "aarch64", "fill_lower", "add_label x9, x9, const_hex_1_0_0_constant_3",
+     "add_label x9, x9, const_hex_1_0_0_constant_3+32", "a wrong character at"),
     ("a bit of the marks is not tested", "aarch64", "check", "movi v2.16b, #0xd8", "movi v2.16b, #0x58", PASSES),
     ("a result with other bits", "aarch64", "check", "cset w0, eq", "cset w0, eq; orr w0, w0, #0x100", NEITHER),
     ("the same half twice", "aarch64", "read", "uzp1 ", "uzp2 ", "a wrong byte at"),
@@ -52,12 +52,12 @@ WRONG = [
      f"{CALL_CHECK}; dec r13; jne 1b; pop r14; pop r13; pop r12; pop rbx",
      "a loop or a call in a loop"),
     ("unknown flags have a size", C, "encoded_size", "", "cmp esi,9; jne 1f; xor eax,eax; ret; 1:", "another size"),
-    ("a size that is too small", C, "encode", "cmp r11,rax; jae 2b", "cmp r11,rax", OUTSIDE),
+    ("a size that is too small", C, "encode", "cmp r11,rcx; jae 2b", "cmp r11,rcx", OUTSIDE),
     ("a byte decides a jump", C, "encode", "", "test rsi,rsi; je 1f; cmp byte ptr [rdi],0x61; jb 1f; nop; 1:", SECRET),
     ("a kernel writes a byte too many", C, "encode", CALL_FILL, f"inc rsi; {CALL_FILL}", OUTSIDE),
-    ("a kernel writes over the prefix", C, "encode", "add rcx,0x2", "", "beside the digits", "flags 2"),
+    ("a kernel writes over the prefix", C, "encode", "add rdx,0x2", "", "beside the digits", "flags 2"),
     ("a kernel that decodes in place of one that encodes", C, "encode", CALL_FILL,
-     f"mov rdx,rsi; shr rdx,1; mov rsi,rcx; {CALL_READ}", "may be odd or even"),
+     f"mov rax,rdx; mov rdx,rsi; shr rdx,1; mov rsi,rax; {CALL_READ}", "may be odd or even"),
     ("too little stack for a kernel", C, "check_raw", CALL_CHECK, f"sub rsp,1840; {CALL_CHECK}; add rsp,1840", STACK),
     ("how long a kernel takes depends on a byte", C, "check_raw", CALL_CHECK,
      "test rsi,rsi; je 1f; mov al,[rdi]; sub rsp,16; mov [rsp],al; mov byte ptr [rsp+1],0x7a; push rdi; push rsi; "
@@ -101,8 +101,8 @@ WRONG = [
     ("the local error is too high", ARM, "decode", "sp, #16", "sp, #24", "may lie outside of stack",
      "the error is NULL", "or_null"),
     # The module
-    ("an access far beyond the constants", "wasm", "encode", "local.get 10; v128.load align=1; local.tee 12",
-     "local.get 10; v128.load offset=1048576 align=1; local.tee 12", "may lie outside of constants"),
+    ("an access far beyond the constants", "wasm", "encode", "local.get 12; v128.load align=1; local.tee 9",
+     "local.get 12; v128.load offset=1048576 align=1; local.tee 9", "may lie outside of constants"),
     ("the search counts in 12 bits", "wasm", "decoder_fail", "i32.const 4; i32.add; local.tee 6",
      "i32.const 4; i32.add; i32.const 20; i32.shl; i32.const 20; i32.shr_u; local.tee 6", "nothing counts down", None,
      SEARCH),
@@ -129,6 +129,6 @@ WRONG = [
         ("another digit", "local.get 11"))),
 ]
 # A length that is passed is a number of 32 bits.
-RIGHT = [("a length by a sum", "wasm", "decoder_update", "local.get 11; local.get 1; call 6",
-          "local.get 11; local.get 1; i32.const -1; i32.add; i32.const 1; i32.add; call 6", None, None, None,
+RIGHT = [("a length by a sum", "wasm", "decoder_update", "local.get 11; local.get 1; call 7",
+          "local.get 11; local.get 1; i32.const -1; i32.add; i32.const 1; i32.add; call 7", None, None, None,
           LATER_WITHOUT_SPACE)]

@@ -19,7 +19,6 @@ DATA, SECRET, LAYOUT = "\\00" * 600, "a branch depends on bytes that are secret"
 WRONG = [
     ("a block with a result", {"start": "block (result i32) i32.const 1 end local.set 2"}, "a block with a result"),
     ("a block that is not known", {"start": "local.get 1 if end"}, "a block of a kind that is not known"),
-    ("operands that are dropped", {"start": "block i32.const 1 br 0 end"}, "operands that a branch drops"),
     ("an instruction", {"start": "local.get 1 i32.popcnt local.set 2"}, "without a meaning"),
     ("a call of itself", {"start": "local.get 0 local.get 1 call 0 local.set 2"}, "a function that calls itself"),
     ("the stack pointer", {"end": "global.get 0 i32.const 16 i32.sub global.set 0"}, "global 0 is not as before"),
@@ -67,6 +66,7 @@ WRONG = [
                       "local.tee 1": "local.set 2 local.get 2"}, "a function of another type"),
 ]
 RIGHT = [("as it is", {}), ("a call", {"start": "local.get 1 call 1 local.set 2"}),
+         ("operands that a branch drops", {"start": "block i32.const 1 br 0 end"}),
          ("a number of 32 bits", {"start": "block i32.const -1 i32.const 1 i32.add i32.eqz br_if 0 unreachable end"}),
          ("a look-up", {"invalid": "local.get 3 i32.load8_u offset=4200 local.set 2"}),
          ("data", {"start": "i32.const 4692 i32.load local.set 2"}),

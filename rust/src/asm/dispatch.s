@@ -89,6 +89,7 @@
 	.endm
 
 	kernel const_hex_1_0_0_check, rdx, rust
-	kernel const_hex_1_0_0_fill, r8, rust
+	kernel const_hex_1_0_0_fill_lower, rcx, rust
+	kernel const_hex_1_0_0_fill_upper, rcx, rust
 	kernel const_hex_1_0_0_read, rcx, rust
 	.purgem kernel

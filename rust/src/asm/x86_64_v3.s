@@ -221,190 +221,401 @@
 	ret
 	end const_hex_1_0_0_check_v3
 
-/* const_hex_c::kernel::fill */
-	hidden const_hex_1_0_0_fill_v3
-	function const_hex_1_0_0_fill_v3
-	cmp    rsi,0xf
-	ja     2f
-	cmp    rsi,0x1
-	jne    3f
-	movzx  eax,BYTE PTR [rdi]
-	vmovd  xmm0,eax
-	movzx  eax,dl
-	shl    eax,0x4
-	lea    rdx,[rip + const_hex_1_0_0_constant_7_v3]
-	vpshufb xmm0,xmm0,XMMWORD PTR [rip + const_hex_1_0_0_constant_8_v3]
-	vpmullw xmm0,xmm0,XMMWORD PTR [rax+rdx*1]
-	vpsrlw xmm0,xmm0,0x4
-	lea    rdx,[rip + const_hex_1_0_0_constant_9_v3]
-	vmovdqu xmm1,XMMWORD PTR [rax+rdx*1]
-	vpshufb xmm0,xmm1,xmm0
-	vpextrw WORD PTR [rcx],xmm0,0x0
+/* const_hex_c::kernel::fill_lower */
+	hidden const_hex_1_0_0_fill_lower_v3
+	function const_hex_1_0_0_fill_lower_v3
+	cmp    rsi,0x10
+	jne    2f
+	vpmovzxbw ymm0,XMMWORD PTR [rdi]
+	vpsllw ymm1,ymm0,0xc
+	vpor   ymm0,ymm0,ymm1
+	vpsrlw ymm0,ymm0,0x4
+	vbroadcasti128 ymm1,XMMWORD PTR [rip + const_hex_1_0_0_constant_7_v3]
+	vpshufb ymm0,ymm1,ymm0
+	vmovdqu YMMWORD PTR [rdx],ymm0
+	vzeroupper
 	ret
 2:
-	cmp    rsi,0x3f
-	ja     4f
-	cmp    rsi,0x1f
-	ja     6f
-	vpmovzxbw ymm1,XMMWORD PTR [rdi]
-	movzx  eax,dl
-	shl    eax,0x4
-	lea    rdx,[rip + const_hex_1_0_0_constant_7_v3]
-	vbroadcasti128 ymm0,XMMWORD PTR [rax+rdx*1]
-	vpmullw ymm1,ymm0,ymm1
-	vpsrlw ymm2,ymm1,0x4
-	lea    rdx,[rip + const_hex_1_0_0_constant_9_v3]
-	vbroadcasti128 ymm1,XMMWORD PTR [rax+rdx*1]
-	vpshufb ymm2,ymm1,ymm2
-	vmovdqu YMMWORD PTR [rcx],ymm2
-	cmp    rsi,0x10
-	je     9f
-	vpmovzxbw ymm2,XMMWORD PTR [rdi+rsi*1-0x10]
-	vpmullw ymm0,ymm0,ymm2
-	jmp    8f
+	jae    3f
+	cmp    rsi,0x1
+	jne    4f
+	movzx  eax,BYTE PTR [rdi]
+	mov    ecx,eax
+	shr    ecx,0x4
+	and    eax,0xf
+	shl    eax,0x8
+	or     eax,ecx
+	vmovd  xmm0,eax
+	vmovdqa xmm1,XMMWORD PTR [rip + const_hex_1_0_0_constant_7_v3]
+	vpshufb xmm0,xmm1,xmm0
+	vpextrw WORD PTR [rdx],xmm0,0x0
+	ret
 3:
-	cmp    rsi,0x8
-	jb     12f
-	vmovq  xmm0,QWORD PTR [rdi+rsi*1-0x8]
-	vmovq  xmm1,QWORD PTR [rdi]
-	vpunpcklqdq xmm0,xmm1,xmm0
-	movzx  eax,dl
-	shl    eax,0x4
-	lea    rdx,[rip + const_hex_1_0_0_constant_7_v3]
-	vpmovzxbw ymm0,xmm0
-	vbroadcasti128 ymm1,XMMWORD PTR [rax+rdx*1]
-	vpmullw ymm0,ymm1,ymm0
+	cmp    rsi,0x3f
+	ja     5f
+	cmp    rsi,0x20
+	jne    8f
+	vpmovzxbw ymm0,XMMWORD PTR [rdi]
+	vpsllw ymm1,ymm0,0xc
+	vpor   ymm0,ymm0,ymm1
 	vpsrlw ymm0,ymm0,0x4
-	lea    rdx,[rip + const_hex_1_0_0_constant_9_v3]
-	vbroadcasti128 ymm1,XMMWORD PTR [rax+rdx*1]
+	vbroadcasti128 ymm1,XMMWORD PTR [rip + const_hex_1_0_0_constant_7_v3]
 	vpshufb ymm0,ymm1,ymm0
-	vmovdqu XMMWORD PTR [rcx],xmm0
-	vextracti128 XMMWORD PTR [rcx+rsi*2-0x10],ymm0,0x1
+	vpmovzxbw ymm2,XMMWORD PTR [rdi+0x10]
+	vmovdqu YMMWORD PTR [rdx],ymm0
+	vpsllw ymm0,ymm2,0xc
+	vpor   ymm0,ymm2,ymm0
+	vpsrlw ymm0,ymm0,0x4
+	vpshufb ymm0,ymm1,ymm0
+	vmovdqu YMMWORD PTR [rdx+0x20],ymm0
 	vzeroupper
 	ret
 4:
+	cmp    rsi,0x8
+	jb     9f
+	vmovq  xmm0,QWORD PTR [rdi+rsi*1-0x8]
+	vmovq  xmm1,QWORD PTR [rdi]
+	vpunpcklqdq xmm0,xmm1,xmm0
+	vpmovzxbw ymm0,xmm0
+	vpsllw ymm1,ymm0,0xc
+	vpor   ymm0,ymm0,ymm1
+	vpsrlw ymm0,ymm0,0x4
+	vbroadcasti128 ymm1,XMMWORD PTR [rip + const_hex_1_0_0_constant_7_v3]
+	vpshufb ymm0,ymm1,ymm0
+	vmovdqu XMMWORD PTR [rdx],xmm0
+	vextracti128 XMMWORD PTR [rdx+rsi*2-0x10],ymm0,0x1
+	vzeroupper
+	ret
+5:
 	mov    eax,esi
 	and    eax,0x10
-	lea    r8,[rip + const_hex_1_0_0_constant_7_v3]
-	vbroadcasti128 ymm0,XMMWORD PTR [rax+r8*1]
-	movzx  eax,dl
-	shl    eax,0x4
-	lea    rdx,[rip + const_hex_1_0_0_constant_9_v3]
-	vbroadcasti128 ymm1,XMMWORD PTR [rax+rdx*1]
-	xor    edx,edx
+	lea    rcx,[rip + const_hex_1_0_0_constant_8_v3]
+	vbroadcasti128 ymm0,XMMWORD PTR [rax+rcx*1]
+	lea    rcx,[rip + const_hex_1_0_0_constant_9_v3]
+	vbroadcasti128 ymm1,XMMWORD PTR [rax+rcx*1]
+	xor    ecx,ecx
 	mov    rax,rsi
-	.byte 0xf, 0x1f, 0x80, 0x0, 0x0, 0x0, 0x0  /* nop    DWORD PTR [rax+0x0] */
-5:
-	vpmovzxbw ymm2,XMMWORD PTR [rdi+rdx*1]
+	.byte 0xf, 0x1f, 0x44, 0x0, 0x0  /* nop    DWORD PTR [rax+rax*1+0x0] */
+6:
+	vpmovzxbw ymm2,XMMWORD PTR [rdi+rcx*1]
 	vpmullw ymm2,ymm0,ymm2
 	vpsrlw ymm2,ymm2,0x4
 	vpshufb ymm2,ymm1,ymm2
-	vpmovzxbw ymm3,XMMWORD PTR [rdi+rdx*1+0x10]
-	vmovdqu YMMWORD PTR [rcx+rdx*2],ymm2
+	vpmovzxbw ymm3,XMMWORD PTR [rdi+rcx*1+0x10]
+	vmovdqu YMMWORD PTR [rdx+rcx*2],ymm2
 	vpmullw ymm2,ymm0,ymm3
 	vpsrlw ymm2,ymm2,0x4
 	vpshufb ymm2,ymm1,ymm2
-	vmovdqu YMMWORD PTR [rcx+rdx*2+0x20],ymm2
-	vpmovzxbw ymm2,XMMWORD PTR [rdi+rdx*1+0x20]
+	vmovdqu YMMWORD PTR [rdx+rcx*2+0x20],ymm2
+	vpmovzxbw ymm2,XMMWORD PTR [rdi+rcx*1+0x20]
 	vpmullw ymm2,ymm0,ymm2
 	vpsrlw ymm2,ymm2,0x4
-	vpmovzxbw ymm3,XMMWORD PTR [rdi+rdx*1+0x30]
+	vpmovzxbw ymm3,XMMWORD PTR [rdi+rcx*1+0x30]
 	vpshufb ymm2,ymm1,ymm2
-	vmovdqu YMMWORD PTR [rcx+rdx*2+0x40],ymm2
+	vmovdqu YMMWORD PTR [rdx+rcx*2+0x40],ymm2
 	vpmullw ymm2,ymm0,ymm3
 	vpsrlw ymm2,ymm2,0x4
 	vpshufb ymm2,ymm1,ymm2
-	vmovdqu YMMWORD PTR [rcx+rdx*2+0x60],ymm2
-	add    rdx,0x40
+	vmovdqu YMMWORD PTR [rdx+rcx*2+0x60],ymm2
+	add    rcx,0x40
 	add    rax,0xffffffffffffffc0
 	cmp    rax,0x3f
-	ja     5b
-	cmp    rdx,rsi
-	je     9f
+	ja     6b
+	cmp    rcx,rsi
+	je     14f
 	cmp    rax,0x21
 	jb     7f
-	vpmovzxbw ymm2,XMMWORD PTR [rdi+rdx*1]
+	vpmovzxbw ymm2,XMMWORD PTR [rdi+rcx*1]
 	vpmullw ymm2,ymm0,ymm2
 	vpsrlw ymm2,ymm2,0x4
-	vpmovzxbw ymm3,XMMWORD PTR [rdi+rdx*1+0x10]
+	vpmovzxbw ymm3,XMMWORD PTR [rdi+rcx*1+0x10]
 	vpshufb ymm2,ymm1,ymm2
-	vmovdqu YMMWORD PTR [rcx+rdx*2],ymm2
+	vmovdqu YMMWORD PTR [rdx+rcx*2],ymm2
 	vpmullw ymm2,ymm0,ymm3
 	vpsrlw ymm2,ymm2,0x4
 	vpshufb ymm2,ymm1,ymm2
-	vmovdqu YMMWORD PTR [rcx+rdx*2+0x20],ymm2
-	jmp    7f
-6:
-	vpmovzxbw ymm1,XMMWORD PTR [rdi]
-	movzx  eax,dl
-	shl    eax,0x4
-	lea    rdx,[rip + const_hex_1_0_0_constant_7_v3]
-	vbroadcasti128 ymm0,XMMWORD PTR [rax+rdx*1]
-	vpmullw ymm1,ymm0,ymm1
-	vpsrlw ymm2,ymm1,0x4
-	lea    rdx,[rip + const_hex_1_0_0_constant_9_v3]
-	vbroadcasti128 ymm1,XMMWORD PTR [rax+rdx*1]
-	vpshufb ymm2,ymm1,ymm2
-	vpmovzxbw ymm3,XMMWORD PTR [rdi+0x10]
-	vmovdqu YMMWORD PTR [rcx],ymm2
-	vpmullw ymm2,ymm0,ymm3
-	vpsrlw ymm2,ymm2,0x4
-	vpshufb ymm2,ymm1,ymm2
-	vmovdqu YMMWORD PTR [rcx+0x20],ymm2
-	cmp    rsi,0x20
-	je     9f
+	vmovdqu YMMWORD PTR [rdx+rcx*2+0x20],ymm2
 7:
 	vpmovzxbw ymm2,XMMWORD PTR [rdi+rsi*1-0x20]
 	vpmullw ymm2,ymm0,ymm2
 	vpsrlw ymm2,ymm2,0x4
 	vpmovzxbw ymm3,XMMWORD PTR [rdi+rsi*1-0x10]
 	vpshufb ymm2,ymm1,ymm2
-	vmovdqu YMMWORD PTR [rcx+rsi*2-0x40],ymm2
+	vmovdqu YMMWORD PTR [rdx+rsi*2-0x40],ymm2
 	vpmullw ymm0,ymm0,ymm3
+	jmp    13f
 8:
+	jae    12f
+	vpmovzxbw ymm0,XMMWORD PTR [rdi]
+	vpsllw ymm1,ymm0,0xc
+	vpor   ymm0,ymm0,ymm1
 	vpsrlw ymm0,ymm0,0x4
+	vbroadcasti128 ymm1,XMMWORD PTR [rip + const_hex_1_0_0_constant_7_v3]
 	vpshufb ymm0,ymm1,ymm0
-	vmovdqu YMMWORD PTR [rcx+rsi*2-0x20],ymm0
+	vmovdqu YMMWORD PTR [rdx],ymm0
+	vpmovzxbw ymm0,XMMWORD PTR [rdi+rsi*1-0x10]
+	vpsllw ymm2,ymm0,0xc
+	vpor   ymm0,ymm0,ymm2
+	jmp    13f
 9:
-	vzeroupper
-	ret
-12:
 	cmp    rsi,0x4
-	jb     13f
+	jb     15f
 	vmovd  xmm0,DWORD PTR [rdi+rsi*1-0x4]
 	vmovd  xmm1,DWORD PTR [rdi]
 	vpunpckldq xmm0,xmm1,xmm0
-	movzx  eax,dl
-	shl    eax,0x4
-	lea    rdx,[rip + const_hex_1_0_0_constant_7_v3]
 	vpmovzxbw xmm0,xmm0
-	vpmullw xmm0,xmm0,XMMWORD PTR [rax+rdx*1]
+	vpsllw xmm1,xmm0,0xc
+	vpor   xmm0,xmm0,xmm1
 	vpsrlw xmm0,xmm0,0x4
-	lea    rdx,[rip + const_hex_1_0_0_constant_9_v3]
-	vmovdqu xmm1,XMMWORD PTR [rax+rdx*1]
+	vmovdqa xmm1,XMMWORD PTR [rip + const_hex_1_0_0_constant_10_v3]
 	vpshufb xmm0,xmm1,xmm0
-	vmovq  QWORD PTR [rcx],xmm0
-	vpextrq QWORD PTR [rcx+rsi*2-0x8],xmm0,0x1
+	vmovq  QWORD PTR [rdx],xmm0
+	vpextrq QWORD PTR [rdx+rsi*2-0x8],xmm0,0x1
 	ret
+12:
+	vpmovzxbw ymm0,XMMWORD PTR [rdi]
+	vpsllw ymm1,ymm0,0xc
+	vpor   ymm0,ymm0,ymm1
+	vpsrlw ymm0,ymm0,0x4
+	vbroadcasti128 ymm1,XMMWORD PTR [rip + const_hex_1_0_0_constant_7_v3]
+	vpshufb ymm0,ymm1,ymm0
+	vpmovzxbw ymm2,XMMWORD PTR [rdi+0x10]
+	vmovdqu YMMWORD PTR [rdx],ymm0
+	vpsllw ymm0,ymm2,0xc
+	vpor   ymm0,ymm2,ymm0
+	vpsrlw ymm0,ymm0,0x4
+	vpshufb ymm0,ymm1,ymm0
+	vmovdqu YMMWORD PTR [rdx+0x20],ymm0
+	vpmovzxbw ymm0,XMMWORD PTR [rdi+rsi*1-0x20]
+	vpsllw ymm2,ymm0,0xc
+	vpor   ymm0,ymm0,ymm2
+	vpsrlw ymm0,ymm0,0x4
+	vpshufb ymm0,ymm1,ymm0
+	vpmovzxbw ymm2,XMMWORD PTR [rdi+rsi*1-0x10]
+	vmovdqu YMMWORD PTR [rdx+rsi*2-0x40],ymm0
+	vpsllw ymm0,ymm2,0xc
+	vpor   ymm0,ymm2,ymm0
 13:
+	vpsrlw ymm0,ymm0,0x4
+	vpshufb ymm0,ymm1,ymm0
+	vmovdqu YMMWORD PTR [rdx+rsi*2-0x20],ymm0
+14:
+	vzeroupper
+	ret
+15:
 	test   rsi,rsi
-	je     9b
+	je     14b
 	movzx  eax,WORD PTR [rdi]
 	vmovd  xmm0,eax
 	vpinsrw xmm0,xmm0,WORD PTR [rdi+rsi*1-0x2],0x1
-	movzx  eax,dl
-	shl    eax,0x4
-	lea    rdx,[rip + const_hex_1_0_0_constant_7_v3]
 	vpmovzxbw xmm0,xmm0
-	vpmullw xmm0,xmm0,XMMWORD PTR [rax+rdx*1]
+	vpsllw xmm1,xmm0,0xc
+	vpor   xmm0,xmm0,xmm1
 	vpsrlw xmm0,xmm0,0x4
-	lea    rdx,[rip + const_hex_1_0_0_constant_9_v3]
-	vmovdqu xmm1,XMMWORD PTR [rax+rdx*1]
+	vmovdqa xmm1,XMMWORD PTR [rip + const_hex_1_0_0_constant_10_v3]
 	vpshufb xmm0,xmm1,xmm0
-	vmovd  DWORD PTR [rcx],xmm0
-	vpextrd DWORD PTR [rcx+rsi*2-0x4],xmm0,0x1
+	vmovd  DWORD PTR [rdx],xmm0
+	vpextrd DWORD PTR [rdx+rsi*2-0x4],xmm0,0x1
 	ret
-	end const_hex_1_0_0_fill_v3
+	end const_hex_1_0_0_fill_lower_v3
+
+/* const_hex_c::kernel::fill_upper */
+	hidden const_hex_1_0_0_fill_upper_v3
+	function const_hex_1_0_0_fill_upper_v3
+	cmp    rsi,0x10
+	jne    2f
+	vpmovzxbw ymm0,XMMWORD PTR [rdi]
+	vpsllw ymm1,ymm0,0xc
+	vpor   ymm0,ymm0,ymm1
+	vpsrlw ymm0,ymm0,0x4
+	vbroadcasti128 ymm1,XMMWORD PTR [rip + const_hex_1_0_0_constant_11_v3]
+	vpshufb ymm0,ymm1,ymm0
+	vmovdqu YMMWORD PTR [rdx],ymm0
+	vzeroupper
+	ret
+2:
+	jae    3f
+	cmp    rsi,0x1
+	jne    4f
+	movzx  eax,BYTE PTR [rdi]
+	mov    ecx,eax
+	shr    ecx,0x4
+	and    eax,0xf
+	shl    eax,0x8
+	or     eax,ecx
+	vmovd  xmm0,eax
+	vmovdqa xmm1,XMMWORD PTR [rip + const_hex_1_0_0_constant_11_v3]
+	vpshufb xmm0,xmm1,xmm0
+	vpextrw WORD PTR [rdx],xmm0,0x0
+	ret
+3:
+	cmp    rsi,0x3f
+	ja     5f
+	cmp    rsi,0x20
+	jne    8f
+	vpmovzxbw ymm0,XMMWORD PTR [rdi]
+	vpsllw ymm1,ymm0,0xc
+	vpor   ymm0,ymm0,ymm1
+	vpsrlw ymm0,ymm0,0x4
+	vbroadcasti128 ymm1,XMMWORD PTR [rip + const_hex_1_0_0_constant_11_v3]
+	vpshufb ymm0,ymm1,ymm0
+	vpmovzxbw ymm2,XMMWORD PTR [rdi+0x10]
+	vmovdqu YMMWORD PTR [rdx],ymm0
+	vpsllw ymm0,ymm2,0xc
+	vpor   ymm0,ymm2,ymm0
+	vpsrlw ymm0,ymm0,0x4
+	vpshufb ymm0,ymm1,ymm0
+	vmovdqu YMMWORD PTR [rdx+0x20],ymm0
+	vzeroupper
+	ret
+4:
+	cmp    rsi,0x8
+	jb     9f
+	vmovq  xmm0,QWORD PTR [rdi+rsi*1-0x8]
+	vmovq  xmm1,QWORD PTR [rdi]
+	vpunpcklqdq xmm0,xmm1,xmm0
+	vpmovzxbw ymm0,xmm0
+	vpsllw ymm1,ymm0,0xc
+	vpor   ymm0,ymm0,ymm1
+	vpsrlw ymm0,ymm0,0x4
+	vbroadcasti128 ymm1,XMMWORD PTR [rip + const_hex_1_0_0_constant_11_v3]
+	vpshufb ymm0,ymm1,ymm0
+	vmovdqu XMMWORD PTR [rdx],xmm0
+	vextracti128 XMMWORD PTR [rdx+rsi*2-0x10],ymm0,0x1
+	vzeroupper
+	ret
+5:
+	mov    eax,esi
+	and    eax,0x10
+	lea    rcx,[rip + const_hex_1_0_0_constant_8_v3]
+	vbroadcasti128 ymm0,XMMWORD PTR [rax+rcx*1]
+	lea    rcx,[rip + const_hex_1_0_0_constant_9_v3]
+	vbroadcasti128 ymm1,XMMWORD PTR [rax+rcx*1+0x20]
+	xor    ecx,ecx
+	mov    rax,rsi
+	.byte 0xf, 0x1f, 0x40, 0x0  /* nop    DWORD PTR [rax+0x0] */
+6:
+	vpmovzxbw ymm2,XMMWORD PTR [rdi+rcx*1]
+	vpmullw ymm2,ymm0,ymm2
+	vpsrlw ymm2,ymm2,0x4
+	vpshufb ymm2,ymm1,ymm2
+	vpmovzxbw ymm3,XMMWORD PTR [rdi+rcx*1+0x10]
+	vmovdqu YMMWORD PTR [rdx+rcx*2],ymm2
+	vpmullw ymm2,ymm0,ymm3
+	vpsrlw ymm2,ymm2,0x4
+	vpshufb ymm2,ymm1,ymm2
+	vmovdqu YMMWORD PTR [rdx+rcx*2+0x20],ymm2
+	vpmovzxbw ymm2,XMMWORD PTR [rdi+rcx*1+0x20]
+	vpmullw ymm2,ymm0,ymm2
+	vpsrlw ymm2,ymm2,0x4
+	vpmovzxbw ymm3,XMMWORD PTR [rdi+rcx*1+0x30]
+	vpshufb ymm2,ymm1,ymm2
+	vmovdqu YMMWORD PTR [rdx+rcx*2+0x40],ymm2
+	vpmullw ymm2,ymm0,ymm3
+	vpsrlw ymm2,ymm2,0x4
+	vpshufb ymm2,ymm1,ymm2
+	vmovdqu YMMWORD PTR [rdx+rcx*2+0x60],ymm2
+	add    rcx,0x40
+	add    rax,0xffffffffffffffc0
+	cmp    rax,0x3f
+	ja     6b
+	cmp    rcx,rsi
+	je     14f
+	cmp    rax,0x21
+	jb     7f
+	vpmovzxbw ymm2,XMMWORD PTR [rdi+rcx*1]
+	vpmullw ymm2,ymm0,ymm2
+	vpsrlw ymm2,ymm2,0x4
+	vpmovzxbw ymm3,XMMWORD PTR [rdi+rcx*1+0x10]
+	vpshufb ymm2,ymm1,ymm2
+	vmovdqu YMMWORD PTR [rdx+rcx*2],ymm2
+	vpmullw ymm2,ymm0,ymm3
+	vpsrlw ymm2,ymm2,0x4
+	vpshufb ymm2,ymm1,ymm2
+	vmovdqu YMMWORD PTR [rdx+rcx*2+0x20],ymm2
+7:
+	vpmovzxbw ymm2,XMMWORD PTR [rdi+rsi*1-0x20]
+	vpmullw ymm2,ymm0,ymm2
+	vpsrlw ymm2,ymm2,0x4
+	vpmovzxbw ymm3,XMMWORD PTR [rdi+rsi*1-0x10]
+	vpshufb ymm2,ymm1,ymm2
+	vmovdqu YMMWORD PTR [rdx+rsi*2-0x40],ymm2
+	vpmullw ymm0,ymm0,ymm3
+	jmp    13f
+8:
+	jae    12f
+	vpmovzxbw ymm0,XMMWORD PTR [rdi]
+	vpsllw ymm1,ymm0,0xc
+	vpor   ymm0,ymm0,ymm1
+	vpsrlw ymm0,ymm0,0x4
+	vbroadcasti128 ymm1,XMMWORD PTR [rip + const_hex_1_0_0_constant_11_v3]
+	vpshufb ymm0,ymm1,ymm0
+	vmovdqu YMMWORD PTR [rdx],ymm0
+	vpmovzxbw ymm0,XMMWORD PTR [rdi+rsi*1-0x10]
+	vpsllw ymm2,ymm0,0xc
+	vpor   ymm0,ymm0,ymm2
+	jmp    13f
+9:
+	cmp    rsi,0x4
+	jb     15f
+	vmovd  xmm0,DWORD PTR [rdi+rsi*1-0x4]
+	vmovd  xmm1,DWORD PTR [rdi]
+	vpunpckldq xmm0,xmm1,xmm0
+	vpmovzxbw xmm0,xmm0
+	vpsllw xmm1,xmm0,0xc
+	vpor   xmm0,xmm0,xmm1
+	vpsrlw xmm0,xmm0,0x4
+	vmovdqa xmm1,XMMWORD PTR [rip + const_hex_1_0_0_constant_12_v3]
+	vpshufb xmm0,xmm1,xmm0
+	vmovq  QWORD PTR [rdx],xmm0
+	vpextrq QWORD PTR [rdx+rsi*2-0x8],xmm0,0x1
+	ret
+12:
+	vpmovzxbw ymm0,XMMWORD PTR [rdi]
+	vpsllw ymm1,ymm0,0xc
+	vpor   ymm0,ymm0,ymm1
+	vpsrlw ymm0,ymm0,0x4
+	vbroadcasti128 ymm1,XMMWORD PTR [rip + const_hex_1_0_0_constant_11_v3]
+	vpshufb ymm0,ymm1,ymm0
+	vpmovzxbw ymm2,XMMWORD PTR [rdi+0x10]
+	vmovdqu YMMWORD PTR [rdx],ymm0
+	vpsllw ymm0,ymm2,0xc
+	vpor   ymm0,ymm2,ymm0
+	vpsrlw ymm0,ymm0,0x4
+	vpshufb ymm0,ymm1,ymm0
+	vmovdqu YMMWORD PTR [rdx+0x20],ymm0
+	vpmovzxbw ymm0,XMMWORD PTR [rdi+rsi*1-0x20]
+	vpsllw ymm2,ymm0,0xc
+	vpor   ymm0,ymm0,ymm2
+	vpsrlw ymm0,ymm0,0x4
+	vpshufb ymm0,ymm1,ymm0
+	vpmovzxbw ymm2,XMMWORD PTR [rdi+rsi*1-0x10]
+	vmovdqu YMMWORD PTR [rdx+rsi*2-0x40],ymm0
+	vpsllw ymm0,ymm2,0xc
+	vpor   ymm0,ymm2,ymm0
+13:
+	vpsrlw ymm0,ymm0,0x4
+	vpshufb ymm0,ymm1,ymm0
+	vmovdqu YMMWORD PTR [rdx+rsi*2-0x20],ymm0
+14:
+	vzeroupper
+	ret
+15:
+	test   rsi,rsi
+	je     14b
+	movzx  eax,WORD PTR [rdi]
+	vmovd  xmm0,eax
+	vpinsrw xmm0,xmm0,WORD PTR [rdi+rsi*1-0x2],0x1
+	vpmovzxbw xmm0,xmm0
+	vpsllw xmm1,xmm0,0xc
+	vpor   xmm0,xmm0,xmm1
+	vpsrlw xmm0,xmm0,0x4
+	vmovdqa xmm1,XMMWORD PTR [rip + const_hex_1_0_0_constant_12_v3]
+	vpshufb xmm0,xmm1,xmm0
+	vmovd  DWORD PTR [rdx],xmm0
+	vpextrd DWORD PTR [rdx+rsi*2-0x4],xmm0,0x1
+	ret
+	end const_hex_1_0_0_fill_upper_v3
 
 /* const_hex_c::kernel::read */
 	hidden const_hex_1_0_0_read_v3
@@ -467,7 +678,7 @@
 	vpbroadcastq ymm5,QWORD PTR [rip + const_hex_1_0_0_constant_3_v3]
 	vptest ymm4,ymm5
 	jne    16f
-	lea    r9,[rip + const_hex_1_0_0_constant_7_v3]
+	lea    r9,[rip + const_hex_1_0_0_constant_8_v3]
 	vbroadcasti128 ymm4,XMMWORD PTR [rax+r9*1]
 	vpmullw ymm0,ymm4,ymm0
 	vpmullw ymm1,ymm4,ymm1
@@ -606,7 +817,7 @@
 	jne    16f
 	vpsllw xmm1,xmm0,0xc
 	vpaddw xmm0,xmm0,xmm1
-	vpshufb xmm0,xmm0,XMMWORD PTR [rip + const_hex_1_0_0_constant_10_v3]
+	vpshufb xmm0,xmm0,XMMWORD PTR [rip + const_hex_1_0_0_constant_13_v3]
 	vmovd  DWORD PTR [rsi],xmm0
 	vpextrd DWORD PTR [rsi+rdx*1-0x4],xmm0,0x1
 	mov    al,0x1
@@ -707,16 +918,29 @@
 	constant const_hex_1_0_0_constant_6_v3, 4
 	.byte 0xd8, 0xd8, 0xd8, 0xd8, 0xd8, 0xd8, 0xd8, 0xd8, 0xd8, 0xd8, 0xd8, 0xd8, 0xd8, 0xd8, 0xd8, 0xd8
 
-	constant const_hex_1_0_0_constant_7_v3, 5
+	constant const_hex_1_0_0_constant_7_v3, 4
+	.byte 0x30, 0x31, 0x32, 0x33, 0x34, 0x35, 0x36, 0x37, 0x38, 0x39, 0x61, 0x62, 0x63, 0x64, 0x65, 0x66
+
+	constant const_hex_1_0_0_constant_8_v3, 5
 	.byte 0x01, 0x10, 0x01, 0x10, 0x01, 0x10, 0x01, 0x10, 0x01, 0x10, 0x01, 0x10, 0x01, 0x10, 0x01, 0x10
 	.byte 0x01, 0x10, 0x01, 0x10, 0x01, 0x10, 0x01, 0x10, 0x01, 0x10, 0x01, 0x10, 0x01, 0x10, 0x01, 0x10
 
-	constant const_hex_1_0_0_constant_8_v3, 4
-	.byte 0x00, 0x80, 0x01, 0x80, 0x02, 0x80, 0x03, 0x80, 0x80, 0x80, 0x80, 0x80, 0x80, 0x80, 0x80, 0x80
-
-	constant const_hex_1_0_0_constant_9_v3, 5
+	constant const_hex_1_0_0_constant_9_v3, 0
+	.byte 0x30, 0x31, 0x32, 0x33, 0x34, 0x35, 0x36, 0x37, 0x38, 0x39, 0x61, 0x62, 0x63, 0x64, 0x65, 0x66
 	.byte 0x30, 0x31, 0x32, 0x33, 0x34, 0x35, 0x36, 0x37, 0x38, 0x39, 0x61, 0x62, 0x63, 0x64, 0x65, 0x66
 	.byte 0x30, 0x31, 0x32, 0x33, 0x34, 0x35, 0x36, 0x37, 0x38, 0x39, 0x41, 0x42, 0x43, 0x44, 0x45, 0x46
+	.byte 0x30, 0x31, 0x32, 0x33, 0x34, 0x35, 0x36, 0x37, 0x38, 0x39, 0x41, 0x42, 0x43, 0x44, 0x45, 0x46
 
-	constant const_hex_1_0_0_constant_10_v3, 4
+	constant const_hex_1_0_0_constant_10_v3, 5
+	.byte 0x30, 0x31, 0x32, 0x33, 0x34, 0x35, 0x36, 0x37, 0x38, 0x39, 0x61, 0x62, 0x63, 0x64, 0x65, 0x66
+	.byte 0x30, 0x31, 0x32, 0x33, 0x34, 0x35, 0x36, 0x37, 0x38, 0x39, 0x61, 0x62, 0x63, 0x64, 0x65, 0x66
+
+	constant const_hex_1_0_0_constant_11_v3, 4
+	.byte 0x30, 0x31, 0x32, 0x33, 0x34, 0x35, 0x36, 0x37, 0x38, 0x39, 0x41, 0x42, 0x43, 0x44, 0x45, 0x46
+
+	constant const_hex_1_0_0_constant_12_v3, 5
+	.byte 0x30, 0x31, 0x32, 0x33, 0x34, 0x35, 0x36, 0x37, 0x38, 0x39, 0x41, 0x42, 0x43, 0x44, 0x45, 0x46
+	.byte 0x30, 0x31, 0x32, 0x33, 0x34, 0x35, 0x36, 0x37, 0x38, 0x39, 0x41, 0x42, 0x43, 0x44, 0x45, 0x46
+
+	constant const_hex_1_0_0_constant_13_v3, 4
 	.byte 0x01, 0x03, 0x05, 0x07, 0x09, 0x0b, 0x0d, 0x0f, 0x00, 0x00, 0x00, 0x00, 0x00, 0x00, 0x00, 0x00

@@ -94,12 +94,15 @@ macro_rules! functions {
 }
 
 functions! {
-    /// Fills the text with the digits of the bytes, in uppercase if `upper` is 1, and in lowercase if it is 0. It is
-    /// no `bool`, of which an ABI may leave the upper bits open.
+    /// Fills the text with the lowercase digits of the bytes.
     ///
-    /// Safety: there are so many bytes, `upper` is 0 or 1, and `text` may be written for two bytes for each byte.
-    /// These need not be initialized, and are afterwards.
-    fill(bytes: *const u8, length: usize, upper: u32, text: *mut u8), const_hex_1_0_0_fill, const_hex_1_0_0_fill_v3;
+    /// Safety: there are so many bytes, and `text` may be written for two bytes for each byte. These need not be
+    /// initialized, and are afterwards.
+    fill_lower(bytes: *const u8, length: usize, text: *mut u8),
+        const_hex_1_0_0_fill_lower, const_hex_1_0_0_fill_lower_v3;
+    /// As `fill_lower`, in uppercase. Safety: the same.
+    fill_upper(bytes: *const u8, length: usize, text: *mut u8),
+        const_hex_1_0_0_fill_upper, const_hex_1_0_0_fill_upper_v3;
     /// Returns whether every byte of the text is a digit.
     ///
     /// Safety: the text has so many bytes.

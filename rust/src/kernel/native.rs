@@ -1,6 +1,6 @@
 //! The kernel by machine code.
 
-use super::machine_code;
+use super::{machine_code, space::write_text};
 use crate::proved::Kernel;
 
 /// The kernel by machine code. Each function tests that the lengths fit, although callers in `proved` never pass others. A
@@ -16,9 +16,8 @@ impl Kernel for Native {
     #[inline]
     fn fill(input: &[u8], upper: bool, output: &mut [u8]) {
         assert!(output.len() == input.len() << 1);
-        let (bytes, text) = (input.as_ptr(), output.as_mut_ptr());
-        // SAFETY: the output has two bytes for each byte of the input.
-        unsafe { machine_code::fill(bytes, input.len(), upper.into(), text) }
+        // SAFETY: the output has two bytes for each byte of the input, and there is no prefix.
+        unsafe { write_text(input, false, upper, output.as_mut_ptr()) }
     }
 
     #[inline]

@@ -9,7 +9,19 @@ use core::{ptr, slice};
 const BLOCK: usize = Portable::PIECE;
 
 #[inline(always)]
-pub unsafe fn fill(bytes: *const u8, length: usize, upper: u32, text: *mut u8) {
+pub unsafe fn fill_lower(bytes: *const u8, length: usize, text: *mut u8) {
+    // SAFETY: the caller promises what the function requires.
+    unsafe { fill(bytes, length, false, text) }
+}
+
+#[inline(always)]
+pub unsafe fn fill_upper(bytes: *const u8, length: usize, text: *mut u8) {
+    // SAFETY: the same.
+    unsafe { fill(bytes, length, true, text) }
+}
+
+#[inline(always)]
+unsafe fn fill(bytes: *const u8, length: usize, upper: bool, text: *mut u8) {
     let mut block = [0; 2 * BLOCK];
     let mut at = 0;
     while at < length {
@@ -17,7 +29,7 @@ pub unsafe fn fill(bytes: *const u8, length: usize, upper: u32, text: *mut u8) {
         let digits = &mut block[..2 * size];
         // SAFETY: the caller promises so many bytes, and space for two digits for each.
         unsafe {
-            Portable::fill(slice::from_raw_parts(bytes.add(at), size), upper != 0, digits);
+            Portable::fill(slice::from_raw_parts(bytes.add(at), size), upper, digits);
             ptr::copy_nonoverlapping(digits.as_ptr(), text.add(2 * at), 2 * size);
         }
         at += size;

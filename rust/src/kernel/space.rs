@@ -59,6 +59,9 @@ pub unsafe fn write_text(bytes: &[u8], prefix: bool, upper: bool, text: *mut u8)
             text.cast::<[u8; 2]>().write(*b"0x");
             digits = text.add(2);
         }
-        unchecked::fill(bytes.as_ptr(), bytes.len(), upper.into(), digits);
+        match upper {
+            true => unchecked::fill_upper(bytes.as_ptr(), bytes.len(), digits),
+            false => unchecked::fill_lower(bytes.as_ptr(), bytes.len(), digits),
+        }
     }
 }

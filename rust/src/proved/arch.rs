@@ -36,6 +36,12 @@ pub trait Kernel {
     /// length of that text.
     fn fill(input: &[u8], upper: bool, output: &mut [u8]);
 
+    /// As `fill` in uppercase, by code that may be its own.
+    #[inline(always)]
+    fn fill_upper(input: &[u8], output: &mut [u8]) {
+        Self::fill(input, true, output);
+    }
+
     /// Whether every byte is a digit.
     fn check(input: &[u8]) -> bool;
 

@@ -48,6 +48,13 @@ fn arch_fill() {
 }
 
 #[test]
+fn arch_fill_upper() {
+    let mut text = [0; 8];
+    FixedKernel::fill_upper(b"kiwi", &mut text);
+    assert_eq!(text, *b"6B697769");
+}
+
+#[test]
 fn arch_check() {
     assert!(FixedKernel::check(b"6B6"));
     assert!(!FixedKernel::check(b"0x6b"));

@@ -196,6 +196,31 @@ woven_text up v f =
     subst (λ n. pick_l 0 (swz_l w8 16 t 0 (zip2 (λ a b. a / 2 ^ b) v (replicate n 4)) ++ swz_l w8 16 t 0 (zip2 bit_and v (replicate n 15))) positions ≡ hex_text up v) f.0
     (rw (high_is v, low_is v f.1, high, low) (woven (hex_digit up) v f.0 ∙ digits_of_halves up v))
 
+-- ---- the digits of a single byte, whose halves are the first of 16 lanes
+
+-- the first two of the lanes that are looked up, as one number
+abbrev digits_number : Bool → ℕ → ℕ
+digits_number up x =
+    let halves = x / 16 + bit_and x 15 * 256 in
+    let lanes = digits_l 256 16 (number_l (2 ^ 64) (halves ∷ 0 ∷ [])) in
+    number_l 256 (swz_l w8 16 (map (hex_digit up) (range_with_len 0 16)) 0 lanes) % 65536
+
+first_is : (up : Bool) → T (holds_below (λ x. eqb (digits_number up x % 256) (hex_digit up (x / 16))) 256)
+first_is true = tt
+first_is false = tt
+
+second_is : (up : Bool) → T (holds_below (λ x. eqb (digits_number up x / 256 % 256) (hex_digit up (x % 16))) 256)
+second_is true = tt
+second_is false = tt
+
+pub byte_text : (up : Bool) (x n : ℕ) → x < 256 → n ≡ digits_number up x
+    → n % 256 ∷ n / 256 % 256 ∷ [] ≡ hex_text up (x ∷ [])
+unfolding hex_text
+byte_text up x n h e =
+    let first = eqb→eq _ _ (every_below (λ x. eqb (digits_number up x % 256) (hex_digit up (x / 16))) 256 (first_is up) x h) in
+    let second = eqb→eq _ _ (every_below (λ x. eqb (digits_number up x / 256 % 256) (hex_digit up (x % 16))) 256 (second_is up) x h) in
+    rw (e, first, second) refl
+
 -- ---- the values of a text, by pairs
 
 -- n pairs from position i on

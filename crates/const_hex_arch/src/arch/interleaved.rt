@@ -31,23 +31,14 @@ impl Kernel for Interleaved {
 
     const PIECE: usize = 64;
 
-    // LLVM for AArch64 takes three instructions more to select the digits of a case than to load those of one that
-    // is known.
     #[inline(always)]
     fn fill(input: &[u8], upper: bool, output: &mut [u8]) {
-        if input.len() == 1 {
-            if upper {
-                small_input::fill::<Interleaved>(input, true, output);
-            } else {
-                small_input::fill::<Interleaved>(input, false, output);
-            }
-        } else if input.len() >= 64 {
-            loops::fill_in_steps::<32, Interleaved, Interleaved>(input, upper, output);
-        } else if upper {
-            fill_short::<true>(input, output);
-        } else {
-            fill_short::<false>(input, output);
-        }
+        fill::<false>(input, upper, output);
+    }
+
+    #[inline(always)]
+    fn fill_upper(input: &[u8], output: &mut [u8]) {
+        fill::<true>(input, true, output);
     }
 
     // 8 characters, as many as a function selector of Ethereum has, are asked for before less.
@@ -84,21 +75,25 @@ impl Kernel for Interleaved {
     }
 }
 
-/// As `fill`, for less than two steps. It asks for 16 bytes first.
+/// Fills the output with the text of the input. `CASE` makes two functions of it, as of `fill_in_steps`.
+// 1 byte, a long text and 16 bytes are asked for first. Of 33 to 48 bytes the last 16 are the rest.
 #[inline(always)]
-fn fill_short<const UPPER: bool>(input: &[u8], output: &mut [u8])
-    requires size { length output.old ≡ 2 * length input.now }
-    requires short { length input.now < 64 }
-    ensures { output.new ≡ hex_text UPPER input.now }
+fn fill<const CASE: bool>(input: &[u8], upper: bool, output: &mut [u8])
+    requires { length output.old ≡ 2 * length input.now }
+    ensures { output.new ≡ hex_text upper input.now }
 {
-    if input.len() == 16 {
-        steps::fill_step::<16, Interleaved>(input, UPPER, UPPER, output);
+    if input.len() == 1 {
+        small_input::fill_byte(input[0], upper, output);
+    } else if input.len() >= 64 {
+        loops::fill_in_steps::<32, CASE, Interleaved, Interleaved>(input, upper, output);
+    } else if input.len() == 16 {
+        steps::fill_step::<16, Interleaved>(input, upper, upper, output);
     } else if input.len() >= 32 {
-        small_input::fill_overlapping::<32, 16, Interleaved, Interleaved>(input, UPPER, output);
+        small_input::fill_overlapping::<32, 16, Interleaved, Interleaved>(input, upper, output);
     } else if input.len() >= 16 {
-        small_input::fill_overlapping::<16, 16, Interleaved, Interleaved>(input, UPPER, output);
+        small_input::fill_overlapping::<16, 16, Interleaved, Interleaved>(input, upper, output);
     } else {
-        small_input::fill::<Interleaved>(input, UPPER, output);
+        small_input::fill::<Interleaved>(input, upper, output);
     }
 }
 
@@ -114,11 +109,11 @@ impl PairOps for Interleaved {
 
 impl LaneOps<16> for Interleaved {
     #[inline(always)]
-    fn write_digits(v: u8x16, upper: bool, _second_row: bool, output: &mut [u8])
+    fn write_digits(v: u8x16, upper: bool, second_row: bool, output: &mut [u8])
         requires { length output.old ≡ 32 }
         ensures { output.new ≡ hex_text upper v }
     {
-        let digits = u8x16::from_array(lanes16::digits_row(upper));
+        let digits = u8x16::from_array(lanes16::digits_row(upper, second_row));
         let first = digits.swizzle_dyn(v >> u8x16::splat(4));
         let second = digits.swizzle_dyn(v & u8x16::splat(15));
         let (front, back) = first.interleave(second);

@@ -20,28 +20,36 @@ use std::simd::prelude::*;
 // the value itself, `P`, `W`, `X` and `Y` would leave the mark 32, and pass as digits.
 const LIMITS: [u8; 16] = [1, 10, 11, 12, 13, 14, 15, 8, 9, 10, 0, 0, 0, 0, 0, 0];
 
-/// The 16 digits in lowercase and in uppercase.
+/// Two equal rows of the 16 digits in lowercase, and two in uppercase.
+// Why two: digits that LLVM knows it would load again in each turn of a loop. A row that is chosen at run
+// time stays in a register.
 // Rattle has no `*HEX_CHARS_LOWER` in a constant yet.
-const DIGITS: &[[u8; 16]; 2] = &[*b"0123456789abcdef", *b"0123456789ABCDEF"];
+const DIGITS: &[[u8; 16]; 4] = &[
+    *b"0123456789abcdef",
+    *b"0123456789abcdef",
+    *b"0123456789ABCDEF",
+    *b"0123456789ABCDEF",
+];
 
 /// Two equal rows of the factor 4097 in each lane of 16 bits.
 // Why two: a compiler that knows a factor of 4097 multiplies by a shift and a sum (LLVM 22, for x86-64),
 // which costs more instructions. In Rattle's build these are 2361 in place of 1823 to encode 2047 bytes,
 // and 3645 in place of 3347 to decode to 2048; by rustc 1.95 with AVX2, 1919 in place of 1827 to decode.
 // So `fill_in_steps`, and the loops of the decoders that take most of a long text, choose a row by a bit
-// that is known only at run time, and a short input takes the row of its case. All else takes the first
-// one: the choice would cost up to 4 instructions a call.
+// that is known only at run time. A short input takes the row of its case, and all else the first one:
+// the choice would cost up to 4 instructions a call.
 const FACTORS: &[[u8; 16]; 2] = &[
     [1, 16, 1, 16, 1, 16, 1, 16, 1, 16, 1, 16, 1, 16, 1, 16],
     [1, 16, 1, 16, 1, 16, 1, 16, 1, 16, 1, 16, 1, 16, 1, 16],
 ];
 
-/// The digits of a case.
+/// The digits of a case, from its first row or its second. Both are equal, so no result depends on
+/// `second_row`.
 #[inline(always)]
-pub(crate) fn digits_row(upper: bool) -> [u8; 16]
+pub(crate) fn digits_row(upper: bool, second_row: bool) -> [u8; 16]
     ensures { result ≡ map (hex_digit upper) (range_with_len 0 16) }
 {
-    DIGITS[usize::from(upper)]
+    DIGITS[2 * usize::from(upper) + usize::from(second_row)]
 }
 
 /// The factors, from the first row of them or the second. Both are equal, so no result depends on
@@ -53,7 +61,8 @@ pub(crate) fn factors_row(second_row: bool) -> [u8; 16]
     FACTORS[usize::from(second_row)]
 }
 
-/// The row of factors for a loop over so many bytes. Any bit that is known only at run time would do.
+/// The row of factors, and of digits, for a loop over so many bytes. Any bit that is known only at run time
+/// would do.
 // Bit 4 is the offset of the second row.
 #[inline(always)]
 pub(crate) fn second_row_for(length: usize) -> bool {
@@ -172,7 +181,12 @@ impl Kernel for Lanes16 {
 
     #[inline(always)]
     fn fill(input: &[u8], upper: bool, output: &mut [u8]) {
-        loops::fill_in_steps::<16, Lanes16, Lanes16>(input, upper, output);
+        loops::fill_in_steps::<16, false, Lanes16, Lanes16>(input, upper, output);
+    }
+
+    #[inline(always)]
+    fn fill_upper(input: &[u8], output: &mut [u8]) {
+        loops::fill_in_steps::<16, true, Lanes16, Lanes16>(input, true, output);
     }
 
     // Not `always`: `decode_body` calls `CheckFirst::<K>` in a branch that is never taken for this
@@ -188,6 +202,11 @@ impl Kernel for Lanes16 {
     #[inline(always)]
     fn decode_checked(input: &[u8], output: &mut [u8]) -> bool {
         loops::decode_in_steps::<16, true, Lanes16, Lanes16>(input, output)
+    }
+
+    #[inline(always)]
+    fn decode_all(input: &[u8], output: &mut [u8]) -> bool {
+        loops::decode_in_steps::<16, false, Lanes16, Lanes16>(input, output)
     }
 
     #[inline(always)]
@@ -262,7 +281,7 @@ pub(crate) fn encode_lanes(v: u8x16, upper: bool, second_row: bool) -> u8x32
     ensures { result ≡ hex_text upper v }
 {
     let halves = split_lanes(v, factors_row(second_row));
-    in_both_halves(digits_row(upper)).swizzle_dyn_within::<16>(halves)
+    in_both_halves(digits_row(upper, second_row)).swizzle_dyn_within::<16>(halves)
 }
 
 /// Both halves of each lane, the upper one first.

@@ -111,7 +111,12 @@ impl Kernel for Lanes32 {
 
     #[inline(always)]
     fn fill(input: &[u8], upper: bool, output: &mut [u8]) {
-        loops::fill_in_steps::<32, Lanes32, Lanes16>(input, upper, output);
+        loops::fill_in_steps::<32, false, Lanes32, Lanes16>(input, upper, output);
+    }
+
+    #[inline(always)]
+    fn fill_upper(input: &[u8], output: &mut [u8]) {
+        loops::fill_in_steps::<32, true, Lanes32, Lanes16>(input, true, output);
     }
 
     // Not `always`: `decode_body` calls `CheckFirst::<K>` in a branch that is never taken for this

@@ -12,20 +12,27 @@ use crate::proved::arch::{lanes16, small_input, steps};
 
 /// Fills the output with the text of the input. While two steps are left, it takes both in one turn;
 /// then one, if more than one is left; and then the last `N` bytes, if some are left, with bytes before
-/// them that are encoded again. Fewer than 16 bytes are left to `small_input::fill`, and others of less than
-/// two steps to `small_input::fill_overlapping`.
+/// them that are encoded again. 16 bytes, which are asked for first, and one step are one vector. Fewer than 16
+/// bytes are left to `small_input::fill`, and others of less than two steps to `small_input::fill_overlapping`.
+// LLVM inlines no such large function twice. `CASE` makes two of it, so that each case can have code of its own.
 #[inline(always)]
-pub(crate) fn fill_in_steps<const N: usize, V: LaneOps<N>, S: LaneOps<16>>(
+pub(crate) fn fill_in_steps<const N: usize, const CASE: bool, V: LaneOps<N>, S: LaneOps<16>>(
     input: &[u8],
     upper: bool,
     output: &mut [u8],
 ) {
+    if input.len() == 16 {
+        steps::fill_step::<16, S>(input, upper, upper, output);
+        return;
+    }
     if input.len() < 16 {
         small_input::fill::<S>(input, upper, output);
         return;
     }
     if input.len() < 2 * N {
-        if input.len() < N {
+        if input.len() == N {
+            steps::fill_step::<N, V>(input, upper, upper, output);
+        } else if input.len() < N {
             small_input::fill_overlapping::<16, 16, S, S>(input, upper, output);
         } else {
             small_input::fill_overlapping::<N, N, V, V>(input, upper, output);

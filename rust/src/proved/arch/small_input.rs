@@ -11,7 +11,7 @@ use crate::std_shim::simd::prelude::*;
 #[inline(always)]
 pub(crate) fn fill<S: LaneOps<16>>(bytes: &[u8], upper: bool, output: &mut [u8]) {
     if bytes.len() == 1 {
-        fill_byte::<S>(bytes[0], upper, output);
+        fill_byte(bytes[0], upper, output);
     } else if bytes.len() >= 8 {
         fill_ends::<8, 16, S>(bytes, upper, output);
     } else if bytes.len() >= 4 {
@@ -41,13 +41,14 @@ pub(crate) fn fill_overlapping<const N: usize, const M: usize, V: LaneOps<N>, H:
     }
 }
 
-/// As `fill`, for a single byte, which stands in the first lane.
+/// As `fill`, for a single byte, both of whose digits are looked up at once.
 #[inline(always)]
-fn fill_byte<S: LaneOps<16>>(byte: u8, upper: bool, output: &mut [u8]) {
-    let mut text = [0; 32];
-    let lanes = [byte, 0, 0, 0, 0, 0, 0, 0, 0, 0, 0, 0, 0, 0, 0, 0];
-    S::write_digits(u8x16::from_array(lanes), upper, upper, &mut text);
-    u8x2::from_slice(&text).copy_to_slice(output);
+pub(crate) fn fill_byte(byte: u8, upper: bool, output: &mut [u8]) {
+    let digits = u8x16::from_array(lanes16::digits_row(upper, false));
+    let values = u16::from_le_bytes([byte >> 4, byte & 15]);
+    let values = u64x2::from_array([u64::from(values), 0]).to_le_bytes();
+    let text = u16x8::from_le_bytes(digits.swizzle_dyn(values)).to_array()[0];
+    output.copy_from_slice(&text.to_le_bytes());
 }
 
 /// As `fill`, for `H` to `2 * H` bytes. `D` is `2 * H`, the number of digits of `H` bytes.

@@ -19,7 +19,7 @@ filled g c = elim c.if-input-at.branch [
   | then-input-at w ↦
       let end = c.loop-at.at + g.row.N in
       let more = filled_step {end = end} _ _ (2 * end - 2 * c.loop-at.at) c.loop-at.invariant (omega arith)
-      (omega arith) (omega arith) w.fill_step.ensures in
+      (omega arith) (omega arith) w.fill_step-then-input-at.ensures in
       rw w.output-is (filled_less {i = end} (length c.args.input.now - g.row.N) more (omega arith))
   | else-input-at w ↦ rw w.output-is
       (filled_less {i = c.loop-at.at} (length c.args.input.now - g.row.N) c.loop-at.invariant (omega arith))
