@@ -65,6 +65,8 @@ class Reader:
         if mnemonic.startswith("br"):
             targets = [self.blocks[-1 - depth] for depth in numbers]
         for block in targets:
+            # A result lies above what is dropped, so it would be taken from another place.
+            require(block is not self.blocks[0] or self.height - takes == block.height, "operands below a result")
             block.is_used = True
         self.read_so_far.append((mnemonic, Operands(self.height, numbers, targets), text))
         self.height += gives - takes

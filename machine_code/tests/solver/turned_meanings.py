@@ -73,9 +73,11 @@ REASONS = {
         # bits, by one byte or by two
         *[f"x86_64 VECTORS.{name}: 1 -> 2" for name in ("por", "pxor", "xorps")],
         *[f"webassembly : 1 -> 2 ({number})" for number in (3, 4)],
-        # what follows a branch is not reached
-        "webassembly EFFECTS.br_table: 0 -> 1", "webassembly Reader.add: 0 -> 1 (2)",
-        "webassembly Reader.add: 0 -> 1 (3)",
+        # what follows a branch is not reached, also if it is read
+        *[f"webassembly EFFECTS.br_table: {change}" for change in ("0 -> 1", "1 -> 2", "(1, 0) -> (0, 1)")],
+        "webassembly Reader.add: 0 -> 1 (2)", "webassembly Reader.add: 0 -> 1 (3)",
+        "webassembly Reader.add: self.is_reached = mnemonic not in ENDS -> pass",
+        "webassembly Block.__init__: False -> True",
         # what lies above an i32 does not count
         "webassembly : z3.ZeroExt -> z3.SignExt", "webassembly : 8 - size -> 8 + size", "webassembly : 8 -> 9 (9)",
         # one after the other, in any order

@@ -28,6 +28,8 @@ WRONG = [
     ("more bytes of a result", {"end": "i32.const 257 return"}, "neither true nor false"),
     ("true for all", {"invalid": "i32.const 1 return"}, "a character is passed that may be no digit"),
     ("false for digits", {"end": "i32.const 0 return"}, "digits are rejected"),
+    ("false for digits, above an operand", {"end": "i32.const 1 i32.const 0 return"}, "digits are rejected"),
+    ("false for digits, by a branch", {"end": "i32.const 1 i32.const 0 br 1"}, "operands below a result"),
     ("a shift by a length", {"start": "local.get 1 local.get 1 i32.shl local.set 2"}, "a shift by what is unknown"),
     ("a table of branches by a character", {"character": "local.set 2 block local.get 2 br_table 0 0 end local.get 2"},
      SECRET),
