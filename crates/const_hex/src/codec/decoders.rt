@@ -163,14 +163,16 @@ pub fn const_decode_to_array<const N: usize>(input: &[u8]) -> Result<[u8; N], Fr
     }
     let mut bytes = [0; N];
     let mut index = 0;
+    // A counter of its own, for LLVM: it unrolls the loop for fewer lengths, and saves fewer registers.
+    let mut position = input.len() - body.len();
     'pairs: while index < N {
         let (first, second) = (body[2 * index], body[2 * index + 1]);
         if !are_digits(first, second) {
-            let prefix = input.len() - body.len();
-            return Err(invalid_pair(first, second, prefix + 2 * index));
+            return Err(invalid_pair(first, second, position));
         }
         bytes[index] = value_at(first) * 16 + value_at(second);
         index += 1;
+        position += 2;
     }
     Ok(bytes)
 }

@@ -1,4 +1,4 @@
-use Rattle.std.proofs.Common.{◌*◌, ◌+◌, ◌-◌, length, Err, arith, rules, take_all}
+use Rattle.std.proofs.Common.{◌*◌, Err, arith, rules, take_all}
 use Rattle.const_hex.specs.Prelude.{Reads}
 use Rattle.const_hex_arch.proofs.lemmas.Texts.{pair_more, Spells-digits}
 use Rattle.const_hex.proofs.lemmas.Searching.{bad_pair, has_value}
@@ -17,7 +17,7 @@ returns-then-not-are_digits g c =
     let i = 2 * c.pairs.index in
     let body = c.strip_prefix-body.ensures.body in
     let error : Reads t (Err c.invalid_pair.result) =
-    bad_pair t i (length t - length c.strip_prefix-body.result.now + i) c.invalid_pair.result
+    bad_pair t i c.pairs.position c.invalid_pair.result
     (omega (arith, c.if-input-ne0.false)) (rw (← body) (omega arith)) (rw (← body) (Spells-digits _ _ c.pairs.invariant.front)) (rw (← body) (omega arith))
     (rw (← body) (λ both. absurd (cc (c.are_digits.ensures.1 both, c.if-not-are_digits.true))))
     (rw (← body) c.invalid_pair.ensures.first) (rw (← body) c.invalid_pair.ensures.second) in

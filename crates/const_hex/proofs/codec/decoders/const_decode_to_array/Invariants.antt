@@ -1,4 +1,4 @@
-use Rattle.std.proofs.Common.{◌≡◌, ◌≤◌, ◌-◌, ◌*◌, length, take}
+use Rattle.std.proofs.Common.{◌≡◌, ◌≤◌, ◌*◌, ◌+◌, ◌-◌, length, take}
 use Rattle.const_hex.specs.Prelude.{Spells}
 use Rattle.const_hex.proofs.codec.decoders.const_decode_to_array.Given as goal
 
@@ -7,6 +7,7 @@ invariant-pairs g l = record {
   front : Spells (take (2 * l.index) l.body) (take l.index l.bytes);
   size : length l.bytes ≡ g.row.N;
   within : l.index ≤ g.row.N;
+  position : l.position ≡ length l.input - length l.body + 2 * l.index;
 }
 
 abbrev pub decreases-pairs : goal.decreases-pairs
