@@ -163,16 +163,17 @@ pub fn const_decode_to_array<const N: usize>(input: &[u8]) -> Result<[u8; N], Fr
     }
     let mut bytes = [0; N];
     let mut index = 0;
-    // A counter of its own, for LLVM: it unrolls the loop for fewer lengths, and saves fewer registers.
-    let mut position = input.len() - body.len();
+    // It is counted, and not computed, so that LLVM unrolls the loop for fewer lengths, and saves fewer registers.
+    let mut left = body.len();
     'pairs: while index < N {
-        let (first, second) = (body[2 * index], body[2 * index + 1]);
+        let pair = 2 * index;
+        let (first, second) = (body[pair], body[pair + 1]);
         if !are_digits(first, second) {
-            return Err(invalid_pair(first, second, position));
+            return Err(invalid_pair(first, second, input.len() - left));
         }
         bytes[index] = value_at(first) * 16 + value_at(second);
         index += 1;
-        position += 2;
+        left -= 2;
     }
     Ok(bytes)
 }

@@ -1,6 +1,7 @@
-use Rattle.std.proofs.Common.{◌*◌, Err, arith, rules, take_all}
+use Rattle.std.proofs.Common.{◌*◌, ◌-◌, length, Err, arith, rules, take_all}
 use Rattle.const_hex.specs.Prelude.{Reads}
 use Rattle.const_hex_arch.proofs.lemmas.Texts.{pair_more, Spells-digits}
+use Rattle.const_hex.proofs.lemmas.Decoding.{body-shorter}
 use Rattle.const_hex.proofs.lemmas.Searching.{bad_pair, has_value}
 use Rattle.const_hex.proofs.lemmas.RoundTrip.{DecodesToArray-from_ReadsSized}
 use Rattle.const_hex.proofs.codec.decoders.const_decode_to_array.Goals as goal
@@ -16,9 +17,10 @@ returns-then-not-are_digits g c =
     let t = c.args.input.now in
     let i = 2 * c.pairs.index in
     let body = c.strip_prefix-body.ensures.body in
+    let shorter = rw (← body) at (body-shorter t) in
     let error : Reads t (Err c.invalid_pair.result) =
-    bad_pair t i c.pairs.position c.invalid_pair.result
-    (omega (arith, c.if-input-ne0.false)) (rw (← body) (omega arith)) (rw (← body) (Spells-digits _ _ c.pairs.invariant.front)) (rw (← body) (omega arith))
+    bad_pair t i (length t - c.pairs.left) c.invalid_pair.result
+    (omega (arith, c.if-input-ne0.false)) (rw (← body) (omega arith)) (rw (← body) (Spells-digits _ _ c.pairs.invariant.front)) (rw (← body) (omega (arith, shorter)))
     (rw (← body) (λ both. absurd (cc (c.are_digits.ensures.1 both, c.if-not-are_digits.true))))
     (rw (← body) c.invalid_pair.ensures.first) (rw (← body) c.invalid_pair.ensures.second) in
     DecodesToArray-from_ReadsSized g.row.N t _ (search rules)

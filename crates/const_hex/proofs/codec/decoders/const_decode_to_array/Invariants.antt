@@ -7,7 +7,7 @@ invariant-pairs g l = record {
   front : Spells (take (2 * l.index) l.body) (take l.index l.bytes);
   size : length l.bytes ≡ g.row.N;
   within : l.index ≤ g.row.N;
-  position : l.position ≡ length l.input - length l.body + 2 * l.index;
+  left : l.left + 2 * l.index ≡ length l.body;
 }
 
 abbrev pub decreases-pairs : goal.decreases-pairs
