@@ -29,17 +29,23 @@ impl Case {
         Case { call, library, size, prepare: Box::new(move || Box::new(prepare())) }
     }
 
+    /// The call with its buffers.
+    pub fn prepared(&self) -> Box<dyn Repeats> {
+        (self.prepare)()
+    }
+
     /// Makes the call so many times, and returns how long that took.
     pub fn repeat(&self, count: usize) -> Duration {
         // Prepared here, the buffers have the same addresses for each library: a store that crosses a page takes long.
-        let mut repeats = (self.prepare)();
+        let mut prepared = self.prepared();
         let start = Instant::now();
-        repeats.repeat(count);
+        prepared.repeat(count);
         start.elapsed()
     }
 }
 
-trait Repeats {
+pub trait Repeats {
+    /// Makes the call so many times.
     fn repeat(&mut self, count: usize);
 }
 

@@ -94,15 +94,15 @@ fn calls(size: usize) -> (usize, usize) {
     }
 }
 
-/// Makes all calls, in two rounds each, and marks where a round begins and ends. This is what is counted.
+/// Makes all calls, in three rounds each, and marks where a round begins and ends. This is what is counted. In the first
+/// round symbols are bound, and the allocator chooses where large blocks stand.
 fn repeat_all(only: &[String]) {
     for case in chosen(only) {
         let (few, more) = calls(case.size);
-        // The first calls bind symbols, and let the allocator choose where large blocks stand.
-        case.repeat(few);
-        for count in [few, more] {
+        let mut prepared = case.prepared();
+        for count in [few, few, more] {
             mark();
-            case.repeat(count);
+            prepared.repeat(count);
             mark();
         }
     }
@@ -136,10 +136,10 @@ fn count(only: &[String]) -> io::Result<Vec<u64>> {
         true => counted_by_qemu(only)?,
         false => counted_by_callgrind(only)?,
     };
-    // Of each case, what was counted before its first round, in it, between both, and in its second round.
-    let cells = rounds.chunks_exact(4).zip(chosen(only)).map(|(counted, case)| {
+    // Of each case, what was counted before each of its rounds, and in it.
+    let cells = rounds.chunks_exact(6).zip(chosen(only)).map(|(counted, case)| {
         let (few, more) = calls(case.size);
-        counted[3].saturating_sub(counted[1]) / (more - few) as u64
+        counted[5].saturating_sub(counted[3]) / (more - few) as u64
     });
     Ok(cells.collect())
 }

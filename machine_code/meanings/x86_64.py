@@ -26,13 +26,12 @@ LEVELS = {"v3": f"{V2}+xsave+avx+avx2+bmi+bmi2+f16c+fma+lzcnt+movbe", "dispatch"
 NOPS = "0f1f4000 0f1f440000 660f1f440000 0f1f8000000000 0f1f840000000000 660f1f840000000000".split()
 NOPS += ["66" * count + "2e0f1f840000000000" for count in range(1, 7)]
 SIZES = {"BYTE": 1, "WORD": 2, "DWORD": 4, "QWORD": 8, "XMMWORD": 16, "YMMWORD": 32}
-# The register that a name means, the first of its bytes, and how many.
-GENERAL = {f"r{_number}{_end}": (f"r{_number}", 0, _size)
+# The register that a name means, and how many of its bytes.
+GENERAL = {f"r{_number}{_end}": (f"r{_number}", _size)
            for _number in range(8, 16) for _end, _size in (("", 8), ("d", 4), ("w", 2), ("b", 1))}
 for _name in ("ax", "bx", "cx", "dx", "si", "di", "bp", "sp"):
-    GENERAL |= {f"r{_name}": (f"r{_name}", 0, 8), f"e{_name}": (f"r{_name}", 0, 4), _name: (f"r{_name}", 0, 2),
-                f"{_name.removesuffix('x')}l": (f"r{_name}", 0, 1)}
-GENERAL |= {f"{_letter}h": (f"r{_letter}x", 1, 1) for _letter in "abcd"}
+    GENERAL |= {f"r{_name}": (f"r{_name}", 8), f"e{_name}": (f"r{_name}", 4), _name: (f"r{_name}", 2),
+                f"{_name.removesuffix('x')}l": (f"r{_name}", 1)}
 
 
 class Operand:
@@ -41,14 +40,14 @@ class Operand:
     def __init__(self, text):
         self.size = None
         if text in GENERAL:
-            self.kind, (self.name, self.first, self.size) = "general", GENERAL[text]
+            self.kind, (self.name, self.size) = "general", GENERAL[text]
         elif match := re.fullmatch(r"([xy])mm(\d+)", text):
             self.kind, self.name, self.size = "vector", int(match[2]), SIZES[f"{match[1].upper()}MMWORD"]
         elif match := re.fullmatch(r"(?:(\w+) PTR )?\[(.*)\]", text):
             self.kind, self.size, self.terms, self.offset = "memory", SIZES.get(match[1]), [], 0
             for sign, part in re.findall(r"([+-]?)([^+-]+)", match[2]):
                 name, _, scale = part.partition("*")
-                if name == "rip" or name in GENERAL and GENERAL[name][2] == 8:
+                if name == "rip" or name in GENERAL and GENERAL[name][1] == 8:
                     self.terms.append((name, int(scale or 1)))
                 else:
                     self.offset += int(sign + part, 16)
@@ -82,7 +81,7 @@ class State(state.State):
     """The arguments are in these registers, and a call has left the address to return to on the stack."""
 
     TOP, STACK, STACK_OF_CALLED, STACK_OF_DISPATCH, RETURN, VECTORS, WIDTH = "rsp", 1912, 72, 2040, 8, 16, 32
-    GENERAL = tuple(dict.fromkeys(name for name, _, _ in GENERAL.values()))
+    GENERAL = tuple(dict.fromkeys(name for name, _ in GENERAL.values()))
     ARGUMENTS, RESULTS, BOOL = ("rdi", "rsi", "rdx", "rcx", "r8", "r9"), ("rax", "rdx"), 8
     KEPT = ("rbx", "rbp", "r12", "r13", "r14", "r15")
 
@@ -108,7 +107,7 @@ class State(state.State):
     def lane(self, o, i, size=None):
         """The lowest bytes of an operand, or all."""
         if o.kind == "general":
-            return split(z3.Extract(8 * (o.first + o.size) - 1, 8 * o.first, self.general[o.name]))[:size]
+            return split(z3.Extract(8 * o.size - 1, 0, self.general[o.name]))[:size]
         if o.kind == "vector":
             return self.vectors[o.name][: size or o.size]
         return self.load(self.address_of(o, i), size or o.size, self.is_legacy and (size or o.size) == 16)
@@ -122,7 +121,6 @@ class State(state.State):
         """Writes a general register, of which 4 bytes clear the others, or memory."""
         if o.kind == "memory":
             return self.store(self.address_of(o, i), split(term))
-        require(o.first == 0, "a write of the second byte of a register")
         if o.size == 4:
             term = z3.ZeroExt(32, term)
         elif o.size < 8:

@@ -29,7 +29,7 @@ MORE = {
         ldrh w0, [x1]; strh w0, [x1]; ldurb w0, [x1, #-1]; sturb w0, [x1, #-1]; umulh x0, x1, x2; msub x0, x1, x2, x3
         msub w0, w1, w2, wzr; movk x0, #0xcccd; movk x0, #0x1234, lsl #48; movk w0, #0x7374, lsl #16
         bfxil w0, w1, #2, #1; bfxil x0, x1, #0, #9; adds x0, x1, w2, uxtw; cmp x0, x1, lsr #1
-        bfi w0, w1, #3, #7; bfi x0, x1, #40, #24
+        bfi w0, w1, #3, #7; bfi x0, x1, #40, #24; rev16 v0.8b, v1.8b
         tbz x0, #63, 1f; nop; nop; 1: nop; tbnz w0, #3, 1f; nop; nop; 1: nop
         b.ls 1f; nop; nop; 1: nop; b.gt 1f; nop; nop; 1: nop
         cset w0, eq; cset w0, ne; cset w0, cs; cset w0, cc; cset w0, hi; cset w0, ls; cset w0, gt; cset w0, le

@@ -26,7 +26,6 @@ FOLDER = pathlib.Path(__file__).resolve().parent
 sys.path[:0] = [str(FOLDER), str(FOLDER.parents[1])]
 
 import test_meanings  # noqa: E402
-from solver.questions import Refused  # noqa: E402
 import test_webassembly  # noqa: E402
 
 MEANINGS = FOLDER.parents[1] / "meanings"
@@ -63,10 +62,14 @@ REASONS = {
         "aarch64 _operands: 1 -> 2", "webassembly State.exact: cut.eq(term) or self.fits(term) -> "
                                      "cut.eq(term) and self.fits(term)",
         # whose result is not kept
-        "aarch64 HANDLERS.cmn: ADD -> SUBTRACT", "aarch64 HANDLERS.tst: AND -> OR",
+        "aarch64 HANDLERS.cmn: ADD -> SUBTRACT", "aarch64 HANDLERS.tst: AND -> OR", "x86_64 HANDLERS.test: AND -> OR",
         *[f"{processor} HANDLERS.cmp: SUBTRACT -> ADD" for processor in ("aarch64", "x86_64")],
         *[f"lanes saturated: {change}" for change in (
             "0 -> 1 (2)", "number < 0 -> number <= 0", "number > 255 -> number >= 255")],
+        # of which both terms are kept, if the condition is known
+        "aarch64 select.handler: True -> False",
+        # as many bits as before
+        *[f"x86_64 HANDLERS.{name}: z3.ZeroExt -> z3.SignExt" for name in ("mov", "movabs")],
         # equal numbers
         "lanes (MINIMUM, MAXIMUM): z3.ULT -> z3.ULE", "lanes (MINIMUM, MAXIMUM): z3.ULT -> z3.ULE (2)",
         "lanes SUBTRACT_SATURATED: z3.ULT -> z3.ULE",
@@ -102,7 +105,7 @@ REASONS = {
     "less is known, which refuses more": (
         "x86_64 by_one.handler: s.flags or {} -> s.flags and {}",
         "x86_64 vzeroupper: True -> False", "x86_64 State.put_vector: 16 -> 17",
-        "x86_64 VECTORS.movdqu: False -> True",
+        *[f"x86_64 VECTORS.{name}: False -> True" for name in ("movdqu", "movups")],
         "x86_64 State.lane: self.is_legacy and (size or o.size) == 16 -> self.is_legacy or (size or o.size) == 16",
         "webassembly State.put: (self.vectors, self.general) -> (self.general, self.vectors)"),
     "test_wrong.py has programs with calls, returns and jumps": (
@@ -307,7 +310,7 @@ class Compared:
             try:
                 if self.runner.difference(i, f"{form} {seed}", *read):
                     return True
-            except Refused:
+            except Exception:  # As in the tool, what raises is refused.
                 return True
         return False
 
