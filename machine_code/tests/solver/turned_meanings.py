@@ -81,6 +81,7 @@ REASONS = {
         "webassembly Reader.add: 0 -> 1 (2)", "webassembly Reader.add: 0 -> 1 (3)",
         "webassembly Reader.add: self.is_reached = mnemonic not in ENDS -> pass",
         "webassembly Block.__init__: False -> True",
+        "webassembly Reader.read: block.is_used and (not block.is_loop) -> block.is_used or not block.is_loop",
         # what lies above an i32 does not count
         "webassembly : z3.ZeroExt -> z3.SignExt", "webassembly : 8 - size -> 8 + size", "webassembly : 8 -> 9 (9)",
         # one after the other, in any order

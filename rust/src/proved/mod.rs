@@ -49,7 +49,7 @@ pub use self::error::*;
 //    1  each value may be dropped
 //    6  kernels that no target uses are left out, and callers that nothing exports
 //    1  the kernel is chosen for the processor
-//   15  what a constant calls is constant
+//   13  what a constant calls is constant
 //    2  what an error alone needs is compiled in the crates that call it
 //    2  what hexfilter uses of const_hex is a module of std_shim
 //    7  what is for C calls the kernel for the processor

@@ -1,5 +1,5 @@
 -- A search for the first byte that is not a digit.
-use Rattle.std.proofs.Common.{◌≡◌, ◌≢◌, ◌+◌, ◌-◌, ◌<◌, ◌↔◌, ℕ, List, length, take, get_or, bit_or, ltb, is_some, inl, inr, refl, Err, IsTrue, arith}
+use Rattle.std.proofs.Common.{◌≡◌, ◌≢◌, ◌+◌, ◌-◌, ◌<◌, ◌↔◌, ℕ, List, length, take, drop, get_or, bit_or, ltb, is_some, inl, inr, refl, Err, IsTrue, arith, length-drop, get_or-drop}
 use Rattle.std.proofs.lemmas.Bool.{cases_Bool}
 use Rattle.std.proofs.lemmas.Bool.Decides.{nat_tests}
 use Rattle.const_hex.specs.Prelude.{AllDigits, IsDigit, IsEven, Reads, body_of, value_or_nil, hex_value, FromHexError, InvalidHexCharacter}
@@ -48,3 +48,11 @@ bad_pair t i index e even within done at not first second =
           rw (first (λ digit. no_value _ none digit))
           (even, (i, record { within = omega (arith, within); before = done; here = none }, refl, at))
     ]
+
+-- how many bytes are left
+pub left : (i : ℕ) (u rest : List ℕ) → rest ≡ drop i u → length rest ≡ length u - i
+left i u rest e = rw e (length-drop i u)
+
+-- a byte of them
+pub byte : (i j k : ℕ) (u rest : List ℕ) → rest ≡ drop i u → k ≡ i + j → get_or rest j 0 ≡ get_or u k 0
+byte i j k u rest e at = rw (e, at) (get_or-drop i u j 0)

@@ -4,10 +4,10 @@ ghost use Rattle.std.specs.Prelude.{◌↔◌, Result, Ok, IsTrue};
 ghost use Rattle.const_hex.specs.Prelude.{AllDigits, ChecksText, FromHexError};
 
 use crate::codec::body::{
-    are_digits, find_first_bad, find_invalid_character, invalid_pair, strip_even, strip_prefix,
+    are_digits, find_invalid_character, invalid_pair, strip_even, strip_prefix,
 };
 use crate::error::FromHexError;
-use const_hex_arch::{FixedKernel, Kernel};
+use const_hex_arch::{FixedKernel, Kernel, NIL, value_at};
 
 /// Whether [`decode`](crate::decode) accepts a text.
 ///
@@ -96,6 +96,12 @@ pub fn check_raw(input: &[u8]) -> bool
 pub fn const_check_raw(input: &[u8]) -> bool
     ensures { IsTrue result ↔ AllDigits input.now }
 {
-    let (_, index) = find_first_bad(input);
-    index == input.len()
+    let mut rest = input;
+    'digits: while let [first, after @ ..] = rest {
+        if value_at(*first) == NIL {
+            return false;
+        }
+        rest = after;
+    }
+    true
 }

@@ -38,10 +38,12 @@ impl<const PAIRS: bool> Kernel for ByteByByte<PAIRS> {
     const PIECE: usize = 1;
 
     #[inline(always)]
-    #[tactic(auto, using(crate::proofs::lemmas::Ends::fills))]
+    #[tactic(auto, using(std::proofs::lemmas::List::take_all, crate::proofs::lemmas::Ends::fills))]
     fn fill(input: &[u8], upper: bool, output: &mut [u8]) {
+        // By this length, which cannot overflow, LLVM needs no test of an index in Rust.
+        let text = &mut output[..input.len().saturating_mul(2)];
         for i in 0..input.len() {
-            output[2 * i..2 * i + 2].copy_from_slice(&digits_at::<PAIRS>(upper, input[i]));
+            text[2 * i..2 * i + 2].copy_from_slice(&digits_at::<PAIRS>(upper, input[i]));
         }
     }
 
@@ -59,7 +61,7 @@ impl<const PAIRS: bool> Kernel for ByteByByte<PAIRS> {
     #[inline(always)]
     #[tactic(auto, using(std::proofs::lemmas::Grind::common_steps, std::proofs::lemmas::List::take_all, std::proofs::lemmas::Nat::le_or_l, std::proofs::lemmas::Nat::le_or_r, crate::proofs::lemmas::FirstInvalid::refused_joint, crate::proofs::lemmas::Texts::pair_more))]
     fn decode_checked(input: &[u8], output: &mut [u8]) -> bool {
-        // By this length, which cannot overflow, LLVM needs no test of an index in Rust.
+        // By this length, as in `fill`.
         let text = &input[..output.len().saturating_mul(2)];
         for i in 0..output.len() {
             let high = value_at(text[2 * i]);

@@ -98,7 +98,7 @@ pub(crate) const fn invalid_character(byte: u8, index: usize) -> FromHexError {
 // A caller that has already seen an invalid character may get the latter, if another process has
 // removed it from shared memory in between. Nothing is read out of bounds then.
 #[inline(always)]
-pub(crate) const fn find_first_bad(text: &[u8]) -> (u8, usize) {
+pub(crate) fn find_first_bad(text: &[u8]) -> (u8, usize) {
     let mut index = skip_digits(text);
     'digits: while index < text.len() {
         let byte = text[index];
@@ -114,7 +114,7 @@ pub(crate) const fn find_first_bad(text: &[u8]) -> (u8, usize) {
 /// that has another byte. Returns the index there.
 // With the last index at which four bytes are left, LLVM needs no test of an index in Rust either.
 #[inline(always)]
-const fn skip_digits(text: &[u8]) -> usize {
+fn skip_digits(text: &[u8]) -> usize {
     let mut index = 0;
     if text.len() >= 4 {
         let last = text.len() - 4;

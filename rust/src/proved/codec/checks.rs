@@ -3,10 +3,10 @@
 
 use crate::std_shim::prelude::*;
 use crate::proved::codec::body::{
-    are_digits, find_first_bad, find_invalid_character, invalid_pair, strip_even, strip_prefix,
+    are_digits, find_invalid_character, invalid_pair, strip_even, strip_prefix,
 };
 use crate::proved::error::FromHexError;
-use crate::proved::{FixedKernel, Kernel};
+use crate::proved::{FixedKernel, Kernel, NIL, value_at};
 
 /// Whether [`decode`](crate::decode) accepts a text.
 ///
@@ -61,6 +61,12 @@ pub fn check_raw(input: &[u8]) -> bool {
 /// `check_raw`.
 #[inline]
 pub const fn const_check_raw(input: &[u8]) -> bool {
-    let (_, index) = find_first_bad(input);
-    index == input.len()
+    let mut rest = input;
+    'digits: while let [first, after @ ..] = rest {
+        if value_at(*first) == NIL {
+            return false;
+        }
+        rest = after;
+    }
+    true
 }

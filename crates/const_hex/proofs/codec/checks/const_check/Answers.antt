@@ -1,17 +1,9 @@
-use Rattle.std.proofs.Common.{◌≡◌, ◌+◌, ◌-◌, ℕ, List, length, drop, Ok, ◌∙◌, refl, arith, length-drop, get_or, get_or-drop, drop-drop, take_all}
+use Rattle.std.proofs.Common.{◌≡◌, ◌+◌, ◌-◌, length, drop, Ok, ◌∙◌, refl, arith, length-drop, drop-drop, take_all}
 use Rattle.const_hex.specs.Prelude.{body_of}
 use Rattle.const_hex.proofs.lemmas.Decoding.{body-shorter}
 use Rattle.const_hex.proofs.lemmas.Reading.{Reads-digits, ChecksText-from_Checks}
-use Rattle.const_hex.proofs.lemmas.Searching.{bad_pair, two_more}
+use Rattle.const_hex.proofs.lemmas.Searching.{bad_pair, two_more, left, byte}
 use Rattle.const_hex.proofs.codec.checks.const_check.Goals as goal
-
--- how many bytes are left
-left : (i : ℕ) (u rest : List ℕ) → rest ≡ drop i u → length rest ≡ length u - i
-left i u rest e = rw e (length-drop i u)
-
--- a byte of them
-byte : (i j k : ℕ) (u rest : List ℕ) → rest ≡ drop i u → k ≡ i + j → get_or rest j 0 ≡ get_or u k 0
-byte i j k u rest e at = rw (e, at) (get_or-drop i u j 0)
 
 pub returns-then-not-are_digits : goal.returns-then-not-are_digits
 returns-then-not-are_digits c =

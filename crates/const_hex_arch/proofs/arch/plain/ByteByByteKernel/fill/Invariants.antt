@@ -2,4 +2,4 @@ use Rattle.const_hex_arch.proofs.lemmas.Ends.{IsFilled}
 use Rattle.const_hex_arch.proofs.arch.plain.ByteByByteKernel.fill.Given as goal
 
 abbrev pub invariant-loop-i : goal.invariant-loop-i
-invariant-loop-i g l = IsFilled l.upper l.input l.output l.i
+invariant-loop-i g l = IsFilled l.upper l.input l.text l.i
