@@ -6,24 +6,27 @@ use const_hex_proved as hex;
 use std::fmt::{Error, Result, Write};
 use std::process::Command;
 
-/// A call, the number of bytes, and how many instructions it may take: by vectors and by portable code as many as
-/// const-hex takes, by docs/BENCHMARKS.md. On AArch64 the limits are chosen, since the tests run by Rust 1.63, by which
-/// const-hex was not counted; 0 is none. So are those of `display`, which prints to a writer that returns an error at
-/// once, after which no more than a part of the bytes is encoded.
-const LIMITS: [(&str, usize, [i64; 3]); 14] = [
-    ("encode", 16, [62, 192, 0]),
-    ("encode", 32, [66, 360, 0]),
-    ("encode", 64, [84, 696, 71]),
-    ("encode", 256, [192, 2712, 0]),
-    ("encode to a string", 32, [249, 530, 261]),
-    ("decode", 16, [89, 261, 0]),
-    ("decode", 32, [112, 485, 0]),
-    ("decode", 64, [142, 933, 154]),
-    ("decode", 256, [322, 3621, 0]),
-    ("decode to a vector", 32, [274, 662, 307]),
-    ("check", 32, [96, 422, 0]),
-    ("check", 64, [122, 806, 145]),
-    ("check", 256, [278, 3110, 0]),
+/// A call, the number of bytes, and how many instructions it may take by vectors, by portable code, and on AArch64: as
+/// many as const-hex takes, by docs/BENCHMARKS.md; 0 is none. Those of `display` are chosen. It prints to a writer that
+/// returns an error at once, after which no more than a part of the bytes is encoded.
+const LIMITS: [(&str, usize, [i64; 3]); 18] = [
+    ("encode", 1, [63, 28, 26]),
+    ("encode", 16, [62, 192, 30]),
+    ("encode", 20, [120, 234, 67]),
+    ("encode", 32, [66, 360, 42]),
+    ("encode", 64, [84, 696, 66]),
+    ("encode", 256, [192, 2712, 210]),
+    ("encode to a string", 32, [249, 530, 243]),
+    ("decode", 1, [92, 51, 48]),
+    ("decode", 16, [89, 261, 71]),
+    ("decode", 20, [154, 317, 120]),
+    ("decode", 32, [112, 485, 100]),
+    ("decode", 64, [142, 933, 158]),
+    ("decode", 256, [322, 3621, 506]),
+    ("decode to a vector", 32, [274, 662, 314]),
+    ("check", 32, [96, 422, 100]),
+    ("check", 64, [122, 806, 152]),
+    ("check", 256, [278, 3110, 464]),
     ("display", 1 << 20, [25_000, 500_000, 0]),
 ];
 
@@ -43,7 +46,8 @@ fn limits() {
         if limit == 0 {
             continue;
         }
-        let limit = limit + limit / 64; // since runs differ a little
+        // Runs differ a little, and by Rust 1.63, which tests for AArch64, the loop takes some more.
+        let limit = limit + limit / 64 + if cfg!(target_arch = "aarch64") { 4 } else { 0 };
         let found = (counted(call, bytes, 2000) - counted(call, bytes, 1000)) / 1000;
         assert!(found > 0 && found <= limit, "{call} of {bytes} bytes: {found} instructions, {limit} allowed");
     }
