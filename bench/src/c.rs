@@ -150,15 +150,21 @@ fn done<T, E>(is_done: bool, value: T, error: E) -> Result<T, E> {
     is_done.then_some(value).ok_or(error)
 }
 
+/// What is added to the name of `encode`, its flags, and how many characters it adds to the digits. The flags are not
+/// known to the compiler, or it would leave the tests of them out of the functions of const-hex.
+const ENCODINGS: [(&str, u32, usize); 3] = [("", 4, 0), (" with NUL", 0, 1), (" with a prefix", 6, 2)];
+
 /// The calls in C of a library.
 macro_rules! in_c {
     ($library:ident, $name:literal, $cases:ident) => {{
-        // Not known to the compiler, or it would leave the tests of flags out of the functions of const-hex.
-        const NO_NUL: u32 = 4;
         // SAFETY, of all: each pointer comes with its slice's own length, and an error may be null.
-        $cases.encoding("in C: encode", $name, |bytes, text| unsafe {
-            $library::const_hex_encode(bytes.as_ptr(), bytes.len(), text.as_mut_ptr(), text.len(), black_box(NO_NUL))
-        });
+        for (kind, flags, more) in ENCODINGS {
+            let (call, size) = (format!("in C: encode{kind}"), $cases.text.len() + more);
+            $cases.add(&call, $name, $cases.bytes.clone(), size, move |bytes, text| unsafe {
+                let flags = black_box(flags);
+                $library::const_hex_encode(bytes.as_ptr(), bytes.len(), text.as_mut_ptr(), text.len(), flags)
+            });
+        }
         $cases.decoding("in C: decode_exact", $name, |text, bytes| unsafe {
             let (mut error, output, size) = (Error::default(), bytes.as_mut_ptr(), bytes.len());
             let is_valid = $library::const_hex_decode_exact(text.as_ptr(), text.len(), output, size, &mut error);

@@ -37,8 +37,8 @@ const TEXTS: [&str; 5] = ["", ", a prefix", ", first character invalid", ", last
 
 /// The cases for bytes, and for texts that are made of their text in lowercase.
 pub(crate) struct Cases {
-    bytes: Vec<u8>,
-    text: Vec<u8>,
+    pub(crate) bytes: Vec<u8>,
+    pub(crate) text: Vec<u8>,
     list: Vec<Case>,
 }
 
@@ -80,7 +80,7 @@ impl Cases {
     }
 
     /// Adds a case that calls `run` on a copy of the input and on a buffer of so many bytes.
-    fn add<T>(
+    pub(crate) fn add<T>(
         &mut self,
         call: &str,
         library: &'static str,
@@ -115,13 +115,28 @@ macro_rules! with_names_of_hex {
 }
 use with_names_of_hex;
 
-/// The calls that only const-hex has, and those of its feature `serde`, with serde_json.
+/// For each library the trait that reads bytes and signed numbers.
+mod signed {
+    pub(super) use ::const_hex::FromHex as const_hex;
+    pub(super) use ::const_hex_proved::traits::signed::FromHex as const_hex_proved;
+}
+
+/// The calls that only const-hex has, and those of its feature `serde`, with serde_json. Not those of the same code:
+/// in uppercase, `encode_prefixed`, and `FromHex` of `Vec<u8>`.
 macro_rules! with_names_of_const_hex {
     ($library:ident, $name:literal, $cases:ident) => {{
         $cases.encoding("encode_upper_prefixed", $name, |bytes, _| $library::encode_upper_prefixed(bytes));
+        $cases.encoding("encode_to_str", $name, |bytes, text| $library::encode_to_str(bytes, text).unwrap().len());
+        $cases.add("encode_to_slice, wrong length", $name, $cases.bytes.clone(), 1, |bytes, text| {
+            $library::encode_to_slice(bytes, text).unwrap_err()
+        });
+        $cases.encoding("display to String", $name, |bytes, _| $library::display(bytes).to_string());
         $cases.decoding("check", $name, |text, _| $library::check(text));
         $cases.decoding("check_raw", $name, |text, _| $library::check_raw(text).then_some(()).ok_or(()));
         $cases.decoding("const_check", $name, |text, _| $library::const_check(text));
+        $cases.decoding("const_check_raw", $name, |text, _| $library::const_check_raw(text).then_some(()).ok_or(()));
+        $cases.decoding("Vec<i8>::from_hex", $name, |text, _| <Vec<i8> as signed::$library>::from_hex(text));
+        $cases.decoding("Box<[i8]>::from_hex", $name, |text, _| <Box<[i8]> as signed::$library>::from_hex(text));
         $cases.encoding("serialize", $name, |bytes, _| {
             // With space for all of it, since what a larger vector takes depends on the calls before.
             let mut json = Vec::with_capacity(2 * bytes.len() + 4);
@@ -137,7 +152,7 @@ macro_rules! with_names_of_const_hex {
 }
 use with_names_of_const_hex;
 
-/// The calls with arrays, whose lengths the compiler knows.
+/// The calls with arrays, whose lengths the compiler knows. `FromHex` of `[u8; N]` is the code of `decode_to_array`.
 macro_rules! with_arrays {
     ($library:ident, $name:literal, $cases:ident $size:literal) => {{
         $cases.encoding("encode_to_slice of an array", $name, |bytes, text| {
@@ -149,14 +164,34 @@ macro_rules! with_arrays {
             let mut buffer = $library::Buffer::<$size>::new();
             black_box(buffer.format(bytes.try_into().unwrap())).len()
         });
+        $cases.encoding("Buffer::format with a prefix", $name, |bytes, _| {
+            let mut buffer = $library::Buffer::<$size, true>::new();
+            black_box(buffer.format(bytes.try_into().unwrap())).len()
+        });
+        $cases.encoding("Buffer::format_slice", $name, |bytes, _| {
+            black_box($library::Buffer::<$size>::new().format_slice(bytes)).len()
+        });
+        $cases.encoding("Buffer::const_format", $name, |bytes, _| {
+            $library::Buffer::<$size>::new().const_format(bytes.try_into().unwrap())
+        });
         $cases.encoding("const_encode", $name, |bytes, _| {
             $library::const_encode::<$size, false>(bytes.try_into().unwrap())
         });
+        $cases.encoding("const_encode with a prefix", $name, |bytes, _| {
+            $library::const_encode::<$size, true>(bytes.try_into().unwrap())
+        });
+        $cases.encoding("encode of an array", $name, |bytes, _| $library::encode(array::<$size>(bytes)));
         $cases.decoding("decode_to_array", $name, |text, _| $library::decode_to_array::<_, $size>(text));
         $cases.decoding("const_decode_to_array", $name, |text, _| $library::const_decode_to_array::<$size>(text));
+        $cases.decoding("[i8; N]::from_hex", $name, |text, _| <[i8; $size] as signed::$library>::from_hex(text));
+        $cases.add("decode_to_array of an array", $name, $cases.text.clone(), 0, |text, _| {
+            $library::decode_to_array::<_, $size>(array::<{ 2 * $size }>(text)).unwrap()
+        });
         $cases.add("check of an array", $name, $cases.text.clone(), 0, |text, _| {
-            let text: &[u8; 2 * $size] = text.try_into().unwrap();
-            $library::check(text).unwrap()
+            $library::check(array::<{ 2 * $size }>(text)).unwrap()
+        });
+        $cases.add("check_raw of an array", $name, $cases.text.clone(), 0, |text, _| {
+            $library::check_raw(array::<{ 2 * $size }>(text))
         });
         $cases.add("decode_to_slice of arrays", $name, $cases.text.clone(), $size, |text, bytes| {
             let (text, bytes): (&[u8; 2 * $size], &mut [u8; $size]) =
@@ -169,6 +204,12 @@ macro_rules! with_arrays {
     }};
 }
 use with_arrays;
+
+/// The slice, whose length the compiler then knows.
+#[inline(always)]
+fn array<const N: usize>(slice: &[u8]) -> &[u8; N] {
+    slice.try_into().unwrap()
+}
 
 fn of_data_encoding(cases: &mut Cases) {
     use data_encoding::{HEXLOWER, HEXLOWER_PERMISSIVE};
