@@ -39,10 +39,13 @@ impl<const N: usize, const PREFIX: bool> Buffer<N, PREFIX> {
 
     const PREFIX_LEN: usize = if PREFIX { 2 } else { 0 };
 
+    /// A constant, since without optimization the expression is a loop.
+    const NO_DIGITS: [[u8; 2]; N] = [[0; 2]; N];
+
     /// Returns a buffer with the prefix, if any, and `2 * N` NUL characters.
     #[inline]
     pub const fn new() -> Self {
-        Buffer { prefix: *b"0x", digits: [[0; 2]; N] }
+        Buffer { prefix: *b"0x", digits: Self::NO_DIGITS }
     }
 
     /// Returns a buffer with the text of `array` in lowercase. At run time use [`format`](Self::format), since this

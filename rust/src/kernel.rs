@@ -48,4 +48,4 @@ mod portable;
 mod space;
 #[cfg(feature = "alloc")]
 pub use owned::*;
-pub use space::Space;
+pub use space::{Byte, Space};

@@ -90,8 +90,7 @@ pub mod signed {
     use super::*;
     use crate as codec;
 
-    // Numbers by a cast, which keeps the bits, and not by the proved loop over a slice of them: a vector would
-    // be filled twice.
+    // Not by the proved loop over a slice of numbers: a vector would be filled twice. The bits are the same.
     from_hex! {
         /// A type that is read from hexadecimal text, with or without a prefix: bytes or numbers of type `i8` in
         /// arrays, vectors and boxes, and their holders. As an `i8`, a byte from 128 on is negative.
@@ -104,14 +103,10 @@ pub mod signed {
         /// ```
     }
 
-    read! {
-        [const N: usize] [i8; N], FromHexError,
-        hex => <[u8; N]>::from_hex(hex).map(|bytes| bytes.map(|byte| byte as i8));
-    }
+    read! { [const N: usize] [i8; N], FromHexError, hex => crate::array(hex.as_ref()); }
     #[cfg(feature = "alloc")]
     read! {
-        [] Vec<i8>, FromHexError,
-        hex => crate::decode(hex).map(|bytes| bytes.into_iter().map(|byte| byte as i8).collect());
+        [] Vec<i8>, FromHexError, hex => crate::decode(hex).map(crate::kernel::numbers);
         [] Box<[i8]>, FromHexError, hex => Vec::from_hex(hex).map(Vec::<i8>::into_boxed_slice);
     }
 }

@@ -4,6 +4,16 @@ use super::{unchecked, Native};
 use crate::proved::{text_length, Kernel};
 use core::{mem::MaybeUninit, ptr};
 
+/// A type of bytes.
+///
+/// # Safety
+///
+/// Its values have 8 bits, and every pattern of these is a value.
+pub unsafe trait Byte: Copy {}
+// SAFETY: that holds for both types of numbers of 8 bits.
+unsafe impl Byte for u8 {}
+unsafe impl Byte for i8 {}
+
 /// Space for `N` bytes.
 pub struct Space<const N: usize>(MaybeUninit<[u8; N]>);
 
@@ -31,16 +41,17 @@ impl<const N: usize> Space<N> {
     /// Returns the bytes of digits, or `None` if some byte is not a digit. Panics unless there are two for each of `N`
     /// bytes.
     #[inline]
-    pub fn bytes(&mut self, digits: &[u8]) -> Option<&[u8; N]> {
+    pub fn bytes<B: Byte>(&mut self, digits: &[u8]) -> Option<&[B; N]> {
         assert!(digits.len() == N << 1);
-        // SAFETY: the count is `N`. There are so many digits, and if the result is true, all bytes are written.
+        // SAFETY: the count is `N`. There are so many digits, and if the result is true, all bytes are written,
+        // and each of them is a value of type `B`.
         unsafe {
             // In the portable build LLVM would unroll the loop for so few bytes, and write them all at the end: of a
             // slice with 16 bytes by 252 instructions in place of 240, and by 84 in place of 54 if the first digit is
             // invalid. Of a text that is an array, this takes 44 more (rustc 1.95, x86-64).
             let count = if N > 4 && N < 32 && Native::PIECE == 1 { ptr::read_volatile(&N) } else { N };
             match unchecked::read(digits.as_ptr(), self.0.as_mut_ptr().cast(), count) {
-                true => Some(&*self.0.as_ptr()),
+                true => Some(&*self.0.as_ptr().cast()),
                 false => None,
             }
         }
