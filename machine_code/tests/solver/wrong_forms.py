@@ -37,7 +37,7 @@ WRONG = [
     ("a pop of 2 bytes", "v2", "push rax; pop ax; add rsp, 6", "another size"),
     ("a pop to memory", "v2", "push rax; push rax; pop qword ptr [rsp]; pop rcx", "another size"),
     ("a call by a register", "v2", "call rax", NOT_FIXED),
-    ("the second byte of a register", "v2", "mov ah, 5", "invalid literal"),
+    ("the second byte of a register", "v2", "mov ah, 5", NO_MEANING),
     ("a product of 32 bits", "v2", "mul ecx", "another size"),
     ("a shift by a vector", "v2", "psrlw xmm0, xmm1", "a shift"),
     ("a shift by 16 of 16 bits", "v2", "psrlw xmm0, 16", "a shift"),
