@@ -59,7 +59,7 @@ pub fn decode_append(digits: &[u8], bytes: &mut Vec<u8>) -> bool {
     }
 }
 
-/// Returns the same vector, with its bytes as numbers that have a sign.
+/// Returns the same vector, whose bytes are signed numbers then.
 #[inline(always)]
 pub fn numbers(bytes: Vec<u8>) -> Vec<i8> {
     let mut bytes = ManuallyDrop::new(bytes);

@@ -50,9 +50,9 @@ bad_pair t i index e even within done at not first second =
     ]
 
 -- how many bytes are left
-pub left : (i : ℕ) (u rest : List ℕ) → rest ≡ drop i u → length rest ≡ length u - i
-left i u rest e = rw e (length-drop i u)
+pub rest_length : (i : ℕ) (u rest : List ℕ) → rest ≡ drop i u → length rest ≡ length u - i
+rest_length i u rest e = rw e (length-drop i u)
 
 -- a byte of them
-pub byte : (i j k : ℕ) (u rest : List ℕ) → rest ≡ drop i u → k ≡ i + j → get_or rest j 0 ≡ get_or u k 0
-byte i j k u rest e at = rw (e, at) (get_or-drop i u j 0)
+pub rest_byte : (i j k : ℕ) (u rest : List ℕ) → rest ≡ drop i u → k ≡ i + j → get_or rest j 0 ≡ get_or u k 0
+rest_byte i j k u rest e at = rw (e, at) (get_or-drop i u j 0)

@@ -115,11 +115,11 @@ pub const fn const_decode_to_array<const N: usize>(input: &[u8]) -> Result<[u8; 
     }
     let mut bytes = [0; N];
     let mut index = 0;
-    // It is counted, and not computed, so that LLVM unrolls the loop for fewer lengths, and saves fewer registers.
+    // If it were computed from the index, LLVM would unroll the loop for more lengths, and save more registers.
     let mut left = body.len();
     'pairs: while index < N {
-        let pair = 2 * index;
-        let (first, second) = (body[pair], body[pair + 1]);
+        let at = 2 * index;
+        let (first, second) = (body[at], body[at + 1]);
         if !are_digits(first, second) {
             return Err(invalid_pair(first, second, input.len() - left));
         }
