@@ -38,7 +38,7 @@ printed! { Display false LowerHex false UpperHex true }
 
 /// Prints the digits of bytes, and `0x` before them if `PREFIX` is true. Each call of the formatter but the last writes
 /// 4096 characters. An empty text makes no call, and no call follows an error.
-#[inline]
+#[inline(always)]
 pub(crate) fn print<const UPPER: bool, const PREFIX: bool>(bytes: &[u8], f: &mut fmt::Formatter<'_>) -> fmt::Result {
     // The prefix takes as much space as one byte. Without optimization the space is copied, so a short text has less.
     match bytes.len() + usize::from(PREFIX) {

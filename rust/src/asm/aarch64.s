@@ -55,12 +55,12 @@
 	cmp x1, #0x10
 	b.cc 9f
 	movi v0.16b, #0x8f
-	b.ne 16f
+	b.ne 15f
 	ldr q1, [x0]
 	b 4b
 7:
 	cmp x1, #0x41
-	b.cs 13f
+	b.cs 12f
 	cmp x1, #0x20
 	b.ne 18f
 8:
@@ -68,30 +68,18 @@
 	ret
 9:
 	cmp x1, #0x2
-	b.ne 17f
+	b.ne 16f
 	movi v0.16b, #0x8f
 	ld1r {v1.8h}, [x0]
+	b 17f
 12:
-	movi v2.16b, #0xd0
-	and v0.16b, v1.16b, v0.16b
-	adrp_label x8, const_hex_1_0_0_constant_1
-	ldr_label q3, x8, const_hex_1_0_0_constant_1
-	mov w9, #0xd8d8
-	tbl v0.16b, {v3.16b}, v0.16b
-	add v1.16b, v1.16b, v2.16b
-	uqsub v0.16b, v1.16b, v0.16b
-	umov w8, v0.h[0]
-	tst w8, w9
-	cset w0, eq
-	ret
-13:
 	cmp x8, #0x81
 	b.cc 19f
 	sub x9, x1, #0xa1
 	add x10, x0, #0x80
 	and x9, x9, #0xffffffffffffff80
 	add x9, x9, #0xa0
-14:
+13:
 	movi v1.16b, #0xd0
 	movi v2.16b, #0x8f
 	ldp q3, q4, [x10, #-96]
@@ -145,11 +133,11 @@
 	cbnz x11, 2b
 	sub x8, x8, #0x80
 	cmp x8, #0x80
-	b.hi 14b
+	b.hi 13b
 	cmp x8, #0x41
 	add x10, x0, x1
 	b.cc 20f
-15:
+14:
 	movi v1.16b, #0x8f
 	cmp x8, #0x61
 	add x8, x0, x9
@@ -198,7 +186,7 @@
 	orr v0.16b, v1.16b, v0.16b
 	orr v1.16b, v2.16b, v3.16b
 	b 25f
-16:
+15:
 	add x8, x0, x1
 	ldr q1, [x0]
 	movi v3.16b, #0xd0
@@ -216,25 +204,36 @@
 	movi v2.16b, #0xd8
 	orr v0.16b, v0.16b, v1.16b
 	b 26f
+16:
+	cmp x1, #0x1
+	b.hi 21f
+	cbz x1, 8b
+	ld1r {v1.16b}, [x0]
+	movi v0.16b, #0x8f
 17:
-	cmp x1, #0x8
-	b.cc 21f
-	add x8, x0, x1
-	ldr d0, [x0]
-	movi v1.16b, #0x8f
-	sub x8, x8, #0x8
-	ld1 {v0.d}[1], [x8]
-	b 29f
+	movi v2.16b, #0xd0
+	and v0.16b, v1.16b, v0.16b
+	adrp_label x8, const_hex_1_0_0_constant_1
+	ldr_label q3, x8, const_hex_1_0_0_constant_1
+	mov w9, #0xd8d8
+	tbl v0.16b, {v3.16b}, v0.16b
+	add v1.16b, v1.16b, v2.16b
+	uqsub v0.16b, v1.16b, v0.16b
+	umov w8, v0.h[0]
+	tst w8, w9
+	cset w0, eq
+	ret
 18:
-	add x8, x0, x1
 	movi v1.16b, #0x8f
+	add x8, x0, x1
+	movi v4.16b, #0xd0
 	ldp q3, q2, [x8, #-32]
 	b 24f
 19:
 	mov w9, #0x20
 	cmp x8, #0x41
 	add x10, x0, x1
-	b.cs 15b
+	b.cs 14b
 20:
 	movi v1.16b, #0x8f
 	cmp x8, #0x21
@@ -263,13 +262,13 @@
 	orr v1.16b, v4.16b, v1.16b
 	b 25f
 21:
-	cmp x1, #0x4
+	cmp x1, #0x8
 	b.cc 27f
-	movi v0.16b, #0x30
+	add x8, x0, x1
+	ldr d0, [x0]
 	movi v1.16b, #0x8f
-	ld1 {v0.s}[0], [x0], x1
-	sub x8, x0, #0x4
-	ld1 {v0.s}[1], [x8]
+	sub x8, x8, #0x8
+	ld1 {v0.d}[1], [x8]
 	b 29f
 22:
 	ldp q3, q2, [x10, #-32]
@@ -307,14 +306,14 @@
 	b 25f
 23:
 	ldp q3, q2, [x10, #-32]
-24:
 	movi v4.16b, #0xd0
+24:
 	and v5.16b, v3.16b, v1.16b
 	and v1.16b, v2.16b, v1.16b
+	add v2.16b, v2.16b, v4.16b
 	tbl v5.16b, {v0.16b}, v5.16b
 	tbl v0.16b, {v0.16b}, v1.16b
 	add v1.16b, v3.16b, v4.16b
-	add v2.16b, v2.16b, v4.16b
 	uqsub v0.16b, v2.16b, v0.16b
 	uqsub v1.16b, v1.16b, v5.16b
 25:
@@ -329,19 +328,19 @@
 	cset w0, eq
 	ret
 27:
-	cbz x1, 8b
-	cmp x1, #0x1
-	b.ne 28f
-	ldrb w8, [x0]
-	movi v0.16b, #0x8f
-	orr w8, w8, w8, lsl #8
-	dup v1.8h, w8
-	b 12b
-28:
 	movi v0.16b, #0x30
+	cmp x1, #0x4
+	add x8, x0, x1
+	b.cc 28f
+	ld1 {v0.s}[0], [x0]
+	sub x8, x8, #0x4
 	movi v1.16b, #0x8f
-	ld1 {v0.h}[0], [x0], x1
-	sub x8, x0, #0x2
+	ld1 {v0.s}[1], [x8]
+	b 29f
+28:
+	ld1 {v0.h}[0], [x0]
+	sub x8, x8, #0x2
+	movi v1.16b, #0x8f
 	ld1 {v0.h}[1], [x8]
 29:
 	movi v2.16b, #0xd0

@@ -6,22 +6,13 @@
 	hidden const_hex_1_0_0_check_v2
 	function const_hex_1_0_0_check_v2
 	cmp    rsi,0xf
-	ja     3f
+	ja     2f
 	cmp    rsi,0x2
-	jne    5f
+	jne    4f
 	movzx  eax,WORD PTR [rdi]
 	movd   xmm0,eax
+	jmp    5f
 2:
-	movdqa xmm1,XMMWORD PTR [rip + const_hex_1_0_0_constant_1_v2]
-	paddb  xmm1,xmm0
-	movdqa xmm2,XMMWORD PTR [rip + const_hex_1_0_0_constant_2_v2]
-	pshufb xmm2,xmm0
-	psubusb xmm1,xmm2
-	movd   eax,xmm1
-	test   eax,0xd8d8
-	sete   al
-	ret
-3:
 	movdqu xmm1,XMMWORD PTR [rdi]
 	movdqa xmm2,XMMWORD PTR [rip + const_hex_1_0_0_constant_1_v2]
 	paddb  xmm2,xmm1
@@ -30,13 +21,40 @@
 	pshufb xmm3,xmm1
 	psubusb xmm2,xmm3
 	ptest  xmm2,XMMWORD PTR [rip + const_hex_1_0_0_constant_3_v2]
-	je     6f
-4:
+	je     8f
+3:
 	xor    eax,eax
 	ret
+4:
+	jae    9f
+	test   rsi,rsi
+	je     16f
+	movzx  eax,BYTE PTR [rdi]
+	movd   xmm0,eax
+	pxor   xmm1,xmm1
+	pshufb xmm0,xmm1
 5:
+	movdqa xmm1,XMMWORD PTR [rip + const_hex_1_0_0_constant_1_v2]
+	paddb  xmm1,xmm0
+	movdqa xmm2,XMMWORD PTR [rip + const_hex_1_0_0_constant_2_v2]
+	pshufb xmm2,xmm0
+	psubusb xmm1,xmm2
+	movd   eax,xmm1
+	test   eax,0xd8d8
+6:
+	sete   al
+7:
+	ret
+8:
+	cmp    rsi,0x21
+	jae    12f
+	mov    al,0x1
+	cmp    rsi,0x10
+	je     7b
+	jmp    18f
+9:
 	cmp    rsi,0x8
-	jb     7f
+	jb     15f
 	movq   xmm0,QWORD PTR [rdi+rsi*1-0x8]
 	movq   xmm1,QWORD PTR [rdi]
 	punpcklqdq xmm1,xmm0
@@ -46,30 +64,14 @@
 	pshufb xmm2,xmm1
 	psubusb xmm0,xmm2
 	ptest  xmm0,XMMWORD PTR [rip + const_hex_1_0_0_constant_3_v2]
-	sete   al
-	ret
-6:
-	cmp    rsi,0x21
-	jae    8f
-	mov    al,0x1
-	cmp    rsi,0x10
-	jne    15f
-	ret
-7:
-	cmp    rsi,0x4
-	jb     13f
-	movd   xmm0,DWORD PTR [rdi]
-	pinsrd xmm0,DWORD PTR [rdi+rsi*1-0x4],0x1
-	mov    eax,0x30303030
-	pinsrd xmm0,eax,0x2
-	pinsrd xmm0,eax,0x3
-	jmp    18f
-8:
+	jmp    6b
+12:
 	lea    rcx,[rsi-0x10]
 	mov    eax,0x10
 	cmp    rcx,0x41
-	jb     12f
-9:
+	jb     14f
+	.byte 0x66, 0x66, 0x66, 0x66, 0x2e, 0xf, 0x1f, 0x84, 0x0, 0x0, 0x0, 0x0, 0x0  /* data16 data16 data16 cs nop WORD PTR [rax+rax*1+0x0] */
+13:
 	movdqa xmm1,XMMWORD PTR [rip + const_hex_1_0_0_constant_1_v2]
 	movdqu xmm2,XMMWORD PTR [rdi+rax*1]
 	movdqu xmm3,XMMWORD PTR [rdi+rax*1+0x10]
@@ -95,16 +97,16 @@
 	por    xmm1,xmm4
 	por    xmm1,xmm3
 	ptest  xmm1,XMMWORD PTR [rip + const_hex_1_0_0_constant_3_v2]
-	jne    4b
+	jne    3b
 	add    rax,0x40
 	add    rcx,0xffffffffffffffc0
 	cmp    rcx,0x40
-	ja     9b
-12:
+	ja     13b
+14:
 	cmp    rcx,0x21
-	jb     14f
+	jb     17f
 	cmp    rcx,0x31
-	jb     19f
+	jb     21f
 	movdqu xmm3,XMMWORD PTR [rdi+rax*1]
 	movdqu xmm1,XMMWORD PTR [rdi+rax*1+0x10]
 	movdqa xmm2,XMMWORD PTR [rip + const_hex_1_0_0_constant_1_v2]
@@ -129,22 +131,22 @@
 	por    xmm2,xmm3
 	por    xmm2,xmm1
 	ptest  xmm2,XMMWORD PTR [rip + const_hex_1_0_0_constant_3_v2]
-	sete   al
+	jmp    6b
+15:
+	cmp    rsi,0x4
+	jb     19f
+	movd   xmm0,DWORD PTR [rdi]
+	pinsrd xmm0,DWORD PTR [rdi+rsi*1-0x4],0x1
+	mov    eax,0x30303030
+	pinsrd xmm0,eax,0x2
+	pinsrd xmm0,eax,0x3
+	jmp    20f
+16:
+	mov    al,0x1
 	ret
-13:
-	test   rsi,rsi
-	je     16f
-	cmp    rsi,0x1
-	jne    17f
-	movzx  eax,BYTE PTR [rdi]
-	mov    ecx,eax
-	shl    ecx,0x8
-	or     ecx,eax
-	movd   xmm0,ecx
-	jmp    2b
-14:
+17:
 	cmp    rcx,0x11
-	jb     15f
+	jb     18f
 	movdqu xmm1,XMMWORD PTR [rdi+rax*1]
 	movdqu xmm2,XMMWORD PTR [rdi+rsi*1-0x10]
 	movdqa xmm3,XMMWORD PTR [rip + const_hex_1_0_0_constant_1_v2]
@@ -157,21 +159,16 @@
 	psubusb xmm3,xmm0
 	por    xmm3,xmm1
 	ptest  xmm3,XMMWORD PTR [rip + const_hex_1_0_0_constant_3_v2]
-	sete   al
-	ret
-15:
+	jmp    6b
+18:
 	movdqu xmm1,XMMWORD PTR [rdi+rsi*1-0x10]
 	movdqa xmm2,XMMWORD PTR [rip + const_hex_1_0_0_constant_1_v2]
 	paddb  xmm2,xmm1
 	pshufb xmm0,xmm1
 	psubusb xmm2,xmm0
 	ptest  xmm2,XMMWORD PTR [rip + const_hex_1_0_0_constant_3_v2]
-	sete   al
-	ret
-16:
-	mov    al,0x1
-	ret
-17:
+	jmp    6b
+19:
 	movzx  eax,WORD PTR [rdi]
 	movd   xmm0,eax
 	pinsrw xmm0,WORD PTR [rdi+rsi*1-0x2],0x1
@@ -182,16 +179,15 @@
 	pinsrw xmm0,eax,0x5
 	pinsrw xmm0,eax,0x6
 	pinsrw xmm0,eax,0x7
-18:
+20:
 	movdqa xmm1,XMMWORD PTR [rip + const_hex_1_0_0_constant_1_v2]
 	paddb  xmm1,xmm0
 	movdqa xmm2,XMMWORD PTR [rip + const_hex_1_0_0_constant_2_v2]
 	pshufb xmm2,xmm0
 	psubusb xmm1,xmm2
 	ptest  xmm1,XMMWORD PTR [rip + const_hex_1_0_0_constant_3_v2]
-	sete   al
-	ret
-19:
+	jmp    6b
+21:
 	movdqu xmm1,XMMWORD PTR [rdi+rsi*1-0x10]
 	movdqa xmm2,XMMWORD PTR [rip + const_hex_1_0_0_constant_1_v2]
 	movdqa xmm3,xmm0
@@ -210,8 +206,7 @@
 	psubusb xmm2,xmm0
 	por    xmm2,xmm3
 	ptest  xmm2,XMMWORD PTR [rip + const_hex_1_0_0_constant_3_v2]
-	sete   al
-	ret
+	jmp    6b
 	end const_hex_1_0_0_check_v2
 
 /* const_hex_c::kernel::fill_lower */

@@ -6,51 +6,50 @@
 	hidden const_hex_1_0_0_check_v3
 	function const_hex_1_0_0_check_v3
 	cmp    rsi,0x1f
-	ja     2f
+	ja     3f
 	cmp    rsi,0x10
-	jb     4f
+	jb     5f
 	jne    7f
 	vmovdqu xmm0,XMMWORD PTR [rdi]
-	jmp    21f
 2:
+	vpaddb xmm1,xmm0,XMMWORD PTR [rip + const_hex_1_0_0_constant_1_v3]
+	vmovdqa xmm2,XMMWORD PTR [rip + const_hex_1_0_0_constant_2_v3]
+	vpshufb xmm0,xmm2,xmm0
+	vpsubusb xmm0,xmm1,xmm0
+	vptest xmm0,XMMWORD PTR [rip + const_hex_1_0_0_constant_3_v3]
+	sete   al
+	ret
+3:
 	vmovdqu ymm0,YMMWORD PTR [rdi]
-	vpaddb ymm2,ymm0,YMMWORD PTR [rip + const_hex_1_0_0_constant_1_v3]
+	vpaddb ymm2,ymm0,YMMWORD PTR [rip + const_hex_1_0_0_constant_4_v3]
 	vbroadcasti128 ymm1,XMMWORD PTR [rip + const_hex_1_0_0_constant_2_v3]
 	vpshufb ymm0,ymm1,ymm0
 	vpsubusb ymm2,ymm2,ymm0
-	vpbroadcastq ymm0,QWORD PTR [rip + const_hex_1_0_0_constant_3_v3]
+	vpbroadcastq ymm0,QWORD PTR [rip + const_hex_1_0_0_constant_5_v3]
 	vptest ymm2,ymm0
 	je     6f
-3:
+4:
 	xor    eax,eax
 	vzeroupper
 	ret
-4:
+5:
 	cmp    rsi,0x2
 	jne    8f
 	movzx  eax,WORD PTR [rdi]
 	vmovd  xmm0,eax
-5:
-	vpaddb xmm1,xmm0,XMMWORD PTR [rip + const_hex_1_0_0_constant_4_v3]
-	vmovdqa xmm2,XMMWORD PTR [rip + const_hex_1_0_0_constant_2_v3]
-	vpshufb xmm0,xmm2,xmm0
-	vpsubusb xmm0,xmm1,xmm0
-	vmovd  eax,xmm0
-	test   eax,0xd8d8
-	sete   al
-	ret
+	jmp    9f
 6:
 	cmp    rsi,0x41
-	jae    9f
+	jae    12f
 	mov    al,0x1
 	cmp    rsi,0x20
-	jne    16f
+	jne    17f
 	vzeroupper
 	ret
 7:
 	vmovdqu xmm0,XMMWORD PTR [rdi]
 	vmovdqu xmm1,XMMWORD PTR [rdi+rsi*1-0x10]
-	vpbroadcastd xmm2,DWORD PTR [rip + const_hex_1_0_0_constant_5_v3]
+	vpbroadcastd xmm2,DWORD PTR [rip + const_hex_1_0_0_constant_6_v3]
 	vpaddb xmm3,xmm0,xmm2
 	vmovdqa xmm4,XMMWORD PTR [rip + const_hex_1_0_0_constant_2_v3]
 	vpshufb xmm0,xmm4,xmm0
@@ -59,24 +58,31 @@
 	vpshufb xmm1,xmm4,xmm1
 	vpsubusb xmm1,xmm2,xmm1
 	vpor   xmm0,xmm1,xmm0
-	vptest xmm0,XMMWORD PTR [rip + const_hex_1_0_0_constant_6_v3]
+	vptest xmm0,XMMWORD PTR [rip + const_hex_1_0_0_constant_3_v3]
 	sete   al
 	ret
 8:
-	cmp    rsi,0x8
-	jb     14f
-	vmovq  xmm0,QWORD PTR [rdi+rsi*1-0x8]
-	vmovq  xmm1,QWORD PTR [rdi]
-	vpunpcklqdq xmm0,xmm1,xmm0
-	jmp    21f
+	jae    15f
+	test   rsi,rsi
+	je     19f
+	vpbroadcastb xmm0,BYTE PTR [rdi]
 9:
+	vpaddb xmm1,xmm0,XMMWORD PTR [rip + const_hex_1_0_0_constant_1_v3]
+	vmovdqa xmm2,XMMWORD PTR [rip + const_hex_1_0_0_constant_2_v3]
+	vpshufb xmm0,xmm2,xmm0
+	vpsubusb xmm0,xmm1,xmm0
+	vmovd  eax,xmm0
+	test   eax,0xd8d8
+	sete   al
+	ret
+12:
 	lea    rcx,[rsi-0x20]
 	mov    eax,0x20
 	cmp    rcx,0x81
-	jb     13f
-	.byte 0x66, 0x66, 0x2e, 0xf, 0x1f, 0x84, 0x0, 0x0, 0x0, 0x0, 0x0  /* data16 cs nop WORD PTR [rax+rax*1+0x0] */
-12:
-	vpbroadcastd ymm2,DWORD PTR [rip + const_hex_1_0_0_constant_5_v3]
+	jb     14f
+	nop
+13:
+	vpbroadcastd ymm2,DWORD PTR [rip + const_hex_1_0_0_constant_6_v3]
 	vmovdqu ymm3,YMMWORD PTR [rdi+rax*1]
 	vmovdqu ymm4,YMMWORD PTR [rdi+rax*1+0x20]
 	vmovdqu ymm5,YMMWORD PTR [rdi+rax*1+0x40]
@@ -97,19 +103,19 @@
 	vpor   ymm2,ymm4,ymm2
 	vpor   ymm2,ymm3,ymm2
 	vptest ymm2,ymm0
-	jne    3b
+	jne    4b
 	sub    rax,0xffffffffffffff80
 	add    rcx,0xffffffffffffff80
 	cmp    rcx,0x80
-	ja     12b
-13:
+	ja     13b
+14:
 	cmp    rcx,0x41
-	jb     15f
+	jb     16f
 	cmp    rcx,0x61
-	jb     18f
+	jb     20f
 	vmovdqu ymm2,YMMWORD PTR [rdi+rax*1]
 	vmovdqu ymm3,YMMWORD PTR [rdi+rax*1+0x20]
-	vpbroadcastd ymm4,DWORD PTR [rip + const_hex_1_0_0_constant_5_v3]
+	vpbroadcastd ymm4,DWORD PTR [rip + const_hex_1_0_0_constant_6_v3]
 	vpaddb ymm5,ymm2,ymm4
 	vpshufb ymm2,ymm1,ymm2
 	vpsubusb ymm2,ymm5,ymm2
@@ -131,21 +137,19 @@
 	sete   al
 	vzeroupper
 	ret
-14:
-	cmp    rsi,0x4
-	jb     17f
-	vmovd  xmm0,DWORD PTR [rdi]
-	vpinsrd xmm0,xmm0,DWORD PTR [rdi+rsi*1-0x4],0x1
-	mov    eax,0x30303030
-	vpinsrd xmm0,xmm0,eax,0x2
-	vpinsrd xmm0,xmm0,eax,0x3
-	jmp    21f
 15:
+	cmp    rsi,0x8
+	jb     18f
+	vmovq  xmm0,QWORD PTR [rdi+rsi*1-0x8]
+	vmovq  xmm1,QWORD PTR [rdi]
+	vpunpcklqdq xmm0,xmm1,xmm0
+	jmp    2b
+16:
 	cmp    rcx,0x21
-	jb     16f
+	jb     17f
 	vmovdqu ymm2,YMMWORD PTR [rdi+rax*1]
 	vmovdqu ymm3,YMMWORD PTR [rdi+rsi*1-0x20]
-	vpbroadcastd ymm4,DWORD PTR [rip + const_hex_1_0_0_constant_5_v3]
+	vpbroadcastd ymm4,DWORD PTR [rip + const_hex_1_0_0_constant_6_v3]
 	vpaddb ymm5,ymm2,ymm4
 	vpshufb ymm2,ymm1,ymm2
 	vpsubusb ymm2,ymm5,ymm2
@@ -157,29 +161,30 @@
 	sete   al
 	vzeroupper
 	ret
-16:
+17:
 	vmovdqu ymm2,YMMWORD PTR [rdi+rsi*1-0x20]
-	vpaddb ymm3,ymm2,YMMWORD PTR [rip + const_hex_1_0_0_constant_1_v3]
+	vpaddb ymm3,ymm2,YMMWORD PTR [rip + const_hex_1_0_0_constant_4_v3]
 	vpshufb ymm1,ymm1,ymm2
 	vpsubusb ymm1,ymm3,ymm1
 	vptest ymm1,ymm0
 	sete   al
 	vzeroupper
 	ret
-17:
-	test   rsi,rsi
-	je     19f
-	cmp    rsi,0x1
-	jne    20f
-	movzx  eax,BYTE PTR [rdi]
-	mov    ecx,eax
-	shl    ecx,0x8
-	or     ecx,eax
-	vmovd  xmm0,ecx
-	jmp    5b
 18:
+	cmp    rsi,0x4
+	jb     21f
+	vmovd  xmm0,DWORD PTR [rdi]
+	vpinsrd xmm0,xmm0,DWORD PTR [rdi+rsi*1-0x4],0x1
+	mov    eax,0x30303030
+	vpinsrd xmm0,xmm0,eax,0x2
+	vpinsrd xmm0,xmm0,eax,0x3
+	jmp    2b
+19:
+	mov    al,0x1
+	ret
+20:
 	vmovdqu ymm2,YMMWORD PTR [rdi+rsi*1-0x20]
-	vpbroadcastd ymm3,DWORD PTR [rip + const_hex_1_0_0_constant_5_v3]
+	vpbroadcastd ymm3,DWORD PTR [rip + const_hex_1_0_0_constant_6_v3]
 	vpaddb ymm4,ymm2,ymm3
 	vpshufb ymm2,ymm1,ymm2
 	vpsubusb ymm2,ymm4,ymm2
@@ -197,10 +202,7 @@
 	sete   al
 	vzeroupper
 	ret
-19:
-	mov    al,0x1
-	ret
-20:
+21:
 	movzx  eax,WORD PTR [rdi]
 	vmovd  xmm0,eax
 	vpinsrw xmm0,xmm0,WORD PTR [rdi+rsi*1-0x2],0x1
@@ -211,14 +213,7 @@
 	vpinsrw xmm0,xmm0,eax,0x5
 	vpinsrw xmm0,xmm0,eax,0x6
 	vpinsrw xmm0,xmm0,eax,0x7
-21:
-	vpaddb xmm1,xmm0,XMMWORD PTR [rip + const_hex_1_0_0_constant_4_v3]
-	vmovdqa xmm2,XMMWORD PTR [rip + const_hex_1_0_0_constant_2_v3]
-	vpshufb xmm0,xmm2,xmm0
-	vpsubusb xmm0,xmm1,xmm0
-	vptest xmm0,XMMWORD PTR [rip + const_hex_1_0_0_constant_6_v3]
-	sete   al
-	ret
+	jmp    2b
 	end const_hex_1_0_0_check_v3
 
 /* const_hex_c::kernel::fill_lower */
@@ -626,7 +621,7 @@
 	jne    5f
 	movzx  eax,WORD PTR [rdi]
 	vmovd  xmm0,eax
-	vpaddb xmm1,xmm0,XMMWORD PTR [rip + const_hex_1_0_0_constant_4_v3]
+	vpaddb xmm1,xmm0,XMMWORD PTR [rip + const_hex_1_0_0_constant_1_v3]
 	vmovdqa xmm2,XMMWORD PTR [rip + const_hex_1_0_0_constant_2_v3]
 	vpshufb xmm0,xmm2,xmm0
 	vpminub xmm0,xmm1,xmm0
@@ -650,7 +645,7 @@
 	mov    r8,rdx
 	.byte 0xf, 0x1f, 0x44, 0x0, 0x0  /* nop    DWORD PTR [rax+rax*1+0x0] */
 3:
-	vpbroadcastd ymm3,DWORD PTR [rip + const_hex_1_0_0_constant_5_v3]
+	vpbroadcastd ymm3,DWORD PTR [rip + const_hex_1_0_0_constant_6_v3]
 	vmovdqu ymm0,YMMWORD PTR [rdi+rcx*2]
 	vmovdqu ymm1,YMMWORD PTR [rdi+rcx*2+0x20]
 	vmovdqu ymm2,YMMWORD PTR [rdi+rcx*2+0x40]
@@ -675,7 +670,7 @@
 	vpsubb ymm4,ymm8,ymm3
 	vpor   ymm4,ymm7,ymm4
 	vpor   ymm4,ymm5,ymm4
-	vpbroadcastq ymm5,QWORD PTR [rip + const_hex_1_0_0_constant_3_v3]
+	vpbroadcastq ymm5,QWORD PTR [rip + const_hex_1_0_0_constant_5_v3]
 	vptest ymm4,ymm5
 	jne    16f
 	lea    r9,[rip + const_hex_1_0_0_constant_8_v3]
@@ -706,7 +701,7 @@
 4:
 	vmovdqu ymm0,YMMWORD PTR [rdi+rcx*2]
 	vmovdqu ymm1,YMMWORD PTR [rdi+rcx*2+0x20]
-	vpbroadcastd ymm2,DWORD PTR [rip + const_hex_1_0_0_constant_5_v3]
+	vpbroadcastd ymm2,DWORD PTR [rip + const_hex_1_0_0_constant_6_v3]
 	vpaddb ymm3,ymm0,ymm2
 	vbroadcasti128 ymm4,XMMWORD PTR [rip + const_hex_1_0_0_constant_2_v3]
 	vpshufb ymm0,ymm4,ymm0
@@ -717,7 +712,7 @@
 	vpminub ymm1,ymm2,ymm1
 	vpsubb ymm2,ymm2,ymm1
 	vpor   ymm2,ymm2,ymm3
-	vpbroadcastq ymm3,QWORD PTR [rip + const_hex_1_0_0_constant_3_v3]
+	vpbroadcastq ymm3,QWORD PTR [rip + const_hex_1_0_0_constant_5_v3]
 	vptest ymm2,ymm3
 	jne    16f
 	vpsllw ymm2,ymm0,0xc
@@ -739,7 +734,7 @@
 	jb     12f
 	vmovdqu xmm0,XMMWORD PTR [rdi]
 	vmovdqu xmm1,XMMWORD PTR [rdi+rdx*2-0x10]
-	vpbroadcastd xmm2,DWORD PTR [rip + const_hex_1_0_0_constant_5_v3]
+	vpbroadcastd xmm2,DWORD PTR [rip + const_hex_1_0_0_constant_6_v3]
 	vpaddb xmm3,xmm0,xmm2
 	vmovdqa xmm4,XMMWORD PTR [rip + const_hex_1_0_0_constant_2_v3]
 	vpshufb xmm0,xmm4,xmm0
@@ -750,7 +745,7 @@
 	vpminub xmm1,xmm2,xmm1
 	vpsubb xmm2,xmm2,xmm1
 	vpor   xmm2,xmm2,xmm3
-	vptest xmm2,XMMWORD PTR [rip + const_hex_1_0_0_constant_6_v3]
+	vptest xmm2,XMMWORD PTR [rip + const_hex_1_0_0_constant_3_v3]
 	jne    16f
 	vinserti128 ymm0,ymm0,xmm1,0x1
 	vpsllw ymm1,ymm0,0xc
@@ -781,7 +776,7 @@
 	jb     13f
 	vmovdqu xmm0,XMMWORD PTR [rdi+rcx*2]
 	vmovdqu xmm1,XMMWORD PTR [rdi+rcx*2+0x10]
-	vpbroadcastd xmm2,DWORD PTR [rip + const_hex_1_0_0_constant_5_v3]
+	vpbroadcastd xmm2,DWORD PTR [rip + const_hex_1_0_0_constant_6_v3]
 	vpaddb xmm3,xmm0,xmm2
 	vmovdqa xmm4,XMMWORD PTR [rip + const_hex_1_0_0_constant_2_v3]
 	vpshufb xmm0,xmm4,xmm0
@@ -792,7 +787,7 @@
 	vpminub xmm1,xmm2,xmm1
 	vpsubb xmm2,xmm2,xmm1
 	vpor   xmm2,xmm2,xmm3
-	vptest xmm2,XMMWORD PTR [rip + const_hex_1_0_0_constant_6_v3]
+	vptest xmm2,XMMWORD PTR [rip + const_hex_1_0_0_constant_3_v3]
 	jne    16f
 	vinserti128 ymm0,ymm0,xmm1,0x1
 	vpsllw ymm1,ymm0,0xc
@@ -808,12 +803,12 @@
 	vmovq  xmm0,QWORD PTR [rdi+rdx*2-0x8]
 	vmovq  xmm1,QWORD PTR [rdi]
 	vpunpcklqdq xmm0,xmm1,xmm0
-	vpaddb xmm1,xmm0,XMMWORD PTR [rip + const_hex_1_0_0_constant_4_v3]
+	vpaddb xmm1,xmm0,XMMWORD PTR [rip + const_hex_1_0_0_constant_1_v3]
 	vmovdqa xmm2,XMMWORD PTR [rip + const_hex_1_0_0_constant_2_v3]
 	vpshufb xmm0,xmm2,xmm0
 	vpminub xmm0,xmm1,xmm0
 	vpsubb xmm1,xmm1,xmm0
-	vptest xmm1,XMMWORD PTR [rip + const_hex_1_0_0_constant_6_v3]
+	vptest xmm1,XMMWORD PTR [rip + const_hex_1_0_0_constant_3_v3]
 	jne    16f
 	vpsllw xmm1,xmm0,0xc
 	vpaddw xmm0,xmm0,xmm1
@@ -827,7 +822,7 @@
 	jne    15f
 	movzx  edx,WORD PTR [rdi+rcx*2]
 	vmovd  xmm0,edx
-	vpaddb xmm1,xmm0,XMMWORD PTR [rip + const_hex_1_0_0_constant_4_v3]
+	vpaddb xmm1,xmm0,XMMWORD PTR [rip + const_hex_1_0_0_constant_1_v3]
 	vmovdqa xmm2,XMMWORD PTR [rip + const_hex_1_0_0_constant_2_v3]
 	vpshufb xmm0,xmm2,xmm0
 	vpminub xmm0,xmm1,xmm0
@@ -851,12 +846,12 @@
 	mov    ecx,0x30303030
 	vpinsrd xmm0,xmm0,ecx,0x2
 	vpinsrd xmm0,xmm0,ecx,0x3
-	vpaddb xmm1,xmm0,XMMWORD PTR [rip + const_hex_1_0_0_constant_4_v3]
+	vpaddb xmm1,xmm0,XMMWORD PTR [rip + const_hex_1_0_0_constant_1_v3]
 	vmovdqa xmm2,XMMWORD PTR [rip + const_hex_1_0_0_constant_2_v3]
 	vpshufb xmm0,xmm2,xmm0
 	vpminub xmm0,xmm1,xmm0
 	vpsubb xmm1,xmm1,xmm0
-	vptest xmm1,XMMWORD PTR [rip + const_hex_1_0_0_constant_6_v3]
+	vptest xmm1,XMMWORD PTR [rip + const_hex_1_0_0_constant_3_v3]
 	jne    16f
 	vpsllw ymm1,ymm0,0xc
 	vpaddw ymm0,ymm0,ymm1
@@ -870,7 +865,7 @@
 15:
 	vmovdqu xmm0,XMMWORD PTR [rdi+rdx*2-0x20]
 	vmovdqu xmm1,XMMWORD PTR [rdi+rdx*2-0x10]
-	vpbroadcastd xmm2,DWORD PTR [rip + const_hex_1_0_0_constant_5_v3]
+	vpbroadcastd xmm2,DWORD PTR [rip + const_hex_1_0_0_constant_6_v3]
 	vpaddb xmm3,xmm0,xmm2
 	vmovdqa xmm4,XMMWORD PTR [rip + const_hex_1_0_0_constant_2_v3]
 	vpshufb xmm0,xmm4,xmm0
@@ -881,7 +876,7 @@
 	vpminub xmm1,xmm2,xmm1
 	vpsubb xmm2,xmm2,xmm1
 	vpor   xmm2,xmm2,xmm3
-	vptest xmm2,XMMWORD PTR [rip + const_hex_1_0_0_constant_6_v3]
+	vptest xmm2,XMMWORD PTR [rip + const_hex_1_0_0_constant_3_v3]
 	je     17f
 16:
 	xor    eax,eax
@@ -899,24 +894,24 @@
 	ret
 	end const_hex_1_0_0_read_v3
 
-	constant const_hex_1_0_0_constant_1_v3, 5
-	.byte 0xd0, 0xd0, 0xd0, 0xd0, 0xd0, 0xd0, 0xd0, 0xd0, 0xd0, 0xd0, 0xd0, 0xd0, 0xd0, 0xd0, 0xd0, 0xd0
+	constant const_hex_1_0_0_constant_1_v3, 4
 	.byte 0xd0, 0xd0, 0xd0, 0xd0, 0xd0, 0xd0, 0xd0, 0xd0, 0xd0, 0xd0, 0xd0, 0xd0, 0xd0, 0xd0, 0xd0, 0xd0
 
 	constant const_hex_1_0_0_constant_2_v3, 4
 	.byte 0x01, 0x0a, 0x0b, 0x0c, 0x0d, 0x0e, 0x0f, 0x08, 0x09, 0x0a, 0x00, 0x00, 0x00, 0x00, 0x00, 0x00
 
-	constant const_hex_1_0_0_constant_3_v3, 3
-	.byte 0xd8, 0xd8, 0xd8, 0xd8, 0xd8, 0xd8, 0xd8, 0xd8
+	constant const_hex_1_0_0_constant_3_v3, 4
+	.byte 0xd8, 0xd8, 0xd8, 0xd8, 0xd8, 0xd8, 0xd8, 0xd8, 0xd8, 0xd8, 0xd8, 0xd8, 0xd8, 0xd8, 0xd8, 0xd8
 
-	constant const_hex_1_0_0_constant_4_v3, 4
+	constant const_hex_1_0_0_constant_4_v3, 5
+	.byte 0xd0, 0xd0, 0xd0, 0xd0, 0xd0, 0xd0, 0xd0, 0xd0, 0xd0, 0xd0, 0xd0, 0xd0, 0xd0, 0xd0, 0xd0, 0xd0
 	.byte 0xd0, 0xd0, 0xd0, 0xd0, 0xd0, 0xd0, 0xd0, 0xd0, 0xd0, 0xd0, 0xd0, 0xd0, 0xd0, 0xd0, 0xd0, 0xd0
 
-	constant const_hex_1_0_0_constant_5_v3, 2
-	.byte 0xd0, 0xd0, 0xd0, 0xd0
+	constant const_hex_1_0_0_constant_5_v3, 3
+	.byte 0xd8, 0xd8, 0xd8, 0xd8, 0xd8, 0xd8, 0xd8, 0xd8
 
-	constant const_hex_1_0_0_constant_6_v3, 4
-	.byte 0xd8, 0xd8, 0xd8, 0xd8, 0xd8, 0xd8, 0xd8, 0xd8, 0xd8, 0xd8, 0xd8, 0xd8, 0xd8, 0xd8, 0xd8, 0xd8
+	constant const_hex_1_0_0_constant_6_v3, 2
+	.byte 0xd0, 0xd0, 0xd0, 0xd0
 
 	constant const_hex_1_0_0_constant_7_v3, 4
 	.byte 0x30, 0x31, 0x32, 0x33, 0x34, 0x35, 0x36, 0x37, 0x38, 0x39, 0x61, 0x62, 0x63, 0x64, 0x65, 0x66

@@ -42,7 +42,7 @@ pub use self::error::*;
 //    1  and the crate's decoder is cloned
 //    2  before it reads a part, or ends
 //   45  deleted: attribute
-//  502  deleted: clause
+//  503  deleted: clause
 //   99  deleted: ghost item
 //    3  deleted: model
 //    5  deleted: output

@@ -74,15 +74,22 @@ pub(crate) fn check<S: LaneOps<16> + PairOps>(text: &[u8]) -> bool {
         check_overlapping::<16, S>(text)
     } else if text.len() == 2 {
         check_two::<S>(text[0], text[1])
+    } else if text.len() < 2 {
+        text.is_empty() || check_one::<S>(text[0])
     } else if text.len() >= 8 {
         check_ends::<8, S>(text)
     } else if text.len() >= 4 {
         check_ends::<4, S>(text)
-    } else if text.len() == 1 {
-        check_two::<S>(text[0], text[0])
     } else {
-        text.is_empty() || check_ends::<2, S>(text)
+        check_ends::<2, S>(text)
     }
+}
+
+/// As `check`, for a single character, which is in each lane.
+#[inline(always)]
+fn check_one<S: LaneOps<16>>(character: u8) -> bool {
+    let marks = lanes::marks::<16, S>(u8x16::splat(character));
+    lanes16::is_pair_unmarked(marks)
 }
 
 /// As `check`, for two characters.
