@@ -415,6 +415,7 @@ HANDLERS = {
        for end in CONDITIONS},
     **{name: legacy(handler) for name, handler in VECTORS.items()},
     **{f"v{name}": handler for name, handler in VECTORS.items()},
-    "vpbroadcastd": broadcast(4), "vpbroadcastq": broadcast(8), "vbroadcasti128": broadcast(16), "vpermq": permute,
-    "vinserti128": insert(16), "vextracti128": extract(16), "vzeroupper": vzeroupper,
+    "vpbroadcastb": broadcast(1), "vpbroadcastd": broadcast(4), "vpbroadcastq": broadcast(8),
+    "vbroadcasti128": broadcast(16), "vpermq": permute, "vinserti128": insert(16), "vextracti128": extract(16),
+    "vzeroupper": vzeroupper,
 }

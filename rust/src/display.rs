@@ -43,7 +43,8 @@ pub(crate) fn print<const UPPER: bool, const PREFIX: bool>(bytes: &[u8], f: &mut
     // The prefix takes as much space as one byte. Without optimization the space is copied, so a short text has less.
     match bytes.len() + usize::from(PREFIX) {
         0 => Ok(()),
-        1..=128 => print_in::<256, UPPER, PREFIX>(bytes, f),
+        1 => print_in::<2, UPPER, PREFIX>(bytes, f),
+        2..=128 => print_in::<256, UPPER, PREFIX>(bytes, f),
         129..=512 => print_in::<1024, UPPER, PREFIX>(bytes, f),
         513..=2048 => print_in::<4096, UPPER, PREFIX>(bytes, f),
         _ => print_parts::<UPPER, PREFIX>(bytes, f),

@@ -9,10 +9,17 @@ use core::{mem::MaybeUninit, ptr};
 /// # Safety
 ///
 /// Its values have 8 bits, and every pattern of these is a value.
-pub unsafe trait Byte: Copy {}
+pub unsafe trait Byte: Copy {
+    /// Whether LLVM may unroll the portable loop that decodes a few of them.
+    const UNROLLS: bool;
+}
 // SAFETY: that holds for both types of numbers of 8 bits.
-unsafe impl Byte for u8 {}
-unsafe impl Byte for i8 {}
+unsafe impl Byte for u8 {
+    const UNROLLS: bool = true;
+}
+unsafe impl Byte for i8 {
+    const UNROLLS: bool = false;
+}
 
 /// Space for `N` bytes.
 pub struct Space<const N: usize>(MaybeUninit<[u8; N]>);
@@ -46,10 +53,11 @@ impl<const N: usize> Space<N> {
         // SAFETY: the count is `N`. There are so many digits, and if the result is true, all bytes are written,
         // and each of them is a value of type `B`.
         unsafe {
-            // In the portable build LLVM would unroll the loop for so few bytes, and write them all at the end: of a
-            // slice with 16 bytes by 252 instructions in place of 240, and by 84 in place of 54 if the first digit is
-            // invalid. Of a text that is an array, this takes 44 more (rustc 1.95, x86-64).
-            let count = if N > 4 && N < 32 && Native::PIECE == 1 { ptr::read_volatile(&N) } else { N };
+            // In the portable build LLVM unrolls the loop for so few bytes, which for 16 numbers of type `u8` takes 199
+            // instructions in place of 241, but for `i8` 241 again, and 69 in place of 38 if the first digit is invalid
+            // (rustc 1.95, x86-64).
+            let is_unrolled = B::UNROLLS || N < 5 || N > 31 || Native::PIECE > 1;
+            let count = if is_unrolled { N } else { ptr::read_volatile(&N) };
             match unchecked::read(digits.as_ptr(), self.0.as_mut_ptr().cast(), count) {
                 true => Some(&*self.0.as_ptr().cast()),
                 false => None,
