@@ -9,5 +9,5 @@ pub returns : goal.returns
 returns g c =
     let a = c.args.character in
     let once : AllDigits (a ∷ a ∷ []) ↔ AllDigits (a ∷ []) =
-        (All-tail IsDigit a (a ∷ []), λ one. All-cons IsDigit a (a ∷ []) (All-head IsDigit a [] one) one) in
+    (All-tail IsDigit a (a ∷ []), λ one. All-cons IsDigit a (a ∷ []) (All-head IsDigit a [] one) one) in
     through c.is_pair_unmarked.ensures (through (pair_marks a a (replicate 16 a) _ refl c.marks-marks.ensures.each) once)
