@@ -136,10 +136,13 @@ fn count(only: &[String]) -> io::Result<Vec<u64>> {
         true => counted_by_qemu(only)?,
         false => counted_by_callgrind(only)?,
     };
+    if rounds.len() != 6 * chosen(only).count() {
+        return Err(io::Error::other("a round was not counted"));
+    }
     // Of each case, what was counted before each of its rounds, and in it.
     let cells = rounds.chunks_exact(6).zip(chosen(only)).map(|(counted, case)| {
         let (few, more) = calls(case.size);
-        counted[5].saturating_sub(counted[3]) / (more - few) as u64
+        (counted[5] - counted[3]) / (more - few) as u64
     });
     Ok(cells.collect())
 }
@@ -180,8 +183,10 @@ fn counted_by_qemu(only: &[String]) -> io::Result<Vec<u64>> {
             count += 1;
         }
     }
-    child.wait()?;
-    Ok(rounds)
+    match child.wait()? {
+        status if status.success() => Ok(rounds),
+        status => Err(io::Error::other(format!("{command}: {status}"))),
+    }
 }
 
 /// These names, each once.

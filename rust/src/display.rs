@@ -38,16 +38,14 @@ printed! { Display false LowerHex false UpperHex true }
 
 /// Prints the digits of bytes, and `0x` before them if `PREFIX` is true. Each call of the formatter but the last writes
 /// 4096 characters. An empty text makes no call, and no call follows an error.
+// The prefix takes as much space as one byte. Text whose length LLVM knows is appended to a `String` without a call.
 #[inline(always)]
 pub(crate) fn print<const UPPER: bool, const PREFIX: bool>(bytes: &[u8], f: &mut fmt::Formatter<'_>) -> fmt::Result {
-    // The prefix takes as much space as one byte. Without optimization the space is copied, so a short text has less.
     match bytes.len() + usize::from(PREFIX) {
         0 => Ok(()),
         1 => print_in::<2, UPPER, PREFIX>(bytes, f),
         2..=128 => print_in::<256, UPPER, PREFIX>(bytes, f),
-        129..=512 => print_in::<1024, UPPER, PREFIX>(bytes, f),
-        513..=2048 => print_in::<4096, UPPER, PREFIX>(bytes, f),
-        _ => print_parts::<UPPER, PREFIX>(bytes, f),
+        _ => print_long::<UPPER, PREFIX>(bytes, f),
     }
 }
 
@@ -59,10 +57,13 @@ fn print_in<const N: usize, const UPPER: bool, const PREFIX: bool>(
     f.write_str(ascii_text(Space::<N>::new().text(bytes, PREFIX, UPPER)))
 }
 
-/// Does the same for a longer text.
+/// Does the same for more than 256 characters. Without optimization the space is copied, so up to 1024 have less.
 #[inline(never)]
-fn print_parts<const UPPER: bool, const PREFIX: bool>(bytes: &[u8], f: &mut fmt::Formatter<'_>) -> fmt::Result {
-    let (first, rest) = bytes.split_at(2048 - usize::from(PREFIX));
+fn print_long<const UPPER: bool, const PREFIX: bool>(bytes: &[u8], f: &mut fmt::Formatter<'_>) -> fmt::Result {
+    if bytes.len() < 512 {
+        return print_in::<1024, UPPER, PREFIX>(bytes, f);
+    }
+    let (first, rest) = bytes.split_at(bytes.len().min(2048 - usize::from(PREFIX)));
     print_in::<4096, UPPER, PREFIX>(first, f)?;
     let mut parts = rest.chunks_exact(2048);
     parts.try_for_each(|part| print_in::<4096, UPPER, false>(part, f))?;

@@ -1,7 +1,7 @@
 //! Space for a text or for bytes, which need not be initialized.
 
-use super::{unchecked, Native};
-use crate::proved::{text_length, Kernel};
+use super::unchecked;
+use crate::proved::text_length;
 use core::{mem::MaybeUninit, ptr};
 
 /// A type of bytes.
@@ -9,17 +9,11 @@ use core::{mem::MaybeUninit, ptr};
 /// # Safety
 ///
 /// Its values have 8 bits, and every pattern of these is a value.
-pub unsafe trait Byte: Copy {
-    /// Whether LLVM may unroll the portable loop that decodes a few of them.
-    const UNROLLS: bool;
-}
+pub unsafe trait Byte: Copy {}
 // SAFETY: that holds for both types of numbers of 8 bits.
-unsafe impl Byte for u8 {
-    const UNROLLS: bool = true;
-}
-unsafe impl Byte for i8 {
-    const UNROLLS: bool = false;
-}
+unsafe impl Byte for u8 {}
+// SAFETY: the same.
+unsafe impl Byte for i8 {}
 
 /// Space for `N` bytes.
 pub struct Space<const N: usize>(MaybeUninit<[u8; N]>);
@@ -50,15 +44,10 @@ impl<const N: usize> Space<N> {
     #[inline]
     pub fn bytes<B: Byte>(&mut self, digits: &[u8]) -> Option<&[B; N]> {
         assert!(digits.len() == N << 1);
-        // SAFETY: the count is `N`. There are so many digits, and if the result is true, all bytes are written,
+        // SAFETY: there are two digits for each of `N` bytes, and if the result is true, all bytes are written,
         // and each of them is a value of type `B`.
         unsafe {
-            // In the portable build LLVM unrolls the loop for so few bytes, which for 16 numbers of type `u8` takes 199
-            // instructions in place of 241, but for `i8` 241 again, and 69 in place of 38 if the first digit is invalid
-            // (rustc 1.95, x86-64).
-            let is_unrolled = B::UNROLLS || N < 5 || N > 31 || Native::PIECE > 1;
-            let count = if is_unrolled { N } else { ptr::read_volatile(&N) };
-            match unchecked::read(digits.as_ptr(), self.0.as_mut_ptr().cast(), count) {
+            match unchecked::read(digits.as_ptr(), self.0.as_mut_ptr().cast(), N) {
                 true => Some(&*self.0.as_ptr().cast()),
                 false => None,
             }
