@@ -45,17 +45,6 @@ digits_rest u i end e h k d =
       ),
     )
 
--- all bytes are digits if the first and those after e are, and these leave out none
-pub digits_overlap : (u : List ℕ) (i e : ℕ) → e ≤ i
-    → AllDigits (take i u ++ take (length u - e) (drop e u)) ↔ AllDigits u
-digits_overlap u i e h =
-    let both = digits_append (take i u) (take (length u - e) (drop e u)) in (
-      λ t.
-          let pair = both.0 t in
-          (digits_last u i e h pair.0).0 pair.1,
-      λ all. both.1 (All-take IsDigit i u all, All-take IsDigit (length u - e) (drop e u) (All-drop IsDigit e u all)),
-    )
-
 -- a part of ASCII text
 pub part_ascii : (u front rest part after : List ℕ) → front ++ rest ≡ u → part ++ after ≡ rest → IsAscii u
     → IsAscii part
