@@ -1,8 +1,9 @@
 -- Look-ups in vectors, the text of lanes, and lanes that are interleaved.
-use Rattle.std.proofs.Common.{◌≡◌, ℕ, ◌*◌, Bool, ltb, T, ◌||◌, List, [], ◌∷◌, ◌++◌, length, replicate, bit_and, sym, subst, ◌∙◌, arith, w8, Fits, length-append, zero, suc, ◌+◌, ◌/◌, ◌%◌, ◌^◌, ◌<◌, true, false, eqb, map, get_or, refl, ap, eqb→eq, ◌≤◌, bit_or}
+use Rattle.std.proofs.Common.{◌≡◌, ℕ, ◌*◌, Bool, ltb, T, ◌||◌, ◌&&◌, List, [], ◌∷◌, ◌++◌, length, replicate, bit_and, sym, subst, ◌∙◌, arith, w8, Fits, length-append, zero, suc, ◌+◌, ◌/◌, ◌%◌, ◌^◌, ◌<◌, true, false, eqb, map, get_or, refl, ap, eqb→eq, ◌≤◌, bit_or}
 use Rattle.std.specs.List.{AllZip, range_with_len, concat}
 use Rattle.std.proofs.lemmas.Grind.{common_steps}
 use Rattle.std.proofs.lemmas.Simd.{SwzOk, SwzOk-from_Each1, length-zip2, length-replicate, pick_l-range_with_len, Each1-get_or, SwzOk-from_below, swz_l, length-swz_l, get_or-swz_l_below}
+use lib.Ieee.Fits.{and_l, and_r}
 use lib.Lanes.{zip2, Each1, pick_l, number_l, digits_l}
 use mir.Val.{zeroes}
 use Rattle.std.proofs.lemmas.List.{append-nil, ext_get_or, get_or-map, length-map}
@@ -115,11 +116,12 @@ halves_text up t v f table =
     looked_up up t (halves_of v) 32 (omega (arith, length-halves_of v, f.0)) (halves_below v f.1) table
     ∙ digits_of_halves up v
 
--- the digits of a row, twice
+-- the digits of a row, twice, and once
 pub row_is_table : (up : Bool)
     → T (is_table up (map (hex_digit up) (range_with_len 0 16) ++ map (hex_digit up) (range_with_len 0 16)) 32)
-row_is_table true = tt
-row_is_table false = tt
+    × T (is_table up (map (hex_digit up) (range_with_len 0 16)) 16)
+row_is_table true = (tt, tt)
+row_is_table false = (tt, tt)
 
 -- ---- two vectors of n lanes
 
@@ -165,11 +167,6 @@ high_ok v f =
     subst (λ n. SwzOk w8 16 16 0 (zip2 (λ a b. a / 2 ^ b) v (replicate n 4))) f.0
     (rw (high_is v) (SwzOk-from_below w8 16 1 16 0 _ refl (omega (arith, length-map v (λ x. x / 16), f.0)) (high_below v f.1)))
 
-pub low_ok : (v : List ℕ) → (length v ≡ 16) × Each1 (Fits w8) v → SwzOk w8 16 16 0 (zip2 bit_and v (replicate 16 15))
-low_ok v f =
-    subst (λ n. SwzOk w8 16 16 0 (zip2 bit_and v (replicate n 15))) f.0
-    (rw (low_is v f.1) (SwzOk-from_below w8 16 1 16 0 _ refl (omega (arith, length-map v (λ x. x % 16), f.0)) (low_below v)))
-
 -- ---- two vectors of 16 lanes, interleaved
 
 abbrev positions : List ℕ
@@ -181,18 +178,14 @@ woven : (f : ℕ → ℕ) (v : List ℕ) → length v ≡ 16
 woven f (a ∷ b ∷ c ∷ d ∷ e ∷ g ∷ h ∷ i ∷ j ∷ k ∷ l ∷ m ∷ n ∷ o ∷ p ∷ q ∷ []) long = refl
 woven f _ long = absurd (omega arith)
 
-row_of_digits : (up : Bool) → T (is_table up (map (hex_digit up) (range_with_len 0 16)) 16)
-row_of_digits true = tt
-row_of_digits false = tt
-
 pub woven_text : (up : Bool) (v : List ℕ) → (length v ≡ 16) × Each1 (Fits w8) v
     → pick_l 0 (swz_l w8 16 (map (hex_digit up) (range_with_len 0 16)) 0 (zip2 (λ a b. a / 2 ^ b) v (replicate 16 4))
     ++ swz_l w8 16 (map (hex_digit up) (range_with_len 0 16)) 0 (zip2 bit_and v (replicate 16 15))) positions
     ≡ hex_text up v
 woven_text up v f =
     let t = map (hex_digit up) (range_with_len 0 16) in
-    let high = looked_up up t (map (λ x. x / 16) v) 16 (omega (arith, length-map v (λ x. x / 16), f.0)) (high_below v f.1) (row_of_digits up) in
-    let low = looked_up up t (map (λ x. x % 16) v) 16 (omega (arith, length-map v (λ x. x % 16), f.0)) (low_below v) (row_of_digits up) in
+    let high = looked_up up t (map (λ x. x / 16) v) 16 (omega (arith, length-map v (λ x. x / 16), f.0)) (high_below v f.1) (row_is_table up).1 in
+    let low = looked_up up t (map (λ x. x % 16) v) 16 (omega (arith, length-map v (λ x. x % 16), f.0)) (low_below v) (row_is_table up).1 in
     subst (λ n. pick_l 0 (swz_l w8 16 t 0 (zip2 (λ a b. a / 2 ^ b) v (replicate n 4)) ++ swz_l w8 16 t 0 (zip2 bit_and v (replicate n 15))) positions ≡ hex_text up v) f.0
     (rw (high_is v, low_is v f.1, high, low) (woven (hex_digit up) v f.0 ∙ digits_of_halves up v))
 
@@ -205,20 +198,22 @@ digits_number up x =
     let lanes = digits_l 256 16 (number_l (2 ^ 64) (halves ∷ 0 ∷ [])) in
     number_l 256 (swz_l w8 16 (map (hex_digit up) (range_with_len 0 16)) 0 lanes) % 65536
 
-first_is : (up : Bool) → T (holds_below (λ x. eqb (digits_number up x % 256) (hex_digit up (x / 16))) 256)
-first_is true = tt
-first_is false = tt
+-- the test of both digits
+abbrev are_digits_of : Bool → ℕ → Bool
+are_digits_of up x =
+    eqb (digits_number up x % 256) (hex_digit up (x / 16)) && eqb (digits_number up x / 256 % 256) (hex_digit up (x % 16))
 
-second_is : (up : Bool) → T (holds_below (λ x. eqb (digits_number up x / 256 % 256) (hex_digit up (x % 16))) 256)
-second_is true = tt
-second_is false = tt
+digits_are : (up : Bool) → T (holds_below (are_digits_of up) 256)
+digits_are true = tt
+digits_are false = tt
 
 pub byte_text : (up : Bool) (x n : ℕ) → x < 256 → n ≡ digits_number up x
     → n % 256 ∷ n / 256 % 256 ∷ [] ≡ hex_text up (x ∷ [])
 unfolding hex_text
 byte_text up x n h e =
-    let first = eqb→eq _ _ (every_below (λ x. eqb (digits_number up x % 256) (hex_digit up (x / 16))) 256 (first_is up) x h) in
-    let second = eqb→eq _ _ (every_below (λ x. eqb (digits_number up x / 256 % 256) (hex_digit up (x % 16))) 256 (second_is up) x h) in
+    let both = every_below (are_digits_of up) 256 (digits_are up) x h in
+    let first : digits_number up x % 256 ≡ hex_digit up (x / 16) = eqb→eq _ _ (and_l _ _ both) in
+    let second : digits_number up x / 256 % 256 ≡ hex_digit up (x % 16) = eqb→eq _ _ (and_r _ _ both) in
     rw (e, first, second) refl
 
 -- ---- the values of a text, by pairs

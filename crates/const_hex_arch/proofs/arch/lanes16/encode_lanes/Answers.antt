@@ -11,4 +11,4 @@ pub returns : goal.returns
 returns c =
     let digits = map (hex_digit c.args.upper) (range_with_len 0 16) in
     rw (c.split_lanes-halves.ensures, c.in_both_halves.ensures, c.digits_row.ensures)
-    (halves_text c.args.upper (digits ++ digits) c.args.v c.fits-v (row_is_table c.args.upper))
+    (halves_text c.args.upper (digits ++ digits) c.args.v c.fits-v (row_is_table c.args.upper).0)

@@ -1,13 +1,13 @@
-use Rattle.std.proofs.Common.{◌∙◌, ap, length, arith}
+use Rattle.std.proofs.Common.{◌∙◌, ap, length, arith, refl}
 use Rattle.std.proofs.lemmas.Simd.{put_chunk_whole}
-use Rattle.const_hex_arch.proofs.lemmas.LaneText.{high_ok, low_ok, woven_text}
+use Rattle.const_hex_arch.proofs.lemmas.LaneText.{high_ok, masked_ok, woven_text}
 use Rattle.const_hex_arch.proofs.arch.interleaved.InterleavedLaneOps16.write_digits.Goals as goal
 
 pub swizzle-first : goal.swizzle-first
 swizzle-first c = high_ok c.args.v c.fits-v
 
 pub swizzle-second : goal.swizzle-second
-swizzle-second c = low_ok c.args.v c.fits-v
+swizzle-second c = masked_ok 15 tt 1 16 c.args.v refl c.fits-v
 
 pub returns : goal.returns
 returns c =
