@@ -200,28 +200,26 @@ pair_in a b n r h k e =
     let second : (n + 65536 * r) / 256 % 256 ≡ b = omega arith in
     rw (first, second) refl
 
+-- a relation of the lanes of two vectors, for two characters in the first lanes
+first_two : (R : ℕ → ℕ → Type 0) (c d : ℕ) (v zs : List ℕ) → take 2 v ≡ c ∷ d ∷ [] → AllZip R v zs
+    → (take 2 zs ≡ get_or zs 0 0 ∷ get_or zs 1 0 ∷ []) × (R c (get_or zs 0 0) × R d (get_or zs 1 0))
+first_two R c d (x ∷ y ∷ v) (p ∷ q ∷ zs) e z =
+    let first = subst (λ x. R x p) (ap (λ u. get_or u 0 0) e) z.0 in
+    (refl, (first, subst (λ y. R y q) (ap (λ u. get_or u 1 0) e) z.1.0))
+first_two R c d [] zs e z = cc e
+first_two R c d (x ∷ []) zs e z = cc e
+first_two R c d (x ∷ y ∷ v) [] e z = absurd z
+first_two R c d (x ∷ y ∷ v) (p ∷ []) e z = absurd z.1
+
 -- the marks of two characters in the first lanes
 pub pair_marks : (c d : ℕ) (v zs : List ℕ) → take 2 v ≡ c ∷ d ∷ [] → AllZip IsMarkOf v zs
     → AllUnmarked (take 2 zs) ↔ AllDigits (c ∷ d ∷ [])
-pair_marks c d (x ∷ y ∷ v) (p ∷ q ∷ zs) e z =
-    let first : x ≡ c = ap (λ u. get_or u 0 0) e in
-    let second : y ≡ d = ap (λ u. get_or u 1 0) e in
-    rw (← first, ← second)
-    (grind (
-      arith,
-      All-head IsDigit x (y ∷ []),
-      All-tail IsDigit x (y ∷ []),
-      All-head IsDigit y [],
-      All-cons IsDigit y [],
-      All-cons IsDigit x (y ∷ []),
-      All-nil IsDigit,
-      z.0,
-      z.1.0,
-    ))
-pair_marks c d [] zs e z = cc e
-pair_marks c d (x ∷ []) zs e z = cc e
-pair_marks c d (x ∷ y ∷ v) [] e z = absurd z
-pair_marks c d (x ∷ y ∷ v) (p ∷ []) e z = absurd z.1
+pair_marks c d v zs e z =
+    let two = first_two IsMarkOf c d v zs e z in
+    let both : (IsDigit c × IsDigit d) ↔ AllDigits (c ∷ d ∷ []) =
+    (λ h. All-cons IsDigit c (d ∷ []) h.0 (All-cons IsDigit d [] h.1 (All-nil IsDigit)),
+    λ a. (All-head IsDigit c (d ∷ []) a, All-head IsDigit d [] (All-tail IsDigit c (d ∷ []) a))) in
+    rw two.0 (grind (arith, two.1, both))
 
 -- the byte that two digits in the first lanes make
 joined : (h l : ℕ) → h < 16 → l < 16 → bit_or (h * 16 % 256) l ≡ 16 * h + l
@@ -230,20 +228,13 @@ joined h l p q =
 
 pub pair_byte : (c d : ℕ) (v ns : List ℕ) → take 2 v ≡ c ∷ d ∷ [] → AllZip IsPartOf v ns → AllDigits (c ∷ d ∷ [])
     → IsPair c d (bit_or (slice_index_or ns 0 0 * 16 % 256) (slice_index_or ns 1 0))
-pair_byte c d (x ∷ y ∷ v) (p ∷ q ∷ ns) e z a =
-    let first : x ≡ c = ap (λ u. get_or u 0 0) e in
-    let second : y ≡ d = ap (λ u. get_or u 1 0) e in
-    let digit : IsDigit x = rw first (All-head IsDigit c (d ∷ []) a) in
-    let next : IsDigit y = rw second (All-head IsDigit d [] (All-tail IsDigit c (d ∷ []) a)) in
-    let high : hex_value c ≡ Some p = rw first at (z.0.0 digit) in
-    let low : hex_value d ≡ Some q = rw second at (z.1.0.0 next) in record {
-      high = p;
-      low = q;
+pair_byte c d v ns e z a =
+    let two = first_two IsPartOf c d v ns e z in
+    let high = two.1.0.0 (All-head IsDigit c (d ∷ []) a) in
+    let low = two.1.1.0 (All-head IsDigit d [] (All-tail IsDigit c (d ∷ []) a)) in record {
+      high = slice_index_or ns 0 0;
+      low = slice_index_or ns 1 0;
       high_is = high;
       low_is = low;
-      byte_is = joined p q (hex_value-small c p high) (hex_value-small d q low);
+      byte_is = joined _ _ (hex_value-small c _ high) (hex_value-small d _ low);
     }
-pair_byte c d [] ns e z a = cc e
-pair_byte c d (x ∷ []) ns e z a = cc e
-pair_byte c d (x ∷ y ∷ v) [] e z a = absurd z
-pair_byte c d (x ∷ y ∷ v) (p ∷ []) e z a = absurd z.1
