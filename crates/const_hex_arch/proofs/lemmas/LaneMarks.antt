@@ -192,14 +192,6 @@ is_pair_unmarked (x0 ∷ x1 ∷ xs) f =
     grind (arith, nat_tests, here, unmarked_at x0 f.1.0.fits, unmarked_at x1 f.1.1.0.fits)
 is_pair_unmarked _ f = absurd (omega (arith, f.0))
 
--- two bytes in the first lanes, of a number of 16 bits
-pub pair_in : (a b n r : ℕ) → a < 256 → b < 256 → n ≡ a + 256 * b
-    → (n + 65536 * r) % 256 ∷ (n + 65536 * r) / 256 % 256 ∷ [] ≡ a ∷ b ∷ []
-pair_in a b n r h k e =
-    let first : (n + 65536 * r) % 256 ≡ a = omega arith in
-    let second : (n + 65536 * r) / 256 % 256 ≡ b = omega arith in
-    rw (first, second) refl
-
 -- a relation of the lanes of two vectors, for two characters in the first lanes
 first_two : (R : ℕ → ℕ → Type 0) (c d : ℕ) (v zs : List ℕ) → take 2 v ≡ c ∷ d ∷ [] → AllZip R v zs
     → (take 2 zs ≡ get_or zs 0 0 ∷ get_or zs 1 0 ∷ []) × (R c (get_or zs 0 0) × R d (get_or zs 1 0))
@@ -216,9 +208,10 @@ pub pair_marks : (c d : ℕ) (v zs : List ℕ) → take 2 v ≡ c ∷ d ∷ [] �
     → AllUnmarked (take 2 zs) ↔ AllDigits (c ∷ d ∷ [])
 pair_marks c d v zs e z =
     let two = first_two IsMarkOf c d v zs e z in
-    let both : (IsDigit c × IsDigit d) ↔ AllDigits (c ∷ d ∷ []) =
-    (λ h. All-cons IsDigit c (d ∷ []) h.0 (All-cons IsDigit d [] h.1 (All-nil IsDigit)),
-    λ a. (All-head IsDigit c (d ∷ []) a, All-head IsDigit d [] (All-tail IsDigit c (d ∷ []) a))) in
+    let both : (IsDigit c × IsDigit d) ↔ AllDigits (c ∷ d ∷ []) = (
+      λ h. All-cons IsDigit c (d ∷ []) h.0 (All-cons IsDigit d [] h.1 (All-nil IsDigit)),
+      λ a. (All-head IsDigit c (d ∷ []) a, All-head IsDigit d [] (All-tail IsDigit c (d ∷ []) a)),
+    ) in
     rw two.0 (grind (arith, two.1, both))
 
 -- the byte that two digits in the first lanes make

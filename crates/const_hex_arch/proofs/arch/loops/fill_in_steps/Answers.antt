@@ -1,5 +1,5 @@
 use Rattle.std.proofs.Common.{◌+◌, ◌-◌, ◌*◌, length, arith}
-use Rattle.const_hex_arch.proofs.lemmas.Ends.{IsFilled, none_filled, filled_step, filled_less, filled_whole, filled_rest}
+use Rattle.const_hex_arch.proofs.lemmas.Ends.{IsFilled, none_filled, filled_step, filled_less, filled_rest}
 use Rattle.const_hex_arch.proofs.arch.loops.fill_in_steps.Goals as goal
 use Rattle.const_hex_arch.proofs.arch.loops.fill_in_steps.Goals.{Joined-input-at, then-input-at, else-input-at}
 
@@ -8,9 +8,6 @@ loop-at-init g c = none_filled c.requires
 
 pub loop-at-preserved : goal.loop-at-preserved
 loop-at-preserved g c = grind (arith, filled_step)
-
-pub returns-then-at-input : goal.returns-then-at-input
-returns-then-at-input g c = filled_whole c.loop-at.invariant (omega arith)
 
 -- before the last step
 filled : (g : _) (c : Joined-input-at g)
