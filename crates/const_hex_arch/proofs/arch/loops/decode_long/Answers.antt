@@ -1,4 +1,4 @@
-use Rattle.std.proofs.Common.{ℕ, List, ◌≡◌, ◌+◌, ◌-◌, ◌*◌, ◌≤◌, length, refl, sym, ◌∙◌, arith, take_all}
+use Rattle.std.proofs.Common.{ℕ, List, ◌≡◌, ◌+◌, ◌-◌, ◌≤◌, length, refl, sym, ◌∙◌, arith}
 use Rattle.std.proofs.lemmas.Bool.{false≢true}
 use Rattle.std.proofs.lemmas.List.{length-take-le}
 use borrow.Rule.Slice.PartMut.{put_mid}
@@ -78,12 +78,6 @@ decoded g c =
       )
       | else-output-at-gt16+else-not-this-2 w ↦ (omega arith, rw (w.output-is, w.at-is) c.loop-output-2.invariant)
     ]
-
-pub returns-then-at-output-clause-spells : goal.returns-then-at-output-clause-spells
-returns-then-at-output-clause-spells g c = λ _.
-    let at = c.loop-output-2.at in
-    rw (take_all (2 * at) c.args.input.now (omega arith), take_all at c.loop-output-2.output (omega arith))
-    at c.loop-output-2.invariant.front
 
 pub returns-then-output-at-eq1-clause-spells : goal.returns-then-output-at-eq1-clause-spells
 returns-then-output-at-eq1-clause-spells g c = λ t.
