@@ -130,12 +130,11 @@ joint_test ys zs t u e first second = grind (arith, all_unmarked ys zs e, digits
 abbrev marked : ℕ → ℕ
 marked x = bit_and x 216
 
-unmarked_at : (x : ℕ) → x < 256 → (marked x ≡ 0) ↔ IsUnmarked x
-unmarked_at x h =
-    grind (arith, nat_tests, agree_below_at (λ x. eqb (marked x) 0) (λ x. eqb (mark_bits x) 0) 256 x refl h)
-
-below_256 : (x : ℕ) → x < 256 → marked x < 256
-below_256 x h = ltb→lt _ _ (every_below (λ x. ltb (marked x) 256) 256 tt x h)
+at_lane : (x : ℕ) → Fits w8 x → (marked x < 256) × ((marked x ≡ 0) ↔ IsUnmarked x)
+at_lane x f = (
+  ltb→lt _ _ (every_below (λ x. ltb (marked x) 256) 256 tt x f.fits),
+  grind (arith, nat_tests, agree_below_at (λ x. eqb (marked x) 0) (λ x. eqb (mark_bits x) 0) 256 x refl f.fits),
+)
 
 abbrev all_marked : List ℕ → List ℕ
 all_marked xs = zip2 bit_and xs (replicate (length xs) 216)
@@ -146,33 +145,19 @@ unmarked_numbers : (a n : ℕ) (xs : List ℕ) → length xs ≡ 8 * n → Each1
 unmarked_numbers a zero [] e f = (λ h. (h, tt), λ h. h.0)
 unmarked_numbers a (suc n) (x0 ∷ x1 ∷ x2 ∷ x3 ∷ x4 ∷ x5 ∷ x6 ∷ x7 ∷ xs) e f =
     let rest = number_l 256 (all_marked xs) in
-    let b0 = below_256 x0 f.0.fits in
-    let b1 = below_256 x1 f.1.0.fits in
-    let b2 = below_256 x2 f.1.1.0.fits in
-    let b3 = below_256 x3 f.1.1.1.0.fits in
-    let b4 = below_256 x4 f.1.1.1.1.0.fits in
-    let b5 = below_256 x5 f.1.1.1.1.1.0.fits in
-    let b6 = below_256 x6 f.1.1.1.1.1.1.0.fits in
-    let b7 = below_256 x7 f.1.1.1.1.1.1.1.0.fits in
+    let at0 = at_lane x0 f.0 in
+    let at1 = at_lane x1 f.1.0 in
+    let at2 = at_lane x2 f.1.1.0 in
+    let at3 = at_lane x3 f.1.1.1.0 in
+    let at4 = at_lane x4 f.1.1.1.1.0 in
+    let at5 = at_lane x5 f.1.1.1.1.1.0 in
+    let at6 = at_lane x6 f.1.1.1.1.1.1.0 in
+    let at7 = at_lane x7 f.1.1.1.1.1.1.1.0 in
     let number = number_l 256 (all_marked (x0 ∷ x1 ∷ x2 ∷ x3 ∷ x4 ∷ x5 ∷ x6 ∷ x7 ∷ xs)) in
     let above : number / 18446744073709551616 ≡ rest = omega arith in
     let here : (number % 18446744073709551616 ≡ 0) ↔ ((marked x0 + marked x1 + marked x2 + marked x3 + marked x4 + marked x5 + marked x6 + marked x7) ≡ 0) = omega arith in
-    rw above
-    (grind (
-      arith,
-      here,
-      unmarked_at x0 f.0.fits,
-      unmarked_at x1 f.1.0.fits,
-      unmarked_at x2 f.1.1.0.fits,
-      unmarked_at x3 f.1.1.1.0.fits,
-      unmarked_at x4 f.1.1.1.1.0.fits,
-      unmarked_at x5 f.1.1.1.1.1.0.fits,
-      unmarked_at x6 f.1.1.1.1.1.1.0.fits,
-      unmarked_at x7 f.1.1.1.1.1.1.1.0.fits,
-      unmarked_numbers (bit_or a (number % 18446744073709551616)) n xs (omega arith) f.1.1.1.1.1.1.1.1,
-      le_or_l,
-      le_or_r,
-    ))
+    let more = unmarked_numbers (bit_or a (number % 18446744073709551616)) n xs (omega arith) f.1.1.1.1.1.1.1.1 in
+    rw above (grind (arith, here, at0, at1, at2, at3, at4, at5, at6, at7, more, le_or_l, le_or_r))
 unmarked_numbers a _ _ e f = absurd (omega arith)
 
 -- no lane has a mark if and only if all lanes AND 216, joined by OR in numbers of 64 bits, are 0
@@ -185,11 +170,11 @@ are_unmarked n xs f = rw (← f.0) (grind (arith, nat_tests, unmarked_numbers 0 
 pub is_pair_unmarked : (xs : List ℕ) → (length xs ≡ 16) × Each1 (Fits w8) xs
     → IsTrue (eqb (number_l 256 (zip2 bit_and xs (replicate 16 216)) % 65536) 0) ↔ AllUnmarked (take 2 xs)
 is_pair_unmarked (x0 ∷ x1 ∷ xs) f =
-    let b0 = below_256 x0 f.1.0.fits in
-    let b1 = below_256 x1 f.1.1.0.fits in
+    let at0 = at_lane x0 f.1.0 in
+    let at1 = at_lane x1 f.1.1.0 in
     let rest = number_l 256 (zip2 bit_and xs (replicate 14 216)) in
     let here : ((marked x0 + 256 * (marked x1 + 256 * rest)) % 65536 ≡ 0) ↔ ((marked x0 + marked x1) ≡ 0) = omega arith in
-    grind (arith, nat_tests, here, unmarked_at x0 f.1.0.fits, unmarked_at x1 f.1.1.0.fits)
+    grind (arith, nat_tests, here, at0, at1)
 is_pair_unmarked _ f = absurd (omega (arith, f.0))
 
 -- a relation of the lanes of two vectors, for two characters in the first lanes
