@@ -200,7 +200,7 @@ pair_marks c d v zs e z =
     rw two.0 (grind (arith, two.1, both))
 
 -- the byte that two digits in the first lanes make
-joined : (h l : ℕ) → h < 16 → l < 16 → bit_or (h * 16 % 256) l ≡ 16 * h + l
+pub joined : (h l : ℕ) → h < 16 → l < 16 → bit_or (h * 16 % 256) l ≡ 16 * h + l
 joined h l p q =
     eqb→eq _ _ (every_pair (λ h l. eqb (bit_or (h * 16 % 256) l) (16 * h + l)) 16 16 tt h l p q)
 

@@ -1,5 +1,5 @@
 -- Look-ups in vectors, the text of lanes, and lanes that are interleaved.
-use Rattle.std.proofs.Common.{◌≡◌, ℕ, ◌*◌, Bool, ltb, T, ◌||◌, ◌&&◌, List, [], ◌∷◌, ◌++◌, length, replicate, bit_and, sym, subst, ◌∙◌, arith, w8, Fits, length-append, zero, suc, ◌+◌, ◌/◌, ◌%◌, ◌^◌, ◌<◌, true, false, eqb, map, get_or, refl, ap, eqb→eq, ◌≤◌, bit_or}
+use Rattle.std.proofs.Common.{◌≡◌, ℕ, ◌*◌, Bool, ltb, T, ◌||◌, ◌&&◌, List, [], ◌∷◌, ◌++◌, length, replicate, bit_and, sym, subst, ◌∙◌, arith, w8, Fits, length-append, zero, suc, ◌+◌, ◌/◌, ◌%◌, ◌^◌, ◌<◌, true, false, eqb, map, get_or, refl, ap, eqb→eq, bit_or}
 use Rattle.std.specs.List.{AllZip, range_with_len, concat}
 use Rattle.std.proofs.lemmas.Grind.{common_steps}
 use Rattle.std.proofs.lemmas.Simd.{SwzOk, SwzOk-from_Each1, length-zip2, length-replicate, pick_l-range_with_len, Each1-get_or, SwzOk-from_below, swz_l, length-swz_l, get_or-swz_l_below}
@@ -7,8 +7,9 @@ use lib.Ieee.Fits.{and_l, and_r}
 use lib.Lanes.{zip2, Each1, pick_l, number_l, digits_l}
 use mir.Val.{zeroes}
 use Rattle.std.proofs.lemmas.List.{append-nil, ext_get_or, get_or-map, length-map}
-use Rattle.const_hex_arch.proofs.lemmas.Standard.{holds_below, every_below, every_pair}
+use Rattle.const_hex_arch.proofs.lemmas.Standard.{holds_below, every_below, every_pair, same_below}
 use Rattle.const_hex_arch.specs.{hex_digit, hex_text, halves_of, AllNibbles, byte_pairs}
+use Rattle.const_hex_arch.proofs.lemmas.LaneMarks.{joined}
 use Rattle.const_hex_arch.proofs.lemmas.Texts.{hex_text-append}
 
 -- ---- the positions that lanes read
@@ -228,12 +229,9 @@ after_two h l i zero u = refl
 after_two h l i (suc n) u =
     ap (λ x. bit_or (get_or u i 0 * 16 % 256) (bit_and (get_or u (suc i) 0) 15) ∷ x) (after_two h l (suc (suc i)) n u)
 
-joined : (h l : ℕ) → h ≤ 15 → l ≤ 15 → bit_or (h * 16 % 256) (bit_and l 15) ≡ 16 * h + l
-joined h l p q =
-    eqb→eq _ _ (every_pair (λ h l. eqb (bit_or (h * 16 % 256) (bit_and l 15)) (16 * h + l)) 16 16 tt h l (omega arith) (omega arith))
-
 pub pairs_are : (n : ℕ) (u : List ℕ) → length u ≡ 2 * n → AllNibbles u → pairs_from 0 n u ≡ byte_pairs u
 pairs_are zero [] e a = refl
 pairs_are (suc n) (h ∷ l ∷ u) e a =
-    rw (joined h l a.0 a.1.0, after_two h l 0 n u, pairs_are n u (omega arith) a.1.1) refl
+    let low : bit_and l 15 ≡ l = same_below (λ l. bit_and l 15) (λ l. l) 16 tt l (omega arith) in
+    rw (low, joined h l (omega arith) (omega arith), after_two h l 0 n u, pairs_are n u (omega arith) a.1.1) refl
 pairs_are _ _ e a = absurd (omega arith)
