@@ -24,7 +24,7 @@ pub fn cases(size: usize) -> Vec<Case> {
             }
         };
     }
-    known_lengths!(1 4 16 20 32 33 64 65 128 256 2048);
+    known_lengths!(1 2 3 4 8 12 16 17 20 24 32 33 48 64 65 128 256 2048);
     with_names_of_hex!(hex, "hex", cases);
     of_data_encoding(&mut cases);
     #[cfg(feature = "c")]
