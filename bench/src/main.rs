@@ -94,8 +94,8 @@ fn calls(size: usize) -> (usize, usize) {
     }
 }
 
-/// Makes all calls, in three rounds each, and marks where a round begins and ends. This is what is counted. In the first
-/// round symbols are bound, and the allocator chooses where large blocks stand.
+/// Makes all calls, in three rounds each, and marks where a round begins and ends. This is what is counted. In the
+/// first round symbols are bound, and the allocator chooses where large blocks stand.
 fn repeat_all(only: &[String]) {
     for case in chosen(only) {
         let (few, more) = calls(case.size);
