@@ -136,7 +136,7 @@ fn count(only: &[String]) -> io::Result<Vec<u64>> {
         true => counted_by_qemu(only)?,
         false => counted_by_callgrind(only)?,
     };
-    if rounds.len() != 6 * chosen(only).count() {
+    if rounds.len() / 6 != chosen(only).count() {
         return Err(io::Error::other("a round was not counted"));
     }
     // Of each case, what was counted before each of its rounds, and in it.
