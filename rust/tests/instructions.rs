@@ -7,9 +7,9 @@ use std::fmt::{Error, Result, Write};
 use std::process::Command;
 
 /// A call, the number of bytes, and how many instructions it may take by vectors, by portable code, and on AArch64: as
-/// many as const-hex takes, by docs/BENCHMARKS.md, and of 256 bytes on AArch64 .65 of that to encode and .75 to decode; 0
-/// is none. Those of `display` are chosen. It prints to a writer that returns an error at once, after which no more than
-/// a part of the bytes is encoded.
+/// many as const-hex takes, by docs/BENCHMARKS.md, and of 256 bytes on AArch64 .65 of that to encode and .75 to decode.
+/// 0 is none. Those of `display` are chosen. It prints to a writer that returns an error at once, after which no more
+/// than a part of the bytes is encoded.
 const LIMITS: [(&str, usize, [i64; 3]); 18] = [
     ("encode", 1, [64, 29, 29]),
     ("encode", 16, [63, 193, 29]),

@@ -3,9 +3,9 @@
 use super::{machine_code, space::write_text};
 use crate::proved::Kernel;
 
-/// The kernel by machine code. Each function tests that the lengths fit, although callers in `proved` never pass others.
-/// A shift doubles a length, since a debug build would test a product for an overflow. There is none: a slice has at most
-/// `isize::MAX` bytes.
+/// The kernel by machine code. Each function tests that the lengths fit, although callers in `proved` never pass
+/// others. A shift doubles a length, since a debug build would test a product for an overflow. There is none: a slice
+/// has at most `isize::MAX` bytes.
 pub struct Native;
 
 impl Kernel for Native {
