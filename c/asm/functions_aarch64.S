@@ -401,19 +401,14 @@
 	mov x8, x23
 	tbz w22, #0, 13f
 	ldrb w10, [x19, x9]
-	sub w11, w10, #0x41
-	sub w12, w10, #0x30
-	sub w10, w10, #0x61
-	and w11, w11, #0xff
-	and w12, w12, #0xff
-	and w10, w10, #0xff
-	add w11, w11, #0x4
-	add w10, w10, #0x4
-	cmp w11, w12
-	csel w11, w11, w12, cc
-	cmp w10, w11
-	csel w10, w10, w11, cc
-	cmp w10, #0x9
+	orr w11, w10, #0x20
+	add w10, w10, w10, lsl #1
+	add w11, w11, w11, lsl #2
+	sub w10, w10, #0x90
+	sub w11, w11, #0x1e5
+	cmp w11, w10
+	csel w10, w11, w10, cc
+	cmp w10, #0x1d
 	b.hi 23f
 13:
 	cmp x9, x22
@@ -863,19 +858,14 @@
 	cmn x9, #0x2
 	b.ne 4f
 	ldrb w8, [x21, x8]
-	sub w9, w8, #0x41
-	sub w10, w8, #0x30
-	sub w8, w8, #0x61
-	and w9, w9, #0xff
-	and w10, w10, #0xff
-	and w8, w8, #0xff
-	add w9, w9, #0x4
-	add w8, w8, #0x4
-	cmp w9, w10
-	csel w9, w9, w10, cc
-	cmp w8, w9
-	csel w8, w8, w9, cc
-	cmp w8, #0xa
+	orr w9, w8, #0x20
+	add w8, w8, w8, lsl #1
+	add w9, w9, w9, lsl #2
+	sub w8, w8, #0x90
+	sub w9, w9, #0x1e5
+	cmp w9, w8
+	csel w8, w9, w8, cc
+	cmp w8, #0x1e
 	cset w0, cc
 2:
 	ldp x20, x19, [sp, #48]

@@ -389,29 +389,29 @@
 3:
 	cmp    al,0x1
 	jne    8f
-	lea    r13,[rdx+0x1]
-	mov    rbx,r13
+	lea    r15,[rdx+0x1]
+	mov    rbx,r15
 	shr    rbx,1
 	cmp    r8,rbx
 	jb     9f
-	mov    QWORD PTR [rsp+0x8],r9
+	mov    r13,r9
 	mov    r14,rdi
-	movzx  r15d,BYTE PTR [rdi+0x8]
-	movzx  edi,r15b
+	movzx  ebp,BYTE PTR [rdi+0x8]
+	movzx  edi,bpl
 	mov    r12,rsi
-	mov    rbp,rdx
+	mov    QWORD PTR [rsp+0x8],rdx
 	mov    r8,rbx
 	call   const_hex_decoder_decode_after
 	test   al,al
-	je     26f
-	test   rbp,rbp
-	je     20f
-	and    r13,0xfffffffffffffffe
-	cmp    rbp,r13
-	mov    r13,QWORD PTR [rsp+0x8]
+	je     25f
+	mov    rax,QWORD PTR [rsp+0x8]
+	test   rax,rax
+	je     19f
+	and    r15,0xfffffffffffffffe
+	cmp    rax,r15
 	jne    7f
-	movzx  r15d,BYTE PTR [r12+rbp*1-0x1]
-	jmp    17f
+	movzx  ebp,BYTE PTR [r12+rax*1-0x1]
+	jmp    16f
 4:
 	cmp    rdx,0x2
 	jb     8f
@@ -432,48 +432,41 @@
 5:
 	mov    rbp,rdx
 	mov    r14,rdi
-	mov    QWORD PTR [rsp+0x8],r9
+	mov    r13,r9
 	mov    r12,rsi
 	mov    rdi,rsi
 	mov    rsi,rcx
 	mov    rdx,rbx
 	call   SYMBOL(const_hex_kernel_read)
 	test   al,al
-	je     21f
+	je     20f
 	mov    rax,r15
 	and    rax,0xfffffffffffffffe
 	test   r15b,0x1
 	mov    rcx,r12
 	je     6f
 	movzx  edx,BYTE PTR [rcx+rax*1]
-	lea    esi,[rdx-0x30]
-	lea    edi,[rdx-0x41]
-	add    dil,0x4
-	movzx  edi,dil
-	mov    r8d,0xff
-	cmovb  edi,r8d
-	add    dl,0x9f
-	add    dl,0x4
-	movzx  edx,dl
-	cmovb  edx,r8d
-	movzx  esi,sil
-	cmp    dil,sil
-	cmovae edi,esi
-	cmp    dl,dil
-	cmovb  edi,edx
-	cmp    dil,0x9
-	ja     21f
+	mov    esi,edx
+	or     edx,0x20
+	lea    esi,[rsi+rsi*2]
+	add    esi,0xffffff70
+	lea    edx,[rdx+rdx*4]
+	add    edx,0xfffffe1b
+	cmp    edx,esi
+	cmovb  esi,edx
+	cmp    esi,0x1d
+	ja     20f
 6:
 	cmp    rax,r15
+	mov    rax,rbp
 	jne    15f
-	mov    r13,QWORD PTR [rsp+0x8]
 7:
-	add    rbp,QWORD PTR [r14]
-	mov    rax,0xffffffffffffffff
-	cmovae rax,rbp
-	mov    QWORD PTR [r14],rax
+	add    rax,QWORD PTR [r14]
+	mov    rcx,0xffffffffffffffff
+	cmovae rcx,rax
+	mov    QWORD PTR [r14],rcx
 	xor    eax,eax
-	jmp    18f
+	jmp    17f
 8:
 	mov    r15,rdx
 	mov    rbx,r15
@@ -493,23 +486,21 @@
 	mov    DWORD PTR [rsi+0x4],eax
 	mov    QWORD PTR [rsi+0x8],rcx
 	xor    eax,eax
-	jmp    19f
+	jmp    18f
 15:
-	movzx  r15d,BYTE PTR [rcx+r15*1-0x1]
+	movzx  ebp,BYTE PTR [rcx+r15*1-0x1]
 16:
-	mov    r13,QWORD PTR [rsp+0x8]
-17:
-	add    rbp,QWORD PTR [r14]
-	mov    rax,0xffffffffffffffff
-	cmovae rax,rbp
-	mov    QWORD PTR [r14],rax
-	mov    BYTE PTR [r14+0x8],r15b
+	add    rax,QWORD PTR [r14]
+	mov    rcx,0xffffffffffffffff
+	cmovae rcx,rax
+	mov    QWORD PTR [r14],rcx
+	mov    BYTE PTR [r14+0x8],bpl
 	mov    al,0x1
-18:
+17:
 	mov    BYTE PTR [r14+0x9],al
 	mov    QWORD PTR [r13+0x0],rbx
 	mov    al,0x1
-19:
+18:
 	add    rsp,0x28
 	pop    rbx
 	pop    r12
@@ -518,12 +509,12 @@
 	pop    r15
 	pop    rbp
 	ret
-20:
+19:
 	xor    ebx,ebx
 	jmp    16b
-21:
+20:
 	mov    rdx,rbp
-22:
+21:
 	sub    rdx,r15
 	lea    rdi,[rsp+0x10]
 	mov    rsi,r14
@@ -533,35 +524,34 @@
 	movzx  eax,BYTE PTR [rsp+0x10]
 	mov    esi,DWORD PTR [rsp+0x14]
 	mov    rcx,QWORD PTR [rsp+0x18]
-	mov    rdx,QWORD PTR [rsp+0x8]
-	mov    QWORD PTR [rdx],0x0
+	mov    QWORD PTR [r13+0x0],0x0
 	lea    rdx,[rip + const_hex_constant_2]
 	movsxd rdi,DWORD PTR [rdx+rax*4]
 	add    rdi,rdx
 	jmp    rdi
-23:
+22:
 	mov    edx,0x1
 	mov    rcx,rax
 	jmp    14b
-24:
+23:
 	mov    edx,0x3
 	mov    eax,esi
 	jmp    14b
-25:
+24:
 	xor    eax,eax
 	mov    edx,0x4
 	jmp    13b
-26:
-	mov    rdx,rbp
-	mov    r15,rbp
-	jmp    22b
+25:
+	mov    rdx,QWORD PTR [rsp+0x8]
+	mov    r15,rdx
+	jmp    21b
 	end SYMBOL(const_hex_decoder_update_nonnull)
 
 	constant const_hex_constant_2, 2
-	.long 23b - const_hex_constant_2
+	.long 22b - const_hex_constant_2
 	.long 12b - const_hex_constant_2
+	.long 23b - const_hex_constant_2
 	.long 24b - const_hex_constant_2
-	.long 25b - const_hex_constant_2
 
 /* const_hex_c::const_hex_encode */
 	exported SYMBOL(const_hex_encode)
@@ -971,22 +961,15 @@
 	cmp    rcx,0xfffffffffffffffe
 	jne    3f
 	movzx  eax,BYTE PTR [r14+rax*1]
-	lea    ecx,[rax-0x30]
-	lea    edx,[rax-0x41]
-	add    dl,0x4
-	movzx  edx,dl
-	mov    esi,0xff
-	cmovb  edx,esi
-	add    al,0x9f
-	add    al,0x4
-	movzx  eax,al
-	cmovb  eax,esi
-	movzx  ecx,cl
-	cmp    dl,cl
-	cmovae edx,ecx
-	cmp    al,dl
-	cmovb  edx,eax
-	cmp    dl,0xa
+	mov    ecx,eax
+	or     eax,0x20
+	lea    ecx,[rcx+rcx*2]
+	add    ecx,0xffffff70
+	lea    eax,[rax+rax*4]
+	add    eax,0xfffffe1b
+	cmp    eax,ecx
+	cmovb  ecx,eax
+	cmp    ecx,0x1e
 	setb   bl
 	jmp    3f
 2:

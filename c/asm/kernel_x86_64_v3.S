@@ -7,6 +7,7 @@
 #define const_hex_1_0_0_constant_11_v3 SYMBOL(const_hex_kernel_constant_11_v3)
 #define const_hex_1_0_0_constant_12_v3 SYMBOL(const_hex_kernel_constant_12_v3)
 #define const_hex_1_0_0_constant_13_v3 SYMBOL(const_hex_kernel_constant_13_v3)
+#define const_hex_1_0_0_constant_14_v3 SYMBOL(const_hex_kernel_constant_14_v3)
 #define const_hex_1_0_0_constant_1_v3 SYMBOL(const_hex_kernel_constant_1_v3)
 #define const_hex_1_0_0_constant_2_v3 SYMBOL(const_hex_kernel_constant_2_v3)
 #define const_hex_1_0_0_constant_3_v3 SYMBOL(const_hex_kernel_constant_3_v3)

@@ -304,7 +304,7 @@ def jump_if_zero(s, i):
 
 # Loads and stores
 LOADS = "ldr", "ldur", "ldp", "ld1", "ld1r", "ldrb", "ldurb", "ldrh"
-STORES = "str", "stur", "stp", "st2", "strb", "sturb", "strh"
+STORES = "str", "stur", "stp", "st1", "st2", "strb", "sturb", "strh"
 
 
 def accessed(s, i):

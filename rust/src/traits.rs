@@ -176,8 +176,9 @@ to_hex! {
 
 /// Collects the digits of bytes.
 // The last arm alone would take 612 instructions in place of 323 for 32 bytes to a `Vec<char>`, and without
-// optimization 18602 in place of 5822. The space is copied then, so a short input has less of it; and for one byte,
-// an iterator over the array of its digits would take 1069 in place of 910 (rustc 1.95, x86-64).
+// optimization 18602 in place of 5822. The space is copied then, so a short input has less of it, or none; and for one
+// byte, an iterator over the array of its digits would take 1069 in place of 910. Three bytes have no array of
+// characters, from which LLVM would not see that each is ASCII (rustc 1.95, x86-64).
 #[inline]
 fn digits<const UPPER: bool, T: FromIterator<char>>(bytes: &[u8]) -> T {
     match bytes.len() {
@@ -192,14 +193,26 @@ fn digits<const UPPER: bool, T: FromIterator<char>>(bytes: &[u8]) -> T {
             };
             from_fn(next).collect()
         }
-        2..=32 => digits_in::<64, UPPER, T>(bytes),
+        2 => {
+            let [a, b] = digits_at::<true>(UPPER, bytes[0]);
+            let [c, d] = digits_at::<true>(UPPER, bytes[1]);
+            [character(a), character(b), character(c), character(d)].iter().copied().collect()
+        }
+        3 => {
+            let [a, b] = digits_at::<true>(UPPER, bytes[0]);
+            let [c, d] = digits_at::<true>(UPPER, bytes[1]);
+            let [e, f] = digits_at::<true>(UPPER, bytes[2]);
+            [a, b, c, d, e, f].iter().map(|digit| character(*digit)).collect()
+        }
+        4..=32 => digits_in::<64, UPPER, T>(bytes),
         33..=2048 => digits_in::<4096, UPPER, T>(bytes),
         _ => bytes.iter().flat_map(|byte| digits_at::<true>(UPPER, *byte)).map(character).collect(),
     }
 }
 
 /// Does the same in space for so many digits.
-#[inline]
+// Not inlined: it would need registers that fewer digits would have to save.
+#[inline(never)]
 fn digits_in<const COUNT: usize, const UPPER: bool, T: FromIterator<char>>(bytes: &[u8]) -> T {
     Space::<COUNT>::new().text(bytes, false, UPPER).iter().map(|digit| character(*digit)).collect()
 }

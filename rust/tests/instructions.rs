@@ -12,8 +12,8 @@ use std::process::Command;
 /// than a part of the bytes is encoded.
 const LIMITS: [(&str, usize, [i64; 3]); 18] = [
     ("encode", 1, [64, 29, 29]),
-    ("encode", 16, [63, 193, 29]),
-    ("encode", 20, [121, 235, 67]),
+    ("encode", 16, [63, 193, 30]),
+    ("encode", 20, [121, 235, 66]),
     ("encode", 32, [67, 361, 42]),
     ("encode", 64, [85, 697, 66]),
     ("encode", 256, [193, 2713, 136]),

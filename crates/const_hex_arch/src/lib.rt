@@ -26,6 +26,6 @@ pub use crate::sink::pieces::PieceSink;
 pub use crate::sink::{Sink, SinkError};
 pub use crate::stream::BufferedHex;
 pub use crate::tables::{
-    HEX_CHARS_LOWER, HEX_CHARS_UPPER, HEX_DECODE_LUT, NIL, digit_at, value_at,
+    HEX_CHARS_LOWER, HEX_CHARS_UPPER, HEX_DECODE_LUT, NIL, digit_at, is_digit, value_at,
 };
 pub use crate::text::{ascii_text, encode_full, fill_text, text_length};

@@ -1,7 +1,7 @@
 //! The digits of values, and the values of digits.
 
-ghost use Rattle.std.specs.Prelude.{◌≡◌, ◌<◌, ◌/◌, ◌%◌, [], ◌∷◌};
-ghost use Rattle.const_hex_arch.specs.{hex_digit, hex_value, value_or_nil};
+ghost use Rattle.std.specs.Prelude.{◌≡◌, ◌<◌, ◌/◌, ◌%◌, ◌↔◌, [], ◌∷◌, IsTrue};
+ghost use Rattle.const_hex_arch.specs.{IsDigit, hex_digit, hex_value, value_or_nil};
 
 /// The digit of each value, in lowercase.
 ///
@@ -114,6 +114,23 @@ pub fn value_at(b: u8) -> u8
     ensures { result ≡ value_or_nil (hex_value b) }
 {
     HEX_DECODE_LUT[b as usize]
+}
+
+/// Whether a byte is a digit, without a look-up.
+///
+/// ```rust
+/// assert!(rt; is_digit(b'B'));
+/// assert!(rt; !is_digit(b'g'));
+/// ```
+// Constant time: `is_ascii_hexdigit` would be compiled to branches on the byte. Three times a decimal digit, or five
+// times the place of a letter, is below 30.
+#[inline(always)]
+pub fn is_digit(byte: u8) -> bool
+    ensures { IsTrue result ↔ IsDigit byte }
+{
+    let decimal = u32::from(byte).wrapping_sub(48);
+    let letter = u32::from(byte | 32).wrapping_sub(97);
+    decimal.wrapping_mul(3).min(letter.wrapping_mul(5)) < 30
 }
 
 /// Both digits of a byte: with `PAIRS` by one look-up in a table of pairs, and else by two in a table of digits.

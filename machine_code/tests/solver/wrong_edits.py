@@ -39,7 +39,7 @@ WRONG = [
     ("a bit of the marks is not tested", "aarch64", "check", "movi v2.16b, #0xd8", "movi v2.16b, #0x58", PASSES),
     ("a result with other bits", "aarch64", "check", "cset w0, eq", "cset w0, eq; orr w0, w0, #0x100", NEITHER),
     ("the same half twice", "aarch64", "read", "uzp1 ", "uzp2 ", "a wrong byte at"),
-    ("the last 31 bytes are decoded as 32", "aarch64", "read", "cmp x9, #0x20; b.cc 12f", "cmp x9, #0x1f; b.cc 12f",
+    ("the last 31 bytes are decoded as 32", "aarch64", "read", "cmp x10, #0x20; b.cc 13f", "cmp x10, #0x1f; b.cc 13f",
      OUTSIDE),
     ("79 bytes are decoded as 80", "aarch64", "read", "cmp x2, #0x50", "cmp x2, #0x4f", OUTSIDE),
     # Functions for C

@@ -7,54 +7,10 @@
 	function const_hex_1_0_0_check_v2
 	cmp    rsi,0xf
 	ja     2f
-	cmp    rsi,0x2
-	jne    4f
-	movzx  eax,WORD PTR [rdi]
-	movd   xmm0,eax
-	jmp    5f
-2:
-	movdqu xmm1,XMMWORD PTR [rdi]
-	movdqa xmm2,XMMWORD PTR [rip + const_hex_1_0_0_constant_1_v2]
-	paddb  xmm2,xmm1
-	movdqa xmm0,XMMWORD PTR [rip + const_hex_1_0_0_constant_2_v2]
-	movdqa xmm3,xmm0
-	pshufb xmm3,xmm1
-	psubusb xmm2,xmm3
-	ptest  xmm2,XMMWORD PTR [rip + const_hex_1_0_0_constant_3_v2]
-	je     8f
-3:
-	xor    eax,eax
-	ret
-4:
-	jae    9f
-	test   rsi,rsi
-	je     16f
-	movzx  eax,BYTE PTR [rdi]
-	movd   xmm0,eax
-	pxor   xmm1,xmm1
-	pshufb xmm0,xmm1
-5:
-	movdqa xmm1,XMMWORD PTR [rip + const_hex_1_0_0_constant_1_v2]
-	paddb  xmm1,xmm0
-	movdqa xmm2,XMMWORD PTR [rip + const_hex_1_0_0_constant_2_v2]
-	pshufb xmm2,xmm0
-	psubusb xmm1,xmm2
-	movd   eax,xmm1
-	test   eax,0xd8d8
-6:
-	sete   al
-7:
-	ret
-8:
-	cmp    rsi,0x21
-	jae    12f
-	mov    al,0x1
-	cmp    rsi,0x10
-	je     7b
-	jmp    18f
-9:
+	cmp    rsi,0x4
+	jb     4f
 	cmp    rsi,0x8
-	jb     15f
+	jb     6f
 	movq   xmm0,QWORD PTR [rdi+rsi*1-0x8]
 	movq   xmm1,QWORD PTR [rdi]
 	punpcklqdq xmm1,xmm0
@@ -64,14 +20,66 @@
 	pshufb xmm2,xmm1
 	psubusb xmm0,xmm2
 	ptest  xmm0,XMMWORD PTR [rip + const_hex_1_0_0_constant_3_v2]
-	jmp    6b
-12:
+	sete   al
+	ret
+2:
+	movdqu xmm1,XMMWORD PTR [rdi]
+	movdqa xmm2,XMMWORD PTR [rip + const_hex_1_0_0_constant_1_v2]
+	paddb  xmm2,xmm1
+	movdqa xmm0,XMMWORD PTR [rip + const_hex_1_0_0_constant_2_v2]
+	movdqa xmm3,xmm0
+	pshufb xmm3,xmm1
+	psubusb xmm2,xmm3
+	ptest  xmm2,XMMWORD PTR [rip + const_hex_1_0_0_constant_3_v2]
+	je     5f
+3:
+	xor    eax,eax
+	ret
+4:
+	cmp    rsi,0x2
+	jne    7f
+	movzx  eax,WORD PTR [rdi]
+	movd   xmm0,eax
+	jmp    8f
+5:
+	cmp    rsi,0x21
+	jae    9f
+	mov    al,0x1
+	cmp    rsi,0x10
+	jne    17f
+	ret
+6:
+	movd   xmm0,DWORD PTR [rdi]
+	pinsrd xmm0,DWORD PTR [rdi+rsi*1-0x4],0x1
+	mov    eax,0x30303030
+	pinsrd xmm0,eax,0x2
+	pinsrd xmm0,eax,0x3
+	jmp    15f
+7:
+	jae    14f
+	test   rsi,rsi
+	je     18f
+	movzx  eax,BYTE PTR [rdi]
+	movd   xmm0,eax
+	pxor   xmm1,xmm1
+	pshufb xmm0,xmm1
+8:
+	movdqa xmm1,XMMWORD PTR [rip + const_hex_1_0_0_constant_1_v2]
+	paddb  xmm1,xmm0
+	movdqa xmm2,XMMWORD PTR [rip + const_hex_1_0_0_constant_2_v2]
+	pshufb xmm2,xmm0
+	psubusb xmm1,xmm2
+	movd   eax,xmm1
+	test   eax,0xd8d8
+	sete   al
+	ret
+9:
 	lea    rcx,[rsi-0x10]
 	mov    eax,0x10
 	cmp    rcx,0x41
-	jb     14f
-	.byte 0x66, 0x66, 0x66, 0x66, 0x2e, 0xf, 0x1f, 0x84, 0x0, 0x0, 0x0, 0x0, 0x0  /* data16 data16 data16 cs nop WORD PTR [rax+rax*1+0x0] */
-13:
+	jb     13f
+	.byte 0x66, 0x66, 0x66, 0x66, 0x66, 0x66, 0x2e, 0xf, 0x1f, 0x84, 0x0, 0x0, 0x0, 0x0, 0x0  /* data16 data16 data16 data16 data16 cs nop WORD PTR [rax+rax*1+0x0] */
+12:
 	movdqa xmm1,XMMWORD PTR [rip + const_hex_1_0_0_constant_1_v2]
 	movdqu xmm2,XMMWORD PTR [rdi+rax*1]
 	movdqu xmm3,XMMWORD PTR [rdi+rax*1+0x10]
@@ -101,12 +109,12 @@
 	add    rax,0x40
 	add    rcx,0xffffffffffffffc0
 	cmp    rcx,0x40
-	ja     13b
-14:
+	ja     12b
+13:
 	cmp    rcx,0x21
-	jb     17f
+	jb     16f
 	cmp    rcx,0x31
-	jb     21f
+	jb     19f
 	movdqu xmm3,XMMWORD PTR [rdi+rax*1]
 	movdqu xmm1,XMMWORD PTR [rdi+rax*1+0x10]
 	movdqa xmm2,XMMWORD PTR [rip + const_hex_1_0_0_constant_1_v2]
@@ -131,22 +139,31 @@
 	por    xmm2,xmm3
 	por    xmm2,xmm1
 	ptest  xmm2,XMMWORD PTR [rip + const_hex_1_0_0_constant_3_v2]
-	jmp    6b
-15:
-	cmp    rsi,0x4
-	jb     19f
-	movd   xmm0,DWORD PTR [rdi]
-	pinsrd xmm0,DWORD PTR [rdi+rsi*1-0x4],0x1
-	mov    eax,0x30303030
-	pinsrd xmm0,eax,0x2
-	pinsrd xmm0,eax,0x3
-	jmp    20f
-16:
-	mov    al,0x1
+	sete   al
 	ret
-17:
+14:
+	movzx  eax,WORD PTR [rdi]
+	movd   xmm0,eax
+	pinsrw xmm0,WORD PTR [rdi+rsi*1-0x2],0x1
+	mov    eax,0x3030
+	pinsrw xmm0,eax,0x2
+	pinsrw xmm0,eax,0x3
+	pinsrw xmm0,eax,0x4
+	pinsrw xmm0,eax,0x5
+	pinsrw xmm0,eax,0x6
+	pinsrw xmm0,eax,0x7
+15:
+	movdqa xmm1,XMMWORD PTR [rip + const_hex_1_0_0_constant_1_v2]
+	paddb  xmm1,xmm0
+	movdqa xmm2,XMMWORD PTR [rip + const_hex_1_0_0_constant_2_v2]
+	pshufb xmm2,xmm0
+	psubusb xmm1,xmm2
+	ptest  xmm1,XMMWORD PTR [rip + const_hex_1_0_0_constant_3_v2]
+	sete   al
+	ret
+16:
 	cmp    rcx,0x11
-	jb     18f
+	jb     17f
 	movdqu xmm1,XMMWORD PTR [rdi+rax*1]
 	movdqu xmm2,XMMWORD PTR [rdi+rsi*1-0x10]
 	movdqa xmm3,XMMWORD PTR [rip + const_hex_1_0_0_constant_1_v2]
@@ -159,35 +176,21 @@
 	psubusb xmm3,xmm0
 	por    xmm3,xmm1
 	ptest  xmm3,XMMWORD PTR [rip + const_hex_1_0_0_constant_3_v2]
-	jmp    6b
-18:
+	sete   al
+	ret
+17:
 	movdqu xmm1,XMMWORD PTR [rdi+rsi*1-0x10]
 	movdqa xmm2,XMMWORD PTR [rip + const_hex_1_0_0_constant_1_v2]
 	paddb  xmm2,xmm1
 	pshufb xmm0,xmm1
 	psubusb xmm2,xmm0
 	ptest  xmm2,XMMWORD PTR [rip + const_hex_1_0_0_constant_3_v2]
-	jmp    6b
+	sete   al
+	ret
+18:
+	mov    al,0x1
+	ret
 19:
-	movzx  eax,WORD PTR [rdi]
-	movd   xmm0,eax
-	pinsrw xmm0,WORD PTR [rdi+rsi*1-0x2],0x1
-	mov    eax,0x3030
-	pinsrw xmm0,eax,0x2
-	pinsrw xmm0,eax,0x3
-	pinsrw xmm0,eax,0x4
-	pinsrw xmm0,eax,0x5
-	pinsrw xmm0,eax,0x6
-	pinsrw xmm0,eax,0x7
-20:
-	movdqa xmm1,XMMWORD PTR [rip + const_hex_1_0_0_constant_1_v2]
-	paddb  xmm1,xmm0
-	movdqa xmm2,XMMWORD PTR [rip + const_hex_1_0_0_constant_2_v2]
-	pshufb xmm2,xmm0
-	psubusb xmm1,xmm2
-	ptest  xmm1,XMMWORD PTR [rip + const_hex_1_0_0_constant_3_v2]
-	jmp    6b
-21:
 	movdqu xmm1,XMMWORD PTR [rdi+rsi*1-0x10]
 	movdqa xmm2,XMMWORD PTR [rip + const_hex_1_0_0_constant_1_v2]
 	movdqa xmm3,xmm0
@@ -206,7 +209,8 @@
 	psubusb xmm2,xmm0
 	por    xmm2,xmm3
 	ptest  xmm2,XMMWORD PTR [rip + const_hex_1_0_0_constant_3_v2]
-	jmp    6b
+	sete   al
+	ret
 	end const_hex_1_0_0_check_v2
 
 /* const_hex_c::kernel::fill_lower */
@@ -591,18 +595,23 @@
 	function const_hex_1_0_0_read_v2
 	cmp    rdx,0x11
 	jae    2f
-	cmp    rdx,0x1
-	jne    5f
-	movzx  eax,WORD PTR [rdi]
-	movd   xmm1,eax
-	movdqa xmm2,XMMWORD PTR [rip + const_hex_1_0_0_constant_1_v2]
-	paddb  xmm2,xmm1
+	cmp    rdx,0x8
+	jb     5f
+	movdqu xmm2,XMMWORD PTR [rdi]
+	movdqu xmm3,XMMWORD PTR [rdi+rdx*2-0x10]
+	movdqa xmm4,XMMWORD PTR [rip + const_hex_1_0_0_constant_1_v2]
 	movdqa xmm0,XMMWORD PTR [rip + const_hex_1_0_0_constant_2_v2]
-	pshufb xmm0,xmm1
-	pminub xmm0,xmm2
-	psubb  xmm2,xmm0
-	movd   eax,xmm2
-	test   eax,0xd8d8
+	movdqa xmm1,xmm0
+	pshufb xmm1,xmm2
+	paddb  xmm2,xmm4
+	pminub xmm1,xmm2
+	psubb  xmm2,xmm1
+	paddb  xmm4,xmm3
+	pshufb xmm0,xmm3
+	pminub xmm0,xmm4
+	psubb  xmm4,xmm0
+	por    xmm4,xmm2
+	ptest  xmm4,XMMWORD PTR [rip + const_hex_1_0_0_constant_3_v2]
 	je     13f
 	xor    eax,eax
 	ret
@@ -613,7 +622,7 @@
 	and    eax,0x10
 	xor    ecx,ecx
 	mov    r8,rdx
-	.byte 0x66, 0x90  /* xchg   ax,ax */
+	.byte 0x66, 0xf, 0x1f, 0x44, 0x0, 0x0  /* nop    WORD PTR [rax+rax*1+0x0] */
 3:
 	movdqa xmm4,XMMWORD PTR [rip + const_hex_1_0_0_constant_1_v2]
 	movdqu xmm2,XMMWORD PTR [rdi+rcx*2]
@@ -701,23 +710,18 @@
 	ja     4b
 	jmp    7f
 5:
-	cmp    rdx,0x8
-	jb     12f
-	movdqu xmm2,XMMWORD PTR [rdi]
-	movdqu xmm3,XMMWORD PTR [rdi+rdx*2-0x10]
-	movdqa xmm4,XMMWORD PTR [rip + const_hex_1_0_0_constant_1_v2]
+	cmp    rdx,0x1
+	jne    12f
+	movzx  eax,WORD PTR [rdi]
+	movd   xmm1,eax
+	movdqa xmm2,XMMWORD PTR [rip + const_hex_1_0_0_constant_1_v2]
+	paddb  xmm2,xmm1
 	movdqa xmm0,XMMWORD PTR [rip + const_hex_1_0_0_constant_2_v2]
-	movdqa xmm1,xmm0
-	pshufb xmm1,xmm2
-	paddb  xmm2,xmm4
-	pminub xmm1,xmm2
-	psubb  xmm2,xmm1
-	paddb  xmm4,xmm3
-	pshufb xmm0,xmm3
-	pminub xmm0,xmm4
-	psubb  xmm4,xmm0
-	por    xmm4,xmm2
-	ptest  xmm4,XMMWORD PTR [rip + const_hex_1_0_0_constant_3_v2]
+	pshufb xmm0,xmm1
+	pminub xmm0,xmm2
+	psubb  xmm2,xmm0
+	movd   eax,xmm2
+	test   eax,0xd8d8
 	je     17f
 	xor    eax,eax
 	ret
@@ -770,11 +774,17 @@
 	xor    eax,eax
 	ret
 13:
-	movd   eax,xmm0
-	pextrb ecx,xmm0,0x1
-	shl    al,0x4
-	or     al,cl
-	mov    BYTE PTR [rsi],al
+	movdqa xmm2,xmm1
+	psllw  xmm2,0xc
+	paddw  xmm2,xmm1
+	movdqa xmm1,xmm0
+	psllw  xmm1,0xc
+	paddw  xmm1,xmm0
+	psrlw  xmm1,0x8
+	psrlw  xmm2,0x8
+	packuswb xmm2,xmm1
+	movq   QWORD PTR [rsi],xmm2
+	pextrq QWORD PTR [rsi+rdx*1-0x8],xmm2,0x1
 	mov    al,0x1
 	ret
 14:
@@ -817,17 +827,11 @@
 	xor    eax,eax
 	ret
 17:
-	movdqa xmm2,xmm1
-	psllw  xmm2,0xc
-	paddw  xmm2,xmm1
-	movdqa xmm1,xmm0
-	psllw  xmm1,0xc
-	paddw  xmm1,xmm0
-	psrlw  xmm1,0x8
-	psrlw  xmm2,0x8
-	packuswb xmm2,xmm1
-	movq   QWORD PTR [rsi],xmm2
-	pextrq QWORD PTR [rsi+rdx*1-0x8],xmm2,0x1
+	movd   eax,xmm0
+	pextrb ecx,xmm0,0x1
+	shl    al,0x4
+	or     al,cl
+	mov    BYTE PTR [rsi],al
 	mov    al,0x1
 	ret
 18:
@@ -856,9 +860,8 @@
 	movdqa xmm1,xmm0
 	psllw  xmm1,0xc
 	paddw  xmm1,xmm0
-	pxor   xmm0,xmm0
 	psrlw  xmm1,0x8
-	packuswb xmm1,xmm0
+	packuswb xmm1,xmm1
 	pextrw WORD PTR [rsi],xmm1,0x0
 	pextrw WORD PTR [rsi+rdx*1-0x2],xmm1,0x1
 	ret

@@ -1,7 +1,7 @@
 //! Space for a text or for bytes, which need not be initialized.
 
-use super::unchecked;
-use crate::proved::text_length;
+use super::{unchecked, Native};
+use crate::proved::{text_length, Kernel};
 use core::{mem::MaybeUninit, ptr};
 
 /// A type of bytes.
@@ -44,15 +44,31 @@ impl<const N: usize> Space<N> {
     #[inline]
     pub fn bytes<B: Byte>(&mut self, digits: &[u8]) -> Option<&[B; N]> {
         assert!(digits.len() == N << 1);
+        let bytes = self.0.as_mut_ptr().cast();
         // SAFETY: there are two digits for each of `N` bytes, and if the result is true, all bytes are written,
         // and each of them is a value of type `B`.
         unsafe {
-            match unchecked::read(digits.as_ptr(), self.0.as_mut_ptr().cast(), N) {
+            let is_valid = if Native::PIECE == 1 && matches!(N, 5..=22) {
+                read_apart::<N>(digits.as_ptr(), bytes)
+            } else {
+                unchecked::read(digits.as_ptr(), bytes, N)
+            };
+            match is_valid {
                 true => Some(&*self.0.as_ptr().cast()),
                 false => None,
             }
         }
     }
+}
+
+/// Decodes `N` bytes by `read`. Safety: the same.
+// Not inlined, where LLVM unrolls the loop over bytes: it would keep all of them in registers up to the last one, and
+// there are too few. So 8 bytes take 109 instructions in place of 147, and 20 take 238 in place of 296 (rustc 1.95,
+// x86-64).
+#[inline(never)]
+unsafe fn read_apart<const N: usize>(text: *const u8, bytes: *mut u8) -> bool {
+    // SAFETY: the caller promises what the function requires.
+    unsafe { unchecked::read(text, bytes, N) }
 }
 
 /// Writes the text of bytes, with `0x` before it if `prefix` is true.

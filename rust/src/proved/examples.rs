@@ -115,6 +115,12 @@ fn tables_value_at() {
 }
 
 #[test]
+fn tables_is_digit() {
+    assert!(is_digit(b'B'));
+    assert!(!is_digit(b'g'));
+}
+
+#[test]
 fn text_text_length() {
     assert_eq!(text_length(true, 20), 42);
     assert_eq!(text_length(false, usize::MAX), usize::MAX);

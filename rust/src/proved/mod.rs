@@ -31,7 +31,7 @@ pub use self::error::*;
 //   10  a function for C takes slices, which capi makes of pointers and lengths, and is compiled there alone
 //   65  all crates are one module
 //    3  an allocation never fails: without memory the program ends
-//   76  an assertion names no runtime
+//   78  an assertion names no runtime
 //    2  an example names a kernel that each target has
 //    4  an example uses no allocator
 //    2  and a constant converts by a cast
@@ -41,8 +41,8 @@ pub use self::error::*;
 //   13  and panics instead of returning an error
 //    1  and the crate's decoder is cloned
 //    2  before it reads a part, or ends
-//   45  deleted: attribute
-//  503  deleted: clause
+//   47  deleted: attribute
+//  539  deleted: clause
 //   99  deleted: ghost item
 //    3  deleted: model
 //    5  deleted: output

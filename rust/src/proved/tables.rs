@@ -84,6 +84,16 @@ pub const fn value_at(b: u8) -> u8 {
     HEX_DECODE_LUT[b as usize]
 }
 
+/// Whether a byte is a digit, without a look-up.
+// Constant time: `is_ascii_hexdigit` would be compiled to branches on the byte. Three times a decimal digit, or five
+// times the place of a letter, is below 30.
+#[inline(always)]
+pub fn is_digit(byte: u8) -> bool {
+    let decimal = u32::from(byte).wrapping_sub(48);
+    let letter = u32::from(byte | 32).wrapping_sub(97);
+    decimal.wrapping_mul(3).min(letter.wrapping_mul(5)) < 30
+}
+
 /// Both digits of a byte: with `PAIRS` by one look-up in a table of pairs, and else by two in a table of digits.
 #[inline(always)]
 pub(crate) const fn digits_at<const PAIRS: bool>(upper: bool, b: u8) -> [u8; 2] {

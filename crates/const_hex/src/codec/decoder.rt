@@ -5,7 +5,7 @@ ghost use Rattle.const_hex.specs.Prelude.{AllDigits, FirstBad, IsDigit, Partial,
 
 use crate::codec::body::{decode_body, find_first_bad, invalid_character, is_prefix, strip_prefix};
 use crate::error::FromHexError;
-use const_hex_arch::{FixedKernel, Kernel};
+use const_hex_arch::{FixedKernel, Kernel, is_digit};
 
 /// The state of a decoder that has neither half of a pair nor an error.
 const EVEN: u8 = 0;
@@ -360,16 +360,4 @@ fn check_last(last: &[u8]) -> bool
         [digit] => is_digit(*digit),
         _ => true,
     }
-}
-
-/// Whether a byte is a digit.
-// Constant time: `is_ascii_hexdigit` would be compiled to branches on the byte.
-#[inline(always)]
-fn is_digit(byte: u8) -> bool
-    ensures { IsTrue result ↔ IsDigit byte }
-{
-    let decimal = byte.wrapping_sub(b'0');
-    let upper = byte.wrapping_sub(b'A').saturating_add(4);
-    let lower = byte.wrapping_sub(b'a').saturating_add(4);
-    decimal.min(upper).min(lower) < 10
 }

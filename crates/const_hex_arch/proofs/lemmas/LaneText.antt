@@ -1,8 +1,10 @@
 -- Look-ups in vectors, the text of lanes, and lanes that are interleaved.
-use Rattle.std.proofs.Common.{◌≡◌, ℕ, ◌*◌, Bool, ltb, T, ◌||◌, ◌&&◌, List, [], ◌∷◌, ◌++◌, length, replicate, bit_and, sym, subst, ◌∙◌, arith, w8, Fits, length-append, zero, suc, ◌+◌, ◌/◌, ◌%◌, ◌^◌, ◌<◌, true, false, eqb, map, get_or, refl, ap, eqb→eq, bit_or}
+use Rattle.std.proofs.Common.{◌≡◌, ℕ, ◌*◌, Bool, ltb, T, ◌||◌, ◌&&◌, List, [], ◌∷◌, ◌++◌, length, replicate, bit_and, sym, subst, ◌∙◌, arith, w8, Fits, length-append, zero, suc, ◌+◌, ◌/◌, ◌%◌, ◌^◌, ◌<◌, true, false, eqb, map, get_or, refl, ap, eqb→eq, bit_or, w16, w32, take, drop, ◌≤◌}
 use Rattle.std.specs.List.{AllZip, range_with_len, concat}
 use Rattle.std.proofs.lemmas.Grind.{common_steps}
-use Rattle.std.proofs.lemmas.Simd.{SwzOk, SwzOk-from_Each1, length-zip2, length-replicate, pick_l-range_with_len, Each1-get_or, SwzOk-from_below, swz_l, length-swz_l, get_or-swz_l_below}
+use Rattle.std.specs.Int.{from_le_bytes, to_le_bytes}
+use Rattle.std.proofs.lemmas.Nat.{le_bytes_2, le_bytes_4}
+use Rattle.std.proofs.lemmas.Simd.{length-chunk, Each1-chunk, below_from_Fits, get_or_wider, SwzOk, SwzOk-from_Each1, length-zip2, length-replicate, pick_l-range_with_len, Each1-get_or, SwzOk-from_below, swz_l, length-swz_l, get_or-swz_l_below}
 use lib.Ieee.Fits.{and_l, and_r}
 use lib.Lanes.{zip2, Each1, pick_l, number_l, digits_l}
 use mir.Val.{zeroes}
@@ -217,21 +219,56 @@ byte_text up x n h e =
     let second : digits_number up x / 256 % 256 ≡ hex_digit up (x % 16) = eqb→eq _ _ (and_r _ _ both) in
     rw (e, first, second) refl
 
+-- ---- bytes of a vector, read as one number and written again
+
+get_or_below : (u : List ℕ) (i : ℕ) → Each1 (Fits w8) u → get_or u i 0 < 256
+get_or_below [] i f = omega arith
+get_or_below (x ∷ u) zero f = f.0.fits
+get_or_below (x ∷ u) (suc i) f = get_or_below u i f.1
+
+-- number j of those of k bytes
+number_is : (k m j : ℕ) (v : List ℕ) → j < m → Each1 (Fits w8) v
+    → get_or (digits_l (256 ^ k) m (number_l 256 v)) j 0 ≡ number_l 256 (take k (drop (k * j) v))
+number_is k m j v less f = get_or_wider 256 k (256 ^ k) m v j refl (below_from_Fits w8 v f) less
+
+two_are : (u : List ℕ) → length u ≡ 2 → number_l 256 u ≡ from_le_bytes w16 u
+two_are (a ∷ b ∷ []) e = omega arith
+two_are _ e = absurd (omega arith)
+
+four_are : (u : List ℕ) → length u ≡ 4 → number_l 256 u ≡ from_le_bytes w32 u
+four_are (a ∷ b ∷ c ∷ d ∷ []) e = omega arith
+four_are _ e = absurd (omega arith)
+
+pub two_bytes_again : (j : ℕ) (v : List ℕ) → j < 8 → 2 * j + 2 ≤ length v → Each1 (Fits w8) v
+    → to_le_bytes w16 (get_or (digits_l (2 ^ 16) 8 (number_l 256 v)) j 0) ≡ take 2 (drop (2 * j) v)
+two_bytes_again j v less long f =
+    let size = length-chunk (2 * j) 2 v long in
+    le_bytes_2 _ _ size (λ i. get_or_below _ i (Each1-chunk (Fits w8) (2 * j) 2 v f)) (number_is 2 8 j v less f ∙ two_are _ size)
+
+pub four_bytes_again : (j : ℕ) (v : List ℕ) → j < 4 → 4 * j + 4 ≤ length v → Each1 (Fits w8) v
+    → to_le_bytes w32 (get_or (digits_l (2 ^ 32) 4 (number_l 256 v)) j 0) ≡ take 4 (drop (4 * j) v)
+four_bytes_again j v less long f =
+    let size = length-chunk (4 * j) 4 v long in
+    le_bytes_4 _ _ size (λ i. get_or_below _ i (Each1-chunk (Fits w8) (4 * j) 4 v f)) (number_is 4 4 j v less f ∙ four_are _ size)
+
 -- ---- the values of a text, by pairs
 
--- n pairs from position i on
-abbrev pub pairs_from : ℕ → ℕ → List ℕ → List ℕ
-pairs_from i zero u = []
-pairs_from i (suc n) u = bit_or (get_or u i 0 * 16 % 256) (bit_and (get_or u (suc i) 0) 15) ∷ pairs_from (suc (suc i)) n u
+-- n pairs from position i on, of whose second value f is taken
+abbrev pub pairs_from : (ℕ → ℕ) → ℕ → ℕ → List ℕ → List ℕ
+pairs_from f i zero u = []
+pairs_from f i (suc n) u = bit_or (get_or u i 0 * 16 % 256) (f (get_or u (suc i) 0)) ∷ pairs_from f (suc (suc i)) n u
 
-after_two : (h l i n : ℕ) (u : List ℕ) → pairs_from (suc (suc i)) n (h ∷ l ∷ u) ≡ pairs_from i n u
-after_two h l i zero u = refl
-after_two h l i (suc n) u =
-    ap (λ x. bit_or (get_or u i 0 * 16 % 256) (bit_and (get_or u (suc i) 0) 15) ∷ x) (after_two h l (suc (suc i)) n u)
+after_two : (f : ℕ → ℕ) (h l i n : ℕ) (u : List ℕ) → pairs_from f (suc (suc i)) n (h ∷ l ∷ u) ≡ pairs_from f i n u
+after_two f h l i zero u = refl
+after_two f h l i (suc n) u =
+    ap (λ x. bit_or (get_or u i 0 * 16 % 256) (f (get_or u (suc i) 0)) ∷ x) (after_two f h l (suc (suc i)) n u)
 
-pub pairs_are : (n : ℕ) (u : List ℕ) → length u ≡ 2 * n → AllNibbles u → pairs_from 0 n u ≡ byte_pairs u
-pairs_are zero [] e a = refl
-pairs_are (suc n) (h ∷ l ∷ u) e a =
-    let low : bit_and l 15 ≡ l = same_below (λ l. bit_and l 15) (λ l. l) 16 tt l (omega arith) in
-    rw (low, joined h l (omega arith) (omega arith), after_two h l 0 n u, pairs_are n u (omega arith) a.1.1) refl
-pairs_are _ _ e a = absurd (omega arith)
+pub pairs_are : (f : ℕ → ℕ) → ((l : ℕ) → l < 16 → f l ≡ l) → (n : ℕ) (u : List ℕ) → length u ≡ 2 * n → AllNibbles u
+    → pairs_from f 0 n u ≡ byte_pairs u
+pairs_are f k zero [] e a = refl
+pairs_are f k (suc n) (h ∷ l ∷ u) e a =
+    rw (k l (omega arith), joined h l (omega arith) (omega arith), after_two f h l 0 n u, pairs_are f k n u (omega arith) a.1.1) refl
+pairs_are f k _ _ e a = absurd (omega arith)
+
+pub masked : (l : ℕ) → l < 16 → bit_and l 15 ≡ l
+masked l h = same_below (λ l. bit_and l 15) (λ l. l) 16 tt l h

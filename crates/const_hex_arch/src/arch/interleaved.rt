@@ -8,11 +8,12 @@ use crate::arch::lanes::{LaneOps, PairOps};
 use crate::arch::lanes16::{self, Lanes16};
 use crate::arch::lanes32::Lanes32;
 use crate::arch::{Kernel, loops, small_input, steps};
+use crate::tables::is_digit;
 use std::simd::prelude::*;
 
-/// As [`Lanes32`], for a processor that interleaves the lanes of two vectors by one instruction. It decodes
-/// more than 16 bytes by a step of 16 first, and then as `decode_all` of [`Lanes32`]. 4 bytes to decode, and
-/// 8 characters to check, have paths of their own.
+/// As [`Lanes32`], for a processor that interleaves the lanes of two vectors by one instruction. The start of a text
+/// has a test of its own, so that most invalid texts cost little: 32 characters of more than 16 bytes to decode, 8 of
+/// 8 to 15 bytes, 16 of 16 to 31 characters to check, and 1 of fewer. 2 to 4 bytes to decode are tested as one number.
 ///
 /// ```rust
 /// let mut bytes = [0; 4];
@@ -41,11 +42,17 @@ impl Kernel for Interleaved {
         fill::<true>(input, true, output);
     }
 
-    // 8 characters, as many as a function selector of Ethereum has, are asked for before less.
+    // 8 characters, as many as a function selector of Ethereum has, have a path of their own.
     #[inline]
     fn check(input: &[u8]) -> bool {
         if input.len() >= 32 {
             loops::check_in_steps::<32, Interleaved>(input)
+        } else if input.len() >= 16 {
+            loops::check_in_steps::<16, Interleaved>(input)
+        } else if input.len() == 2 {
+            small_input::check_two::<Interleaved>(input[0], input[1])
+        } else if input.len() > 2 && !is_digit(input[0]) {
+            false
         } else if input.len() == 8 {
             // A slice whose length LLVM knows.
             small_input::check_ends::<8, Interleaved>(&input[..8])
@@ -54,18 +61,25 @@ impl Kernel for Interleaved {
         }
     }
 
-    // In this order LLVM asks for 1 before it asks for 4.
     #[inline(always)]
     #[tactic(auto, using(crate::proofs::lemmas::FirstInvalid::none_decoded))]
     fn decode_checked(input: &[u8], output: &mut [u8]) -> bool {
-        if output.len() > 16 {
-            loops::decode_long::<32, false, true, Interleaved, Interleaved>(input, output)
-        } else if output.len() == 4 {
-            small_input::decode_ends::<4, 8, Interleaved>(input, output)
+        if output.len() >= 16 {
+            if output.len() == 16 {
+                small_input::decode_ends::<8, 16, 16, 32, Interleaved>(input, output)
+            } else {
+                loops::decode_long::<32, false, true, Interleaved, Interleaved>(input, output)
+            }
         } else if output.len() == 1 {
             small_input::decode_byte::<Interleaved>(input, output)
+        } else if output.len() < 4 {
+            output.is_empty() || small_input::decode_pair::<Interleaved>(input, output)
+        } else if output.len() == 4 {
+            small_input::decode_four::<Interleaved>(input, output)
+        } else if output.len() >= 8 {
+            small_input::decode_apart::<Interleaved>(input, output)
         } else {
-            small_input::decode_short::<Interleaved>(input, output)
+            small_input::decode_ends::<4, 8, 16, 32, Interleaved>(input, output)
         }
     }
 
@@ -76,14 +90,14 @@ impl Kernel for Interleaved {
 }
 
 /// Fills the output with the text of the input. `CASE` makes two functions of it, as of `fill_in_steps`.
-// 1 byte, a long text and 16 bytes are asked for first. Of 33 to 48 bytes the last 16 are the rest.
+// 1 to 3 bytes, a long text and 16 bytes are asked for first. Of 33 to 48 bytes the last 16 are the rest.
 #[inline(always)]
 fn fill<const CASE: bool>(input: &[u8], upper: bool, output: &mut [u8])
     requires { length output.old ≡ 2 * length input.now }
     ensures { output.new ≡ hex_text upper input.now }
 {
-    if input.len() == 1 {
-        small_input::fill_byte(input[0], upper, output);
+    if input.len() < 4 {
+        small_input::fill::<Interleaved>(input, upper, output);
     } else if input.len() >= 64 {
         loops::fill_in_steps::<32, CASE, Interleaved, Interleaved>(input, upper, output);
     } else if input.len() == 16 {
@@ -132,8 +146,8 @@ impl LaneOps<16> for Interleaved {
         ensures { AllNibbles (first ++ second) → result ≡ byte_pairs (first ++ second) }
     {
         let (high, low) = first.deinterleave(second);
-        // With the mask, which changes no value, LLVM takes one instruction for all three operations.
-        (high << u8x16::splat(4)) | (low & u8x16::splat(15))
+        // Without a mask: of a few lanes, LLVM would apply it to all.
+        (high << u8x16::splat(4)) | low
     }
 
     #[inline(always)]
@@ -171,6 +185,7 @@ impl LaneOps<32> for Interleaved {
         ensures { AllNibbles (first ++ second) → result ≡ byte_pairs (first ++ second) }
     {
         let (high, low) = first.deinterleave(second);
+        // With the mask, which changes no value, LLVM takes one instruction for all three operations.
         (high << u8x32::splat(4)) | (low & u8x32::splat(15))
     }
 

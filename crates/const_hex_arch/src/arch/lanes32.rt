@@ -123,10 +123,13 @@ impl Kernel for Lanes32 {
     // kernel. With all of `check` in that branch, the decoders would be too large to be inlined.
     #[inline]
     fn check(input: &[u8]) -> bool {
-        if input.len() < 32 {
-            return small_input::check::<Lanes16>(input);
+        if input.len() < 16 {
+            small_input::check::<Lanes16>(input)
+        } else if input.len() < 32 {
+            small_input::check_overlapping::<16, Lanes16>(input)
+        } else {
+            loops::check_in_steps::<32, Lanes32>(input)
         }
-        loops::check_in_steps::<32, Lanes32>(input)
     }
 
     #[inline(always)]
@@ -134,9 +137,20 @@ impl Kernel for Lanes32 {
         loops::decode_in_steps::<32, true, Lanes32, Lanes16>(input, output)
     }
 
+    // 17 to 32 bytes are a step of the first and of the last 32 characters, and up to 64 bytes the first and the last
+    // step.
     #[inline(always)]
+    #[tactic(auto, using(crate::proofs::lemmas::FirstInvalid::none_decoded))]
     fn decode_all(input: &[u8], output: &mut [u8]) -> bool {
-        loops::decode_in_steps::<32, false, Lanes32, Lanes16>(input, output)
+        if output.len() <= 16 {
+            small_input::decode_short::<Lanes16>(input, output)
+        } else if output.len() <= 32 {
+            small_input::decode_ends::<16, 32, 32, 64, Lanes32>(input, output)
+        } else if output.len() <= 64 {
+            small_input::decode_overlapping::<32, Lanes32>(input, output)
+        } else {
+            loops::decode_long::<32, false, false, Lanes32, Lanes16>(input, output)
+        }
     }
 
     #[inline(always)]

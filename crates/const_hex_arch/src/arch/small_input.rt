@@ -1,6 +1,6 @@
 //! Encodes, checks and decodes a short input, by its first and its last bytes at once.
 
-ghost use Rattle.std.specs.Prelude.{◌≡◌, [], ◌∷◌, ◌+◌, ◌*◌, ◌<◌, ◌≤◌, ◌++◌, ◌↔◌, length, take, IsTrue, false};
+ghost use Rattle.std.specs.Prelude.{◌≡◌, [], ◌∷◌, ◌+◌, ◌*◌, ◌<◌, ◌≤◌, ◌++◌, ◌↔◌, length, take, drop, IsTrue, false};
 ghost use Rattle.const_hex_arch.specs.{AllDigits, Spells, Partial, hex_text};
 
 use crate::arch::lanes::{self, LaneOps, PairOps};
@@ -82,28 +82,33 @@ fn fill_ends<const H: usize, const D: usize, S: LaneOps<16>>(
     let mut text = [0; 32];
     let ends = steps::load_ends::<H, 16>(bytes, 0);
     steps::fill_step::<16, S>(&ends, upper, upper, &mut text);
-    // Two parts of the array, which LLVM keeps in registers.
-    let (first, last) = (Simd::from_slice(&text), Simd::from_slice(&text[D..]));
     // Not by the output's length: so a function that is not inlined needs no register for it.
-    put::<D>(first, last, 2 * bytes.len() - D, output);
+    let start = 2 * bytes.len() - D;
+    if D == 4 {
+        put_fours(Simd::from_slice(&text), start, output);
+    } else {
+        // Two parts of the array, which LLVM keeps in registers.
+        let (first, last) = (Simd::from_slice(&text), Simd::from_slice(&text[D..]));
+        put::<D>(first, last, start, output);
+    }
 }
 
-/// Whether every byte of a text of less than 32 bytes is a digit.
+/// Whether every byte of a text of less than 16 bytes is a digit.
 #[inline(always)]
 pub(crate) fn check<S: LaneOps<16> + PairOps>(text: &[u8]) -> bool
-    requires { length text.now < 32 }
+    requires { length text.now < 16 }
     ensures { IsTrue result ↔ AllDigits text.now }
 {
-    if text.len() >= 16 {
-        check_overlapping::<16, S>(text)
+    if text.len() >= 4 {
+        if text.len() >= 8 {
+            check_ends::<8, S>(text)
+        } else {
+            check_ends::<4, S>(text)
+        }
     } else if text.len() == 2 {
         check_two::<S>(text[0], text[1])
     } else if text.len() < 2 {
         text.is_empty() || check_one::<S>(text[0])
-    } else if text.len() >= 8 {
-        check_ends::<8, S>(text)
-    } else if text.len() >= 4 {
-        check_ends::<4, S>(text)
     } else {
         check_ends::<2, S>(text)
     }
@@ -120,7 +125,7 @@ fn check_one<S: LaneOps<16>>(character: u8) -> bool
 
 /// As `check`, for two characters.
 #[inline(always)]
-fn check_two<S: LaneOps<16> + PairOps>(first: u8, second: u8) -> bool
+pub(crate) fn check_two<S: LaneOps<16> + PairOps>(first: u8, second: u8) -> bool
     ensures { IsTrue result ↔ AllDigits (first ∷ second ∷ []) }
 {
     let marks = lanes::marks::<16, S>(S::from_pair(first, second));
@@ -129,7 +134,7 @@ fn check_two<S: LaneOps<16> + PairOps>(first: u8, second: u8) -> bool
 
 /// As `check`, for one to two steps: one test covers the first one and the last one. `V` has the `N` lanes of a step.
 #[inline(always)]
-fn check_overlapping<const N: usize, V: LaneOps<N>>(text: &[u8]) -> bool
+pub(crate) fn check_overlapping<const N: usize, V: LaneOps<N>>(text: &[u8]) -> bool
     requires least { N ≤ length text.now }
     requires most { length text.now ≤ 2 * N }
     ensures { IsTrue result ↔ AllDigits text.now }
@@ -162,14 +167,14 @@ pub(crate) fn decode_short<S: LaneOps<16> + PairOps>(text: &[u8], output: &mut [
     ensures spells { IsTrue result → Spells text.now output.new }
     ensures unchanged { result ≡ false → output.new ≡ output.old }
 {
-    if output.len() == 1 {
+    if output.len() >= 8 {
+        decode_ends::<8, 16, 16, 32, S>(text, output)
+    } else if output.len() == 1 {
         decode_byte::<S>(text, output)
-    } else if output.len() >= 8 {
-        decode_ends::<8, 16, S>(text, output)
     } else if output.len() >= 4 {
-        decode_ends::<4, 8, S>(text, output)
+        decode_ends::<4, 8, 16, 32, S>(text, output)
     } else {
-        output.is_empty() || decode_ends::<2, 4, S>(text, output)
+        output.is_empty() || decode_ends::<2, 4, 16, 32, S>(text, output)
     }
 }
 
@@ -198,16 +203,20 @@ pub(crate) fn decode_pairs(text: &[u8], output: &mut [u8]) -> bool
     Plain::decode_checked(text, output)
 }
 
-/// Decodes a text to `H` to `2 * H` bytes and returns true. If some byte is not a digit, returns
-/// false, and the output is unchanged. `D` is `2 * H`, the number of digits of `H` bytes.
+/// Decodes a text to `H` to `2 * H` bytes and returns true. If some byte is not a digit, returns false, and the output
+/// is unchanged. `D` is `2 * H`, the number of digits of `H` bytes. `V` has `N` lanes, and `M` is `2 * N`.
 #[inline(always)]
 #[tactic(auto, using(crate::proofs::lemmas::Standard::through, crate::proofs::lemmas::Ends::digits_ends, std::proofs::lemmas::List::take_all))]
-pub(crate) fn decode_ends<const H: usize, const D: usize, S: LaneOps<16>>(
-    text: &[u8],
-    output: &mut [u8],
-) -> bool
-    requires half { H ≤ 8 }
-    requires digits { D ≡ 2 * H }
+pub(crate) fn decode_ends<
+    const H: usize,
+    const D: usize,
+    const N: usize,
+    const M: usize,
+    V: LaneOps<N>,
+>(text: &[u8], output: &mut [u8]) -> bool
+    requires half { 2 * H ≤ N }
+    requires lanes { 16 ≤ N }
+    requires digits { (D ≡ 2 * H) × (M ≡ 2 * N) }
     requires size { length text.now ≡ 2 * length output.old }
     requires least { H ≤ length output.old }
     requires most { length output.old ≤ 2 * H }
@@ -215,13 +224,91 @@ pub(crate) fn decode_ends<const H: usize, const D: usize, S: LaneOps<16>>(
     ensures spells { IsTrue result → Spells text.now output.new }
     ensures unchanged { result ≡ false → output.new ≡ output.old }
 {
-    let mut bytes = [0; 16];
+    let mut bytes = [0; N];
     // Not by the text's length: so a function that is not inlined needs no register for it.
-    let step = steps::load_ends::<D, 32>(&text[..2 * output.len()], b'0');
-    let are_digits = steps::decode_step::<16, S>(&step, false, &mut bytes);
+    let step = steps::load_ends::<D, M>(&text[..2 * output.len()], b'0');
+    let are_digits = steps::decode_step::<N, V>(&step, false, &mut bytes);
     if are_digits {
-        let last = Simd::from_slice(&bytes[H..]);
-        put::<H>(Simd::from_slice(&bytes), last, output.len() - H, output);
+        put_lanes::<H>(&bytes, output.len() - H, output);
+    }
+    are_digits
+}
+
+/// As `decode_short`, for one to two steps, the first one and the last one, by one test. `V` has the `N` lanes of a step.
+#[inline(always)]
+pub(crate) fn decode_overlapping<const N: usize, V: LaneOps<N>>(
+    text: &[u8],
+    output: &mut [u8],
+) -> bool
+    requires size { length text.now ≡ 2 * length output.old }
+    requires least { N ≤ length output.old }
+    requires most { length output.old ≤ 2 * N }
+    ensures digits { IsTrue result ↔ AllDigits text.now }
+    ensures spells { IsTrue result → Spells text.now output.new }
+    ensures unchanged { result ≡ false → output.new ≡ output.old }
+{
+    let start = output.len() - N;
+    let (first, last) = (&text[..2 * N], &text[2 * start..]);
+    let are_digits = steps::check_two_pairs::<N, V>(first, last);
+    if are_digits {
+        let first = steps::decode_vector::<N, V>(first, false);
+        let last = steps::decode_vector::<N, V>(last, false);
+        put::<N>(first, last, start, output);
+    }
+    are_digits
+}
+
+/// As `decode_short`, for at least 8 bytes. The first 8 characters have a test of their own, so that most invalid
+/// texts cost little.
+#[inline(always)]
+pub(crate) fn decode_apart<S: LaneOps<16>>(text: &[u8], output: &mut [u8]) -> bool
+    requires size { length text.now ≡ 2 * length output.old }
+    requires least { 8 ≤ length output.old }
+    requires most { length output.old ≤ 16 }
+    ensures digits { IsTrue result ↔ AllDigits text.now }
+    ensures spells { IsTrue result → Spells text.now output.new }
+    ensures unchanged { result ≡ false → output.new ≡ output.old }
+{
+    lanes16::is_half_unmarked(lanes::marks::<16, S>(Simd::from_slice(text)))
+        && decode_ends::<8, 16, 16, 32, S>(text, output)
+}
+
+/// As `decode_short`, for 2 to 4 bytes, whose first and last 4 characters are tested as one number.
+#[inline(always)]
+pub(crate) fn decode_pair<S: LaneOps<16>>(text: &[u8], output: &mut [u8]) -> bool
+    requires size { length text.now ≡ 2 * length output.old }
+    requires least { 2 ≤ length output.old }
+    requires most { length output.old ≤ 4 }
+    ensures digits { IsTrue result ↔ AllDigits text.now }
+    ensures spells { IsTrue result → Spells text.now output.new }
+    ensures unchanged { result ≡ false → output.new ≡ output.old }
+{
+    // Not by the text's length: so a function that is not inlined needs no register for it.
+    let step = steps::load_ends::<4, 16>(&text[..2 * output.len()], b'0');
+    let lanes = Simd::from_slice(&step);
+    let are_digits = lanes16::is_half_unmarked(lanes::marks::<16, S>(lanes));
+    if are_digits {
+        let bytes = lanes::decode::<16, S>(lanes, lanes, false);
+        put_twos(bytes, output.len() - 2, output);
+    }
+    are_digits
+}
+
+/// As `decode_short`, for 4 bytes. Both halves of a vector are the text, and one of them is tested.
+#[inline(always)]
+pub(crate) fn decode_four<S: LaneOps<16>>(text: &[u8], output: &mut [u8]) -> bool
+    requires text { length text.now ≡ 8 }
+    requires output { length output.old ≡ 4 }
+    ensures digits { IsTrue result ↔ AllDigits text.now }
+    ensures spells { IsTrue result → Spells text.now output.new }
+    ensures unchanged { result ≡ false → output.new ≡ output.old }
+{
+    let step = steps::load_ends::<8, 16>(&text[..8], b'0');
+    let lanes = Simd::from_slice(&step);
+    let are_digits = lanes16::is_half_unmarked(lanes::marks::<16, S>(lanes));
+    if are_digits {
+        let bytes = lanes::decode::<16, S>(lanes, lanes, false);
+        put_fours(bytes, 0, output);
     }
     are_digits
 }
@@ -229,6 +316,7 @@ pub(crate) fn decode_ends<const H: usize, const D: usize, S: LaneOps<16>>(
 /// Decodes two characters to a byte and returns true. If one is not a digit, returns false, and the output is
 /// unchanged.
 #[inline(always)]
+#[tactic(auto, using(crate::proofs::lemmas::LaneMarks::pair_byte, crate::proofs::lemmas::Steps::two_bytes, crate::proofs::lemmas::Steps::one_byte))]
 pub(crate) fn decode_byte<S: LaneOps<16> + PairOps>(text: &[u8], output: &mut [u8]) -> bool
     requires text { length text.now ≡ 2 }
     requires output { length output.old ≡ 1 }
@@ -236,9 +324,10 @@ pub(crate) fn decode_byte<S: LaneOps<16> + PairOps>(text: &[u8], output: &mut [u
     ensures spells { IsTrue result → Spells text.now output.new }
     ensures unchanged { result ≡ false → output.new ≡ output.old }
 {
-    let lanes = S::from_pair(text[0], text[1]);
-    let are_digits = lanes16::is_pair_unmarked(lanes::marks::<16, S>(lanes));
+    let are_digits = check_two::<S>(text[0], text[1]);
     if are_digits {
+        // The compiler merges this with what the check has computed.
+        let lanes = S::from_pair(text[0], text[1]);
         let values = lanes::values::<16, S>(lanes).to_array();
         output[0] = (values[0] << 4) | values[1];
     }
@@ -256,4 +345,52 @@ fn put<const H: usize>(first: Simd<u8, H>, last: Simd<u8, H>, start: usize, outp
 {
     first.copy_to_slice(output);
     last.copy_to_slice(&mut output[start..]);
+}
+
+/// As `put`, for the first and the next `H` lanes. Of 2 and 4 these are numbers: for AArch64, LLVM would move each lane
+/// of such a vector.
+#[inline(always)]
+fn put_lanes<const H: usize>(lanes: &[u8], start: usize, output: &mut [u8])
+    requires half { 2 * H ≤ length lanes.now }
+    requires lanes { 16 ≤ length lanes.now }
+    requires start { start + H ≡ length output.old }
+    requires most { length output.old ≤ 2 * H }
+    ensures { output.new ≡ take start (take H lanes.now) ++ take H (drop H lanes.now) }
+{
+    if H == 2 {
+        put_twos(Simd::from_slice(lanes), start, output);
+    } else if H == 4 {
+        put_fours(Simd::from_slice(lanes), start, output);
+    } else {
+        put::<H>(
+            Simd::from_slice(lanes),
+            Simd::from_slice(&lanes[H..]),
+            start,
+            output,
+        );
+    }
+}
+
+/// As `put_lanes`, for 4 lanes.
+#[inline(always)]
+fn put_fours(ends: u8x16, start: usize, output: &mut [u8])
+    requires start { start + 4 ≡ length output.old }
+    requires most { length output.old ≤ 8 }
+    ensures { output.new ≡ take start (take 4 ends) ++ take 4 (drop 4 ends) }
+{
+    let numbers = u32x4::from_le_bytes(ends).to_array();
+    output[..4].copy_from_slice(&numbers[0].to_le_bytes());
+    output[start..].copy_from_slice(&numbers[1].to_le_bytes());
+}
+
+/// As `put_lanes`, for 2 lanes.
+#[inline(always)]
+fn put_twos(ends: u8x16, start: usize, output: &mut [u8])
+    requires start { start + 2 ≡ length output.old }
+    requires most { length output.old ≤ 4 }
+    ensures { output.new ≡ take start (take 2 ends) ++ take 2 (drop 2 ends) }
+{
+    let numbers = u16x8::from_le_bytes(ends).to_array();
+    output[..2].copy_from_slice(&numbers[0].to_le_bytes());
+    output[start..].copy_from_slice(&numbers[1].to_le_bytes());
 }

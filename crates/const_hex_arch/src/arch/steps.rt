@@ -186,7 +186,10 @@ pub(crate) fn decode_two_steps<const N: usize, V: LaneOps<N>>(
 // The test has already computed these values for the marks. The compiler merges both computations.
 #[inline(always)]
 #[tactic(auto, using(crate::proofs::lemmas::LaneValues::in_two))]
-fn decode_vector<const N: usize, V: LaneOps<N>>(text: &[u8], second_row: bool) -> Simd<u8, N>
+pub(crate) fn decode_vector<const N: usize, V: LaneOps<N>>(
+    text: &[u8],
+    second_row: bool,
+) -> Simd<u8, N>
     requires text { length text.now ≡ 2 * N }
     requires digits { AllDigits text.now }
     ensures { Spells text.now result }

@@ -69,6 +69,12 @@ pub(crate) fn is_pair_unmarked(marks: u8x16) -> bool {
     u16x8::from_le_bytes(marks & u8x16::splat(0xD8)).to_array()[0] == 0
 }
 
+/// As `is_pair_unmarked`, for the first eight marks.
+#[inline(always)]
+pub(crate) fn is_half_unmarked(marks: u8x16) -> bool {
+    u64x2::from_le_bytes(marks & u8x16::splat(0xD8)).to_array()[0] == 0
+}
+
 /// Half of a row, in both halves of a vector.
 #[inline(always)]
 pub(crate) fn in_both_halves(lanes: [u8; 16]) -> u8x32 {

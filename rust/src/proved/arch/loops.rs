@@ -125,7 +125,7 @@ pub(crate) fn decode_in_steps<
 /// As `decode_in_steps`, for at least 16 bytes. If `ALONE`, the first 16 have a test of their own, so that most
 /// invalid texts cost little. Two steps share one test. A step with an invalid character writes nothing. After the
 /// steps of `N` lanes, one of 16 is decoded if more than 16 bytes are left. The last 16 bytes of the output cover the
-/// remainder, some of them again; but without `FRONT` one byte after the steps of `N` lanes is decoded alone. With
+/// remainder, some of them again; but without `FRONT` one byte after the steps is decoded alone. With
 /// `FRONT` a valid first one of two steps is decoded if their test fails, and of a remainder of less than 16 bytes the
 /// pairs before an invalid character. Without it the call ends there.
 #[inline(always)]
@@ -168,20 +168,21 @@ pub(crate) fn decode_long<
     if at == output.len() {
         return true;
     }
-    if output.len() - at > 16 {
+    let mut left = output.len() - at;
+    if left > 16 {
         let end = at + 16;
         if !steps::decode_step::<16, S>(&input[2 * at..2 * end], false, &mut output[at..end]) {
             return false;
         }
         at = end;
-    } else if !FRONT && output.len() - at == 1 {
+        left -= 16;
+    }
+    if !FRONT && left == 1 {
         return small_input::decode_byte::<S>(&input[2 * at..], &mut output[at..]);
     }
     let start = output.len() - 16;
     steps::decode_step::<16, S>(&input[2 * start..], false, &mut output[start..])
-        || (FRONT
-            && output.len() - at < 16
-            && small_input::decode_pairs(&input[2 * at..], &mut output[at..]))
+        || (FRONT && left < 16 && small_input::decode_pairs(&input[2 * at..], &mut output[at..]))
 }
 
 /// Decodes digits in steps, and then by the last 16 bytes, some of them again. A text of fewer than

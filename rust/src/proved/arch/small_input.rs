@@ -61,25 +61,30 @@ fn fill_ends<const H: usize, const D: usize, S: LaneOps<16>>(
     let mut text = [0; 32];
     let ends = steps::load_ends::<H, 16>(bytes, 0);
     steps::fill_step::<16, S>(&ends, upper, upper, &mut text);
-    // Two parts of the array, which LLVM keeps in registers.
-    let (first, last) = (Simd::from_slice(&text), Simd::from_slice(&text[D..]));
     // Not by the output's length: so a function that is not inlined needs no register for it.
-    put::<D>(first, last, 2 * bytes.len() - D, output);
+    let start = 2 * bytes.len() - D;
+    if D == 4 {
+        put_fours(Simd::from_slice(&text), start, output);
+    } else {
+        // Two parts of the array, which LLVM keeps in registers.
+        let (first, last) = (Simd::from_slice(&text), Simd::from_slice(&text[D..]));
+        put::<D>(first, last, start, output);
+    }
 }
 
-/// Whether every byte of a text of less than 32 bytes is a digit.
+/// Whether every byte of a text of less than 16 bytes is a digit.
 #[inline(always)]
 pub(crate) fn check<S: LaneOps<16> + PairOps>(text: &[u8]) -> bool {
-    if text.len() >= 16 {
-        check_overlapping::<16, S>(text)
+    if text.len() >= 4 {
+        if text.len() >= 8 {
+            check_ends::<8, S>(text)
+        } else {
+            check_ends::<4, S>(text)
+        }
     } else if text.len() == 2 {
         check_two::<S>(text[0], text[1])
     } else if text.len() < 2 {
         text.is_empty() || check_one::<S>(text[0])
-    } else if text.len() >= 8 {
-        check_ends::<8, S>(text)
-    } else if text.len() >= 4 {
-        check_ends::<4, S>(text)
     } else {
         check_ends::<2, S>(text)
     }
@@ -94,14 +99,14 @@ fn check_one<S: LaneOps<16>>(character: u8) -> bool {
 
 /// As `check`, for two characters.
 #[inline(always)]
-fn check_two<S: LaneOps<16> + PairOps>(first: u8, second: u8) -> bool {
+pub(crate) fn check_two<S: LaneOps<16> + PairOps>(first: u8, second: u8) -> bool {
     let marks = lanes::marks::<16, S>(S::from_pair(first, second));
     lanes16::is_pair_unmarked(marks)
 }
 
 /// As `check`, for one to two steps: one test covers the first one and the last one. `V` has the `N` lanes of a step.
 #[inline(always)]
-fn check_overlapping<const N: usize, V: LaneOps<N>>(text: &[u8]) -> bool {
+pub(crate) fn check_overlapping<const N: usize, V: LaneOps<N>>(text: &[u8]) -> bool {
     if text.len() == N {
         return steps::check_step::<N, V>(text);
     }
@@ -118,14 +123,14 @@ pub(crate) fn check_ends<const H: usize, S: LaneOps<16>>(text: &[u8]) -> bool {
 /// returns true. If some character is invalid, returns false, and the output is unchanged.
 #[inline(always)]
 pub(crate) fn decode_short<S: LaneOps<16> + PairOps>(text: &[u8], output: &mut [u8]) -> bool {
-    if output.len() == 1 {
+    if output.len() >= 8 {
+        decode_ends::<8, 16, 16, 32, S>(text, output)
+    } else if output.len() == 1 {
         decode_byte::<S>(text, output)
-    } else if output.len() >= 8 {
-        decode_ends::<8, 16, S>(text, output)
     } else if output.len() >= 4 {
-        decode_ends::<4, 8, S>(text, output)
+        decode_ends::<4, 8, 16, 32, S>(text, output)
     } else {
-        output.is_empty() || decode_ends::<2, 4, S>(text, output)
+        output.is_empty() || decode_ends::<2, 4, 16, 32, S>(text, output)
     }
 }
 
@@ -144,20 +149,74 @@ pub(crate) fn decode_pairs(text: &[u8], output: &mut [u8]) -> bool {
     Plain::decode_checked(text, output)
 }
 
-/// Decodes a text to `H` to `2 * H` bytes and returns true. If some byte is not a digit, returns
-/// false, and the output is unchanged. `D` is `2 * H`, the number of digits of `H` bytes.
+/// Decodes a text to `H` to `2 * H` bytes and returns true. If some byte is not a digit, returns false, and the output
+/// is unchanged. `D` is `2 * H`, the number of digits of `H` bytes. `V` has `N` lanes, and `M` is `2 * N`.
 #[inline(always)]
-pub(crate) fn decode_ends<const H: usize, const D: usize, S: LaneOps<16>>(
+pub(crate) fn decode_ends<
+    const H: usize,
+    const D: usize,
+    const N: usize,
+    const M: usize,
+    V: LaneOps<N>,
+>(text: &[u8], output: &mut [u8]) -> bool {
+    let mut bytes = [0; N];
+    // Not by the text's length: so a function that is not inlined needs no register for it.
+    let step = steps::load_ends::<D, M>(&text[..2 * output.len()], b'0');
+    let are_digits = steps::decode_step::<N, V>(&step, false, &mut bytes);
+    if are_digits {
+        put_lanes::<H>(&bytes, output.len() - H, output);
+    }
+    are_digits
+}
+
+/// As `decode_short`, for one to two steps, the first one and the last one, by one test. `V` has the `N` lanes of a step.
+#[inline(always)]
+pub(crate) fn decode_overlapping<const N: usize, V: LaneOps<N>>(
     text: &[u8],
     output: &mut [u8],
 ) -> bool {
-    let mut bytes = [0; 16];
-    // Not by the text's length: so a function that is not inlined needs no register for it.
-    let step = steps::load_ends::<D, 32>(&text[..2 * output.len()], b'0');
-    let are_digits = steps::decode_step::<16, S>(&step, false, &mut bytes);
+    let start = output.len() - N;
+    let (first, last) = (&text[..2 * N], &text[2 * start..]);
+    let are_digits = steps::check_two_pairs::<N, V>(first, last);
     if are_digits {
-        let last = Simd::from_slice(&bytes[H..]);
-        put::<H>(Simd::from_slice(&bytes), last, output.len() - H, output);
+        let first = steps::decode_vector::<N, V>(first, false);
+        let last = steps::decode_vector::<N, V>(last, false);
+        put::<N>(first, last, start, output);
+    }
+    are_digits
+}
+
+/// As `decode_short`, for at least 8 bytes. The first 8 characters have a test of their own, so that most invalid
+/// texts cost little.
+#[inline(always)]
+pub(crate) fn decode_apart<S: LaneOps<16>>(text: &[u8], output: &mut [u8]) -> bool {
+    lanes16::is_half_unmarked(lanes::marks::<16, S>(Simd::from_slice(text)))
+        && decode_ends::<8, 16, 16, 32, S>(text, output)
+}
+
+/// As `decode_short`, for 2 to 4 bytes, whose first and last 4 characters are tested as one number.
+#[inline(always)]
+pub(crate) fn decode_pair<S: LaneOps<16>>(text: &[u8], output: &mut [u8]) -> bool {
+    // Not by the text's length: so a function that is not inlined needs no register for it.
+    let step = steps::load_ends::<4, 16>(&text[..2 * output.len()], b'0');
+    let lanes = Simd::from_slice(&step);
+    let are_digits = lanes16::is_half_unmarked(lanes::marks::<16, S>(lanes));
+    if are_digits {
+        let bytes = lanes::decode::<16, S>(lanes, lanes, false);
+        put_twos(bytes, output.len() - 2, output);
+    }
+    are_digits
+}
+
+/// As `decode_short`, for 4 bytes. Both halves of a vector are the text, and one of them is tested.
+#[inline(always)]
+pub(crate) fn decode_four<S: LaneOps<16>>(text: &[u8], output: &mut [u8]) -> bool {
+    let step = steps::load_ends::<8, 16>(&text[..8], b'0');
+    let lanes = Simd::from_slice(&step);
+    let are_digits = lanes16::is_half_unmarked(lanes::marks::<16, S>(lanes));
+    if are_digits {
+        let bytes = lanes::decode::<16, S>(lanes, lanes, false);
+        put_fours(bytes, 0, output);
     }
     are_digits
 }
@@ -166,9 +225,10 @@ pub(crate) fn decode_ends<const H: usize, const D: usize, S: LaneOps<16>>(
 /// unchanged.
 #[inline(always)]
 pub(crate) fn decode_byte<S: LaneOps<16> + PairOps>(text: &[u8], output: &mut [u8]) -> bool {
-    let lanes = S::from_pair(text[0], text[1]);
-    let are_digits = lanes16::is_pair_unmarked(lanes::marks::<16, S>(lanes));
+    let are_digits = check_two::<S>(text[0], text[1]);
     if are_digits {
+        // The compiler merges this with what the check has computed.
+        let lanes = S::from_pair(text[0], text[1]);
         let values = lanes::values::<16, S>(lanes).to_array();
         output[0] = (values[0] << 4) | values[1];
     }
@@ -181,4 +241,38 @@ pub(crate) fn decode_byte<S: LaneOps<16> + PairOps>(text: &[u8], output: &mut [u
 fn put<const H: usize>(first: Simd<u8, H>, last: Simd<u8, H>, start: usize, output: &mut [u8]) {
     first.copy_to_slice(output);
     last.copy_to_slice(&mut output[start..]);
+}
+
+/// As `put`, for the first and the next `H` lanes. Of 2 and 4 these are numbers: for AArch64, LLVM would move each lane
+/// of such a vector.
+#[inline(always)]
+fn put_lanes<const H: usize>(lanes: &[u8], start: usize, output: &mut [u8]) {
+    if H == 2 {
+        put_twos(Simd::from_slice(lanes), start, output);
+    } else if H == 4 {
+        put_fours(Simd::from_slice(lanes), start, output);
+    } else {
+        put::<H>(
+            Simd::from_slice(lanes),
+            Simd::from_slice(&lanes[H..]),
+            start,
+            output,
+        );
+    }
+}
+
+/// As `put_lanes`, for 4 lanes.
+#[inline(always)]
+fn put_fours(ends: u8x16, start: usize, output: &mut [u8]) {
+    let numbers = u32x4::from_le_bytes(ends).to_array();
+    output[..4].copy_from_slice(&numbers[0].to_le_bytes());
+    output[start..].copy_from_slice(&numbers[1].to_le_bytes());
+}
+
+/// As `put_lanes`, for 2 lanes.
+#[inline(always)]
+fn put_twos(ends: u8x16, start: usize, output: &mut [u8]) {
+    let numbers = u16x8::from_le_bytes(ends).to_array();
+    output[..2].copy_from_slice(&numbers[0].to_le_bytes());
+    output[start..].copy_from_slice(&numbers[1].to_le_bytes());
 }

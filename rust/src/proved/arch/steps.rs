@@ -127,7 +127,10 @@ pub(crate) fn decode_two_steps<const N: usize, V: LaneOps<N>>(
 /// Decodes the digits of a step.
 // The test has already computed these values for the marks. The compiler merges both computations.
 #[inline(always)]
-fn decode_vector<const N: usize, V: LaneOps<N>>(text: &[u8], second_row: bool) -> Simd<u8, N> {
+pub(crate) fn decode_vector<const N: usize, V: LaneOps<N>>(
+    text: &[u8],
+    second_row: bool,
+) -> Simd<u8, N> {
     lanes::decode::<N, V>(
         Simd::from_slice(text),
         Simd::from_slice(&text[N..]),

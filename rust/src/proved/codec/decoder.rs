@@ -4,7 +4,7 @@
 use crate::std_shim::prelude::*;
 use crate::proved::codec::body::{decode_body, find_first_bad, invalid_character, is_prefix, strip_prefix};
 use crate::proved::error::FromHexError;
-use crate::proved::{FixedKernel, Kernel};
+use crate::proved::{FixedKernel, Kernel, is_digit};
 
 /// The state of a decoder that has neither half of a pair nor an error.
 const EVEN: u8 = 0;
@@ -247,14 +247,4 @@ fn check_last(last: &[u8]) -> bool {
         [digit] => is_digit(*digit),
         _ => true,
     }
-}
-
-/// Whether a byte is a digit.
-// Constant time: `is_ascii_hexdigit` would be compiled to branches on the byte.
-#[inline(always)]
-fn is_digit(byte: u8) -> bool {
-    let decimal = byte.wrapping_sub(b'0');
-    let upper = byte.wrapping_sub(b'A').saturating_add(4);
-    let lower = byte.wrapping_sub(b'a').saturating_add(4);
-    decimal.min(upper).min(lower) < 10
 }
