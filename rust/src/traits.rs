@@ -175,9 +175,9 @@ to_hex! {
 }
 
 /// Collects the digits of bytes.
-// The last arm alone would take 612 instructions in place of 323 for 32 bytes to a `Vec<char>`, and without
-// optimization 18602 in place of 5822. The space is copied then, so a short input has less of it, or none; and for one
-// byte, an iterator over the array of its digits would take 1069 in place of 910. Three bytes have no array of
+// The last arm alone would take 612 instructions in place of 339 for 32 bytes to a `Vec<char>`, and without
+// optimization 18602 in place of 5810. The space is copied then, so a short input has less of it, or none; and for one
+// byte, an iterator over the array of its digits would take 1069 in place of 910 then. Three bytes have no array of
 // characters, from which LLVM would not see that each is ASCII (rustc 1.95, x86-64).
 #[inline]
 fn digits<const UPPER: bool, T: FromIterator<char>>(bytes: &[u8]) -> T {
@@ -211,7 +211,7 @@ fn digits<const UPPER: bool, T: FromIterator<char>>(bytes: &[u8]) -> T {
 }
 
 /// Does the same in space for so many digits.
-// Not inlined: it would need registers that fewer digits would have to save.
+// Not inlined, where it would make the calls for fewer digits save registers, too.
 #[inline(never)]
 fn digits_in<const COUNT: usize, const UPPER: bool, T: FromIterator<char>>(bytes: &[u8]) -> T {
     Space::<COUNT>::new().text(bytes, false, UPPER).iter().map(|digit| character(*digit)).collect()

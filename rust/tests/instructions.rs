@@ -7,24 +7,29 @@ use std::fmt::{Error, Result, Write};
 use std::process::Command;
 
 /// A call, the number of bytes, and how many instructions it may take by vectors, by portable code, and on AArch64: as
-/// many as const-hex takes, by docs/BENCHMARKS.md, and of 256 bytes on AArch64 .65 of that to encode and .75 to decode.
+/// many as const-hex takes, by the program in bench, and of 256 bytes on AArch64 .65 of that to encode and .75 to decode.
 /// 0 is none. Those of `display` are chosen. It prints to a writer that returns an error at once, after which no more
 /// than a part of the bytes is encoded.
-const LIMITS: [(&str, usize, [i64; 3]); 18] = [
+const LIMITS: [(&str, usize, [i64; 3]); 23] = [
     ("encode", 1, [64, 29, 29]),
+    ("encode", 2, [80, 46, 35]),
     ("encode", 16, [63, 193, 30]),
+    ("encode", 17, [85, 201, 40]),
     ("encode", 20, [121, 235, 66]),
     ("encode", 32, [67, 361, 42]),
     ("encode", 64, [85, 697, 66]),
     ("encode", 256, [193, 2713, 136]),
     ("encode to a string", 32, [250, 531, 243]),
     ("decode", 1, [93, 52, 48]),
+    ("decode", 2, [108, 66, 59]),
     ("decode", 16, [90, 262, 71]),
+    ("decode", 17, [110, 276, 87]),
     ("decode", 20, [155, 318, 120]),
     ("decode", 32, [113, 486, 100]),
     ("decode", 64, [143, 934, 158]),
     ("decode", 256, [323, 3622, 379]),
     ("decode to a vector", 32, [275, 663, 314]),
+    ("check", 4, [134, 87, 99]),
     ("check", 32, [97, 423, 100]),
     ("check", 64, [123, 807, 152]),
     ("check", 256, [279, 3111, 464]),

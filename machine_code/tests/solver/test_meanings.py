@@ -37,6 +37,7 @@ MORE = {
         movi v0.8h, #49; movi v0.4s, #49; movi v0.8b, #49; xtn v0.4h, v1.4s; sli v0.8h, v1.8h, #3; dup v0.2d, x1
         uzp1 v0.8h, v1.8h, v2.8h; uzp2 v0.8h, v1.8h, v2.8h; zip1 v0.8h, v1.8h, v2.8h; zip2 v0.8h, v1.8h, v2.8h
         st2 {v0.8h, v1.8h}, [x1]; st2 {v0.8b, v1.8b}, [x1], #16; ld1 {v0.8b, v1.8b}, [x1]
+        st1 {v0.s}[1], [x1]; st1 {v0.h}[0], [x1]
         adrp x0, more + 16; add x0, x0, :lo12:more + 16; ldr q0, [x0, :lo12:more + 16]
         .section .rodata.more, "a"; .balign 16; more: .skip 16; .ascii "0123456789abcdef" """,
 }

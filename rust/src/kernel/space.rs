@@ -61,10 +61,10 @@ impl<const N: usize> Space<N> {
     }
 }
 
-/// Decodes `N` bytes by `read`. Safety: the same.
-// Not inlined, where LLVM unrolls the loop over bytes: it would keep all of them in registers up to the last one, and
-// there are too few. So 8 bytes take 109 instructions in place of 147, and 20 take 238 in place of 296 (rustc 1.95,
-// x86-64).
+/// Decodes `N` bytes by `unchecked::read`. Safety: what that requires.
+// Not inlined: of up to 22 bytes LLVM unrolls the loop, and would keep all of them in registers up to the last one,
+// for more than 4 of which there are too few. So 8 bytes take 109 instructions in place of 147, and 20 take 238 in
+// place of 296 (rustc 1.95, x86-64).
 #[inline(never)]
 unsafe fn read_apart<const N: usize>(text: *const u8, bytes: *mut u8) -> bool {
     // SAFETY: the caller promises what the function requires.
