@@ -55,8 +55,9 @@
  *    process that shares the memory, the function still returns and writes only to its own arguments, but the
  *    result is unspecified. This is tested and not verified.
  *
- * The next four sections are about the library on Linux, macOS and BSD on x86-64 and AArch64. On other platforms
- * cargo builds it: c/README.md says what holds for it.
+ * The next four sections are about the verified machine code, for Linux, macOS and BSD on x86-64 and AArch64. Elsewhere
+ * the library is portable.c, whose source is verified against the contracts below, which are comments in ACSL:
+ * c/README.md says what holds for it.
  *
  * FORMAL VERIFICATION
  *
@@ -76,8 +77,7 @@
  * sizes, flags and pointers, on whether a text has a prefix, and on where the chunks of a text are split.
  * This is verified in the machine code, on x86-64 with both kernels and on AArch64. It does not hold for
  * const_hex_error_message, nor for invalid text: the error states the position of the invalid character, and
- * timing reveals it too. How long an instruction takes is up to the CPU. No memory is wiped. libsodium has
- * sodium_bin2hex and sodium_hex2bin, which are made for secrets.
+ * timing reveals it too. How long an instruction takes is up to the CPU. No memory is wiped.
  *
  * PLATFORMS
  *
@@ -94,6 +94,7 @@
  *
  * BUILDING
  *
+ *     cc -std=c99 program.c portable.c -o program                               (on any processor)
  *     cc program.c $(pkg-config --cflags --libs const_hex) -o program           (the shared library)
  *     cc program.c $(pkg-config --cflags --libs const_hex) -static -o program   (libconst_hex.a)
  *
@@ -140,6 +141,48 @@
 extern "C" {
 #endif
 
+/*
+ * Contracts in ACSL, for Frama-C, stand before each function; to a compiler they are comments. These are their terms.
+ */
+/*@ // The digit of a value from 0 to 15, if the first letter is 'a' or 'A'.
+    logic integer const_hex_digit(integer value, integer letter) = value < 10 ? '0' + value : letter + value - 10;
+
+    // The value of a digit, or -1.
+    logic integer const_hex_value(integer character) =
+        '0' <= character <= '9' ? character - '0' :
+        'A' <= character <= 'F' ? character - 'A' + 10 :
+        'a' <= character <= 'f' ? character - 'a' + 10 : -1;
+
+    predicate const_hex_is_digit(integer character) = const_hex_value(character) >= 0;
+
+    // The characters from one position to another are digits.
+    predicate const_hex_digits{L}(char *text, integer from, integer to) =
+        \forall integer k; from <= k < to ==> const_hex_is_digit(text[k]);
+
+    // The first character from a position on that is not a digit.
+    predicate const_hex_invalid{L}(char *text, integer from, integer length, integer index) =
+        from <= index < length && const_hex_digits(text, from, index) && !const_hex_is_digit(text[index]);
+
+    // Where the digits of a text start.
+    logic integer const_hex_start{L}(char *text, integer length) =
+        length >= 2 && text[0] == '0' && (text[1] == 'x' || text[1] == 'X') ? 2 : 0;
+
+    // The bytes from one position to another are decoded from a text, two characters from `start` on for each.
+    predicate const_hex_decoded{L}(unsigned char *bytes, integer from, integer to, char *text, integer start) =
+        \forall integer k; from <= k < to ==> bytes[k] ==
+            16 * const_hex_value(text[start + 2 * k]) + const_hex_value(text[start + 2 * k + 1]);
+
+    predicate const_hex_unchanged{Before, After}(unsigned char *bytes, integer from, integer to) =
+        \forall integer k; from <= k < to ==> \at(bytes[k], After) == \at(bytes[k], Before);
+
+    // A buffer after an invalid character: it begins with decoded bytes from before it; the rest is unchanged.
+    predicate const_hex_partial{Before, After}(
+        unsigned char *bytes, integer size, char *text, integer start, integer index) =
+        \exists integer count; 0 <= 2 * count <= index - start &&
+            const_hex_decoded{After}(bytes, 0, count, text, start) &&
+            const_hex_unchanged{Before, After}(bytes, count, size);
+*/
+
 /* ---- Errors ---- */
 
 /*
@@ -169,6 +212,10 @@ struct const_hex_error {
     size_t index;
 };
 
+/*@ predicate const_hex_is_error{L}(struct const_hex_error *error, integer kind, integer byte, integer index) =
+        error != \null ==> error->kind == kind && error->byte == byte && error->index == index;
+*/
+
 /* A buffer of this size has space for every message and its NUL terminator. */
 #define CONST_HEX_MESSAGE_SIZE 64
 
@@ -196,6 +243,34 @@ struct const_hex_error {
  * their number, as in '\u{1b}'. Any other byte above 127 is shown as the Unicode character with that number,
  * in UTF-8.
  */
+/*@ // How many characters show a character, the digits of a number, and the whole message.
+    logic integer const_hex_shown_length(integer byte) =
+        byte == 0 || byte == '\t' || byte == '\n' || byte == '\r' || byte == '\'' || byte == '\\' ? 2 :
+        byte < 16 ? 5 :
+        byte < 32 || 127 <= byte <= 160 || byte == 173 ? 6 :
+        byte < 127 ? 1 : 2;
+    logic integer const_hex_decimal_length(integer n) =
+        n < 10 ? 1 : n < 100 ? 2 : n < 1000 ? 3 : n < 10000 ? 4 : n < 100000 ? 5 : n < 1000000 ? 6 :
+        n < 10000000 ? 7 : n < 100000000 ? 8 : n < 1000000000 ? 9 : n < 10000000000 ? 10 :
+        n < 100000000000 ? 11 : n < 1000000000000 ? 12 : n < 10000000000000 ? 13 : n < 100000000000000 ? 14 :
+        n < 1000000000000000 ? 15 : n < 10000000000000000 ? 16 : n < 100000000000000000 ? 17 :
+        n < 1000000000000000000 ? 18 : n < 10000000000000000000 ? 19 : 20;
+    logic integer const_hex_message_length{L}(struct const_hex_error *error) =
+        error->kind == CONST_HEX_ODD_LENGTH ? 20 :
+        error->kind == CONST_HEX_INVALID_LENGTH ? 21 :
+        error->kind == CONST_HEX_INVALID_CHARACTER && error->byte < 256 ?
+            33 + const_hex_shown_length(error->byte) + const_hex_decimal_length(error->index) :
+        error->kind == 4 ? 13 : 0;
+*/
+/*@ requires \valid_read(error);
+    requires \valid(message + (0 .. message_size - 1));
+    requires \separated(error, message + (0 .. message_size - 1));
+    assigns message[0 .. message_size - 1];
+    ensures none: message_size == 0 ==> \result == 0;
+    ensures ended: message_size > 0 ==> \result < message_size && message[\result] == 0;
+    ensures length: message_size > 0 ==> \result == \min(message_size - 1, const_hex_message_length(error));
+    ensures rest: \forall integer k; \result < k < message_size ==> message[k] == \old(message[k]);
+*/
 CONST_HEX_NONNULL(1)
 CONST_HEX_WRITES(2, 3)
 size_t const_hex_error_message(const struct const_hex_error *error, char *message, size_t message_size);
@@ -214,6 +289,21 @@ size_t const_hex_error_message(const struct const_hex_error *error, char *messag
 #define CONST_HEX_ENCODED_SIZE(bytes_length, flags)                                                   \
     (2 * (bytes_length) + (((flags) & CONST_HEX_PREFIX) ? 2 : 0) + (((flags) & CONST_HEX_NO_NUL) ? 0 : 1))
 
+/*@ // What the flags ask for: the first letter, a prefix, a NUL, and the size of the whole text.
+    logic integer const_hex_letter(integer flags) = flags % 2 == 1 ? 'A' : 'a';
+    predicate const_hex_has_prefix(integer flags) = flags / 2 % 2 == 1;
+    predicate const_hex_has_nul(integer flags) = flags / 4 % 2 == 0;
+    logic integer const_hex_size(integer bytes_length, integer flags) =
+        2 * bytes_length + flags / 2 % 2 * 2 + (1 - flags / 4 % 2);
+
+    // The bytes from one position to another are encoded, from `start` of the text on.
+    predicate const_hex_encoded{L}(
+        unsigned char *bytes, integer from, integer to, char *text, integer start, integer letter) =
+        \forall integer k; from <= k < to ==>
+            text[start + 2 * k] == const_hex_digit(bytes[k] / 16, letter) &&
+            text[start + 2 * k + 1] == const_hex_digit(bytes[k] % 16, letter);
+*/
+
 /*
  * Returns the buffer size that const_hex_encode needs for bytes_length bytes, including the NUL terminator
  * if there is one. The result SIZE_MAX is an error: that size is SIZE_MAX or greater, which no buffer has, or
@@ -223,6 +313,10 @@ size_t const_hex_error_message(const struct const_hex_error *error, char *messag
  *     char *text = malloc(size);
  *     if (text != NULL && const_hex_encode(bytes, bytes_length, text, size, 0)) ...
  */
+/*@ assigns \nothing;
+    ensures \result == (flags < 8 && const_hex_size(bytes_length, flags) <= SIZE_MAX
+        ? const_hex_size(bytes_length, flags) : SIZE_MAX);
+*/
 CONST_HEX_NODISCARD
 size_t const_hex_encoded_size(size_t bytes_length, unsigned flags);
 
@@ -244,6 +338,29 @@ size_t const_hex_encoded_size(size_t bytes_length, unsigned flags);
  * To encode bytes that arrive in chunks, encode each chunk, with CONST_HEX_PREFIX for the first one only.
  * The concatenated texts are the text of all bytes.
  */
+/*@ requires \valid(text + (0 .. text_size - 1));
+    requires flags < 8 && const_hex_size(bytes_length, flags) <= text_size ==>
+        \valid_read((unsigned char *)bytes + (0 .. bytes_length - 1)) &&
+        \separated((unsigned char *)bytes + (0 .. bytes_length - 1), text + (0 .. text_size - 1));
+    assigns text[0 .. text_size - 1];
+    behavior fits:
+        assumes flags < 8 && const_hex_size(bytes_length, flags) <= text_size;
+        ensures \result == \true;
+        ensures prefix: const_hex_has_prefix(flags) ==> text[0] == '0' && text[1] == 'x';
+        ensures digits: const_hex_encoded((unsigned char *)bytes, 0, bytes_length, text,
+            flags / 2 % 2 * 2, const_hex_letter(flags));
+        ensures nul: const_hex_has_nul(flags) ==> text[const_hex_size(bytes_length, flags) - 1] == 0;
+        ensures rest: \forall integer k; const_hex_size(bytes_length, flags) <= k < text_size ==>
+            text[k] == \old(text[k]);
+    behavior fails:
+        assumes !(flags < 8 && const_hex_size(bytes_length, flags) <= text_size);
+        ensures \result == \false;
+        ensures empty: const_hex_has_nul(flags) && text_size > 0 ==> text[0] == 0;
+        ensures rest: \forall integer k; 1 - flags / 4 % 2 <= k < text_size ==>
+            text[k] == \old(text[k]);
+    complete behaviors;
+    disjoint behaviors;
+*/
 CONST_HEX_NODISCARD
 CONST_HEX_READS(1, 2)
 CONST_HEX_WRITES(3, 4)
@@ -273,6 +390,44 @@ bool const_hex_encode(const void *bytes, size_t bytes_length, char *text, size_t
  *
  * For a value of fixed length use const_hex_decode_exact: this function accepts shorter text.
  */
+/*@ requires \valid_read(text + (0 .. text_length - 1));
+    requires \valid((unsigned char *)bytes + (0 .. bytes_size - 1));
+    requires \valid(written);
+    requires error == \null || \valid(error);
+    requires \separated(text + (0 .. text_length - 1), (unsigned char *)bytes + (0 .. bytes_size - 1), written, error);
+    assigns ((unsigned char *)bytes)[0 .. bytes_size - 1], *written, *error;
+    behavior odd:
+        assumes text_length % 2 == 1;
+        ensures \result == \false && const_hex_is_error(error, CONST_HEX_ODD_LENGTH, 0, 0);
+        ensures const_hex_unchanged{Pre, Post}((unsigned char *)bytes, 0, bytes_size);
+        ensures *written == 0;
+    behavior length:
+        assumes text_length % 2 == 0 && text_length - const_hex_start(text, text_length) > 2 * bytes_size;
+        ensures \result == \false && const_hex_is_error(error, CONST_HEX_INVALID_LENGTH, 0, 0);
+        ensures const_hex_unchanged{Pre, Post}((unsigned char *)bytes, 0, bytes_size);
+        ensures *written == 0;
+    behavior character:
+        assumes text_length % 2 == 0 && text_length - const_hex_start(text, text_length) <= 2 * bytes_size;
+        assumes !const_hex_digits(text, const_hex_start(text, text_length), text_length);
+        ensures \result == \false;
+        ensures \exists integer index;
+            const_hex_invalid(text, const_hex_start(text, text_length), text_length, index) &&
+            const_hex_is_error(error, CONST_HEX_INVALID_CHARACTER, (unsigned char)text[index], index) &&
+            const_hex_partial{Pre, Post}(
+                (unsigned char *)bytes, bytes_size, text, const_hex_start(text, text_length), index);
+        ensures *written == 0;
+    behavior valid:
+        assumes text_length % 2 == 0 && text_length - const_hex_start(text, text_length) <= 2 * bytes_size;
+        assumes const_hex_digits(text, const_hex_start(text, text_length), text_length);
+        ensures \result == \true;
+        ensures *written == (text_length - const_hex_start(text, text_length)) / 2;
+        ensures const_hex_decoded(
+            (unsigned char *)bytes, 0, *written, text, const_hex_start(text, text_length));
+        ensures const_hex_unchanged{Pre, Post}((unsigned char *)bytes, *written, bytes_size);
+        ensures error != \null ==> *error == \old(*error);
+    complete behaviors;
+    disjoint behaviors;
+*/
 CONST_HEX_NODISCARD
 CONST_HEX_NONNULL(5)
 CONST_HEX_READS(1, 2)
@@ -288,6 +443,38 @@ bool const_hex_decode(const char *text, size_t text_length, void *bytes, size_t 
  *     unsigned char key[32];
  *     if (!const_hex_decode_exact(text, strlen(text), key, sizeof key, &error)) ...
  */
+/*@ requires \valid_read(text + (0 .. text_length - 1));
+    requires \valid((unsigned char *)bytes + (0 .. bytes_length - 1));
+    requires error == \null || \valid(error);
+    requires \separated(text + (0 .. text_length - 1), (unsigned char *)bytes + (0 .. bytes_length - 1), error);
+    assigns ((unsigned char *)bytes)[0 .. bytes_length - 1], *error;
+    behavior odd:
+        assumes text_length % 2 == 1;
+        ensures \result == \false && const_hex_is_error(error, CONST_HEX_ODD_LENGTH, 0, 0);
+        ensures const_hex_unchanged{Pre, Post}((unsigned char *)bytes, 0, bytes_length);
+    behavior length:
+        assumes text_length % 2 == 0 && text_length - const_hex_start(text, text_length) != 2 * bytes_length;
+        ensures \result == \false && const_hex_is_error(error, CONST_HEX_INVALID_LENGTH, 0, 0);
+        ensures const_hex_unchanged{Pre, Post}((unsigned char *)bytes, 0, bytes_length);
+    behavior character:
+        assumes text_length % 2 == 0 && text_length - const_hex_start(text, text_length) == 2 * bytes_length;
+        assumes !const_hex_digits(text, const_hex_start(text, text_length), text_length);
+        ensures \result == \false;
+        ensures \exists integer index;
+            const_hex_invalid(text, const_hex_start(text, text_length), text_length, index) &&
+            const_hex_is_error(error, CONST_HEX_INVALID_CHARACTER, (unsigned char)text[index], index) &&
+            const_hex_partial{Pre, Post}(
+                (unsigned char *)bytes, bytes_length, text, const_hex_start(text, text_length), index);
+    behavior valid:
+        assumes text_length % 2 == 0 && text_length - const_hex_start(text, text_length) == 2 * bytes_length;
+        assumes const_hex_digits(text, const_hex_start(text, text_length), text_length);
+        ensures \result == \true;
+        ensures const_hex_decoded(
+            (unsigned char *)bytes, 0, bytes_length, text, const_hex_start(text, text_length));
+        ensures error != \null ==> *error == \old(*error);
+    complete behaviors;
+    disjoint behaviors;
+*/
 CONST_HEX_NODISCARD
 CONST_HEX_READS(1, 2)
 CONST_HEX_WRITES(3, 4)
@@ -305,6 +492,45 @@ bool const_hex_decode_exact(const char *text, size_t text_length, void *bytes, s
 struct const_hex_decoder {
     size_t state[2];
 };
+
+/*@ // The state of a decoder: how many characters it has read, or SIZE_MAX if they were more; and the first digit of a
+    // byte whose second one it waits for. After an invalid character: its position, and the character.
+    logic integer const_hex_position{L}(struct const_hex_decoder *decoder) = decoder->state[0];
+    logic integer const_hex_character{L}(struct const_hex_decoder *decoder) = decoder->state[1] % 256;
+    predicate const_hex_waits{L}(struct const_hex_decoder *decoder) = decoder->state[1] / 256 == 1;
+    predicate const_hex_has_failed{L}(struct const_hex_decoder *decoder) = decoder->state[1] / 256 > 1;
+
+    // What zeros and the two functions leave in a decoder.
+    predicate const_hex_is_state{L}(struct const_hex_decoder *decoder) = const_hex_has_failed(decoder) || (
+        (const_hex_waits(decoder) ==> const_hex_is_digit(const_hex_character(decoder))) &&
+        (const_hex_position(decoder) == 0 ==> !const_hex_waits(decoder)) &&
+        (const_hex_position(decoder) == 1 ==> const_hex_waits(decoder)));
+
+    // Where the digits of a chunk start, and how many digits from before, 0 or 1, belong before them.
+    logic integer const_hex_chunk_start{L}(struct const_hex_decoder *decoder, char *text, integer length) =
+        const_hex_position(decoder) == 0 ? const_hex_start(text, length) :
+        const_hex_position(decoder) == 1 && length >= 1 && const_hex_character(decoder) == '0' &&
+            (text[0] == 'x' || text[0] == 'X') ? 1 : 0;
+    logic integer const_hex_chunk_waiting{L}(struct const_hex_decoder *decoder, char *text, integer length) =
+        const_hex_position(decoder) > 0 && const_hex_chunk_start(decoder, text, length) == 0 &&
+            decoder->state[1] / 256 == 1 ? 1 : 0;
+    logic integer const_hex_chunk_digits{L}(struct const_hex_decoder *decoder, char *text, integer length) =
+        length - const_hex_chunk_start(decoder, text, length) + const_hex_chunk_waiting(decoder, text, length);
+
+    // The first `count` bytes are decoded from a chunk whose digits start at `start`, after one that waited if
+    // `waiting` is 1.
+    predicate const_hex_chunk_decoded{L}(unsigned char *bytes, integer count, char *text, integer start,
+                                         integer waiting, integer character) =
+        const_hex_decoded(bytes, waiting, count, text, start - waiting) &&
+        (waiting == 1 && count > 0 ==> bytes[0] == 16 * const_hex_value(character) + const_hex_value(text[start]));
+
+    // As const_hex_partial.
+    predicate const_hex_chunk_partial{Before, After}(unsigned char *bytes, integer size, char *text, integer start,
+                                                     integer waiting, integer character, integer index) =
+        \exists integer count; 0 <= 2 * count <= index - start + waiting &&
+            const_hex_chunk_decoded{After}(bytes, count, text, start, waiting, character) &&
+            const_hex_unchanged{Before, After}(bytes, count, size);
+*/
 
 /*
  * Decodes the next chunk of a text. The text may be split anywhere, even between the two digits of a byte
@@ -335,6 +561,61 @@ struct const_hex_decoder {
  *     }
  *     return !ferror(file) && const_hex_decoder_finish(&decoder, &error);
  */
+/*@ requires \valid(decoder);
+    requires \valid_read(text + (0 .. text_length - 1));
+    requires \valid((unsigned char *)bytes + (0 .. bytes_size - 1));
+    requires \valid(written);
+    requires error == \null || \valid(error);
+    requires \separated(decoder, text + (0 .. text_length - 1), (unsigned char *)bytes + (0 .. bytes_size - 1),
+                        written, error);
+    assigns *decoder, ((unsigned char *)bytes)[0 .. bytes_size - 1], *written, *error;
+    ensures within: *written <= bytes_size && *written <= (text_length + 1) / 2;
+    ensures \old(const_hex_is_state(decoder)) ==> const_hex_is_state(decoder);
+    behavior again:
+        assumes const_hex_has_failed(decoder);
+        ensures \result == \false && *written == 0 && *decoder == \old(*decoder);
+        ensures const_hex_is_error(error, CONST_HEX_INVALID_CHARACTER,
+            const_hex_character(decoder), const_hex_position(decoder));
+        ensures const_hex_unchanged{Pre, Post}((unsigned char *)bytes, 0, bytes_size);
+    behavior length:
+        assumes !const_hex_has_failed(decoder);
+        assumes const_hex_chunk_digits(decoder, text, text_length) / 2 > bytes_size;
+        ensures \result == \false && *written == 0 && *decoder == \old(*decoder);
+        ensures const_hex_is_error(error, CONST_HEX_INVALID_LENGTH, 0, 0);
+        ensures const_hex_unchanged{Pre, Post}((unsigned char *)bytes, 0, bytes_size);
+    behavior character:
+        assumes const_hex_is_state(decoder) && !const_hex_has_failed(decoder);
+        assumes const_hex_chunk_digits(decoder, text, text_length) / 2 <= bytes_size;
+        assumes !const_hex_digits(text, const_hex_chunk_start(decoder, text, text_length), text_length);
+        ensures \result == \false && *written == 0 && const_hex_has_failed(decoder);
+        ensures const_hex_is_error(error, CONST_HEX_INVALID_CHARACTER,
+            const_hex_character(decoder), const_hex_position(decoder));
+        ensures \exists integer index;
+            const_hex_invalid(text, \old(const_hex_chunk_start(decoder, text, text_length)), text_length, index) &&
+            const_hex_character(decoder) == (unsigned char)text[index] &&
+            const_hex_position(decoder) == \min(\old(const_hex_position(decoder)) + index, SIZE_MAX) &&
+            const_hex_chunk_partial{Pre, Post}((unsigned char *)bytes, bytes_size, text,
+                \old(const_hex_chunk_start(decoder, text, text_length)),
+                \old(const_hex_chunk_waiting(decoder, text, text_length)),
+                \old(const_hex_character(decoder)), index);
+    behavior valid:
+        assumes const_hex_is_state(decoder) && !const_hex_has_failed(decoder);
+        assumes const_hex_chunk_digits(decoder, text, text_length) / 2 <= bytes_size;
+        assumes const_hex_digits(text, const_hex_chunk_start(decoder, text, text_length), text_length);
+        ensures \result == \true;
+        ensures *written == \old(const_hex_chunk_digits(decoder, text, text_length)) / 2;
+        ensures const_hex_chunk_decoded((unsigned char *)bytes, *written, text,
+            \old(const_hex_chunk_start(decoder, text, text_length)),
+            \old(const_hex_chunk_waiting(decoder, text, text_length)), \old(const_hex_character(decoder)));
+        ensures const_hex_unchanged{Pre, Post}((unsigned char *)bytes, *written, bytes_size);
+        ensures !const_hex_has_failed(decoder);
+        ensures const_hex_position(decoder) == \min(\old(const_hex_position(decoder)) + text_length, SIZE_MAX);
+        ensures const_hex_waits(decoder) <==> \old(const_hex_chunk_digits(decoder, text, text_length)) % 2 == 1;
+        ensures const_hex_waits(decoder) ==> const_hex_character(decoder) ==
+            (text_length > 0 ? text[text_length - 1] : \old(const_hex_character(decoder)));
+        ensures error != \null ==> *error == \old(*error);
+    disjoint behaviors;
+*/
 CONST_HEX_NODISCARD
 CONST_HEX_NONNULL(1)
 CONST_HEX_NONNULL(6)
@@ -352,6 +633,24 @@ bool const_hex_decoder_update(struct const_hex_decoder *decoder, const char *tex
  *
  * The decoder is unchanged, so you can continue with another chunk.
  */
+/*@ requires \valid_read(decoder);
+    requires error == \null || \valid(error);
+    requires \separated(decoder, error);
+    assigns *error;
+    behavior again:
+        assumes const_hex_has_failed(decoder);
+        ensures \result == \false;
+        ensures const_hex_is_error(error, CONST_HEX_INVALID_CHARACTER,
+            const_hex_character(decoder), const_hex_position(decoder));
+    behavior odd:
+        assumes const_hex_waits(decoder);
+        ensures \result == \false && const_hex_is_error(error, CONST_HEX_ODD_LENGTH, 0, 0);
+    behavior valid:
+        assumes !const_hex_has_failed(decoder) && !const_hex_waits(decoder);
+        ensures \result == \true && (error != \null ==> *error == \old(*error));
+    complete behaviors;
+    disjoint behaviors;
+*/
 CONST_HEX_NODISCARD
 CONST_HEX_NONNULL(1)
 bool const_hex_decoder_finish(const struct const_hex_decoder *decoder, struct const_hex_error *error);
@@ -363,6 +662,26 @@ bool const_hex_decoder_finish(const struct const_hex_decoder *decoder, struct co
  * there is one, are hexadecimal digits. Returns false with CONST_HEX_ODD_LENGTH or
  * CONST_HEX_INVALID_CHARACTER.
  */
+/*@ requires \valid_read(text + (0 .. text_length - 1));
+    requires error == \null || \valid(error);
+    requires \separated(text + (0 .. text_length - 1), error);
+    assigns *error;
+    behavior odd:
+        assumes text_length % 2 == 1;
+        ensures \result == \false && const_hex_is_error(error, CONST_HEX_ODD_LENGTH, 0, 0);
+    behavior character:
+        assumes text_length % 2 == 0;
+        assumes !const_hex_digits(text, const_hex_start(text, text_length), text_length);
+        ensures \result == \false;
+        ensures \exists integer index;
+            const_hex_invalid(text, const_hex_start(text, text_length), text_length, index) &&
+            const_hex_is_error(error, CONST_HEX_INVALID_CHARACTER, (unsigned char)text[index], index);
+    behavior valid:
+        assumes text_length % 2 == 0 && const_hex_digits(text, const_hex_start(text, text_length), text_length);
+        ensures \result == \true && (error != \null ==> *error == \old(*error));
+    complete behaviors;
+    disjoint behaviors;
+*/
 CONST_HEX_NODISCARD
 CONST_HEX_READS(1, 2)
 bool const_hex_check(const char *text, size_t text_length, struct const_hex_error *error);
@@ -371,6 +690,10 @@ bool const_hex_check(const char *text, size_t text_length, struct const_hex_erro
  * Returns true if every character of text is a hexadecimal digit. A prefix is not accepted. The length may
  * be odd or 0.
  */
+/*@ requires \valid_read(text + (0 .. text_length - 1));
+    assigns \nothing;
+    ensures \result <==> const_hex_digits(text, 0, text_length);
+*/
 CONST_HEX_NODISCARD
 CONST_HEX_READS(1, 2)
 bool const_hex_check_raw(const char *text, size_t text_length);
@@ -378,6 +701,8 @@ bool const_hex_check_raw(const char *text, size_t text_length);
 /* ---- Version ---- */
 
 /* Returns the CONST_HEX_VERSION that the library was built with. */
+/*@ assigns \nothing;
+    ensures \result == CONST_HEX_VERSION; */
 uint32_t const_hex_version(void);
 
 #ifdef __cplusplus

@@ -18,6 +18,7 @@ export type NewBytes = ReturnType<typeof Uint8Array.of>;
 export function encode(bytes: Bytes, options: { prefix: true; upper?: boolean }): `0x${string}`;
 export function encode(bytes: Bytes, options?: EncodeOptions | null): string;
 
+/** Options count only as properties of the object itself, not of its prototype. */
 export interface EncodeOptions {
     /** Whether the text begins with `0x`. */
     prefix?: boolean;

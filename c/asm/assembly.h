@@ -1,5 +1,5 @@
-/* The directives of the files in this folder, for ELF and Mach-O: those of the Rust crate, and one that it does not need.
- * The code itself is the same in both. */
+/* The directives of the files in this folder, for ELF, Mach-O and COFF: those of the Rust crate, and one that it does not
+ * need. The code itself is the same in all. */
 #ifdef __APPLE__
 
 #define SYMBOL(name) _##name
@@ -19,12 +19,18 @@
 #else
 
 #define SYMBOL(name) name
+#ifdef __ELF__
 #include "../../rust/src/asm/elf.s"
+#else
+#include "../../rust/src/asm/coff.s"
+#endif
 
 	.macro exported name
 	.globl \name
 	.endm
+#ifdef __ELF__
 	/* No code here needs a stack that can be executed. */
 	.section .note.GNU-stack, "", %progbits
+#endif
 
 #endif

@@ -8,8 +8,6 @@
 #define const_hex_1_0_0_constant_3_v2 SYMBOL(const_hex_kernel_constant_3_v2)
 #define const_hex_1_0_0_constant_4_v2 SYMBOL(const_hex_kernel_constant_4_v2)
 #define const_hex_1_0_0_constant_5_v2 SYMBOL(const_hex_kernel_constant_5_v2)
-#define const_hex_1_0_0_constant_6_v2 SYMBOL(const_hex_kernel_constant_6_v2)
-#define const_hex_1_0_0_constant_7_v2 SYMBOL(const_hex_kernel_constant_7_v2)
 #define const_hex_1_0_0_fill_lower_v2 SYMBOL(const_hex_kernel_fill_lower_v2)
 #define const_hex_1_0_0_fill_upper_v2 SYMBOL(const_hex_kernel_fill_upper_v2)
 #define const_hex_1_0_0_read_v2 SYMBOL(const_hex_kernel_read_v2)

@@ -15,6 +15,6 @@ foreach(function ${FUNCTIONS})
 endforeach()
 install(DIRECTORY ${PROJECT_BINARY_DIR}/man3 DESTINATION ${CMAKE_INSTALL_MANDIR})
 # A release has the verified machine code alone.
-if(NOT CONST_HEX_CARGO)
+if(NOT CONST_HEX_PORTABLE)
   include(cmake/release.cmake)
 endif()

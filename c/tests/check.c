@@ -36,7 +36,8 @@ TEST(messages) {
         {{CONST_HEX_INVALID_CHARACTER, '\'', 5}, "invalid character '\\'' at position 5"},
         {{CONST_HEX_INVALID_CHARACTER, 0xE9, 0}, "invalid character '\xC3\xA9' at position 0"},
         {{CONST_HEX_INVALID_CHARACTER, 0x80, SIZE_MAX},
-         "invalid character '\\u{80}' at position 18446744073709551615"},
+         SIZE_MAX > 0xffffffff ? "invalid character '\\u{80}' at position 18446744073709551615"
+                               : "invalid character '\\u{80}' at position 4294967295"},
         /* No function sets these. */
         {{4, 0, 0}, "out of memory"},
         {{CONST_HEX_INVALID_CHARACTER, 0x100, 7}, ""},
@@ -217,8 +218,8 @@ TEST(any_contents_of_a_decoder) {
         struct output output = new_output((size_t)(rand() >> 4) % (length / 2 + 3), 0);
         /* Small values too, and those next to the greatest. */
         for (size_t word = 0; word < 2; word++) {
-            size_t value = (size_t)rand() << 42 ^ (size_t)rand() << 21 ^ (size_t)rand();
-            decoder.state[word] = value >> (rand() >> 8) % 2 * 9 >> (rand() >> 8) % 2 * 54;
+            uint64_t value = (uint64_t)rand() << 42 ^ (uint64_t)rand() << 21 ^ (uint64_t)rand();
+            decoder.state[word] = (size_t)(value >> (rand() >> 8) % 2 * 9 >> (rand() >> 8) % 2 * 54);
             decoder.state[word] ^= (rand() >> 8) % 4 == 0 ? SIZE_MAX : 0;
         }
         update(&output, &decoder, text, length);

@@ -84,19 +84,21 @@ install(TARGETS unhex)\n" @ONLY)
 foreach(library const_hex static)
   test(subdirectory.${library} NEEDS python3 COMMAND ${CMAKE_CTEST_COMMAND} --build-and-test ${HERE}/project
     ${HERE}/subdirectory_${library} --build-generator ${CMAKE_GENERATOR} --build-options -DLIBRARY=${library} ${tool}
-    -DCONST_HEX_CARGO=${CONST_HEX_CARGO} --test-command ${TEST_UNHEX} ./unhex)
+    -DCONST_HEX_PORTABLE=${CONST_HEX_PORTABLE} --test-command ${TEST_UNHEX} ./unhex)
 endforeach()
 # By the compiler alone.
-if(NOT CONST_HEX_CARGO)
-  list(JOIN TEST_UNHEX "' '" run)
-  test(one_line NEEDS python3 COMMAND sh -ec "rm -rf one_line && mkdir one_line && cd one_line
-    '${CMAKE_C_COMPILER}' ${TARGET} -c '${PROJECT_SOURCE_DIR}'/asm/*.S && ar rcs libconst_hex.a *.o
-    '${CMAKE_C_COMPILER}' ${TARGET} '-I${PROJECT_SOURCE_DIR}' '${EXAMPLES}/unhex.c' libconst_hex.a -o unhex
-    '${run}' ./unhex")
+set(code "'${PROJECT_SOURCE_DIR}'/asm/*.S")
+if(CONST_HEX_PORTABLE)
+  set(code "'${PROJECT_SOURCE_DIR}/portable.c'")
 endif()
+list(JOIN TEST_UNHEX "' '" run)
+test(one_line NEEDS python3 COMMAND sh -ec "rm -rf one_line && mkdir one_line && cd one_line
+  '${CMAKE_C_COMPILER}' ${TARGET} -c ${code} && ar rcs libconst_hex.a *.o
+  '${CMAKE_C_COMPILER}' ${TARGET} '-I${PROJECT_SOURCE_DIR}' '${EXAMPLES}/unhex.c' libconst_hex.a -o unhex
+  '${run}' ./unhex")
 
 # The archive of a release.
-if(CONST_HEX_CARGO)
+if(CONST_HEX_PORTABLE)
   return()
 endif()
 set(ARCHIVE "${HERE}/un packed/${RELEASE}")

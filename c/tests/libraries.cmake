@@ -13,7 +13,7 @@ list(JOIN FUNCTIONS "\n" exported)
 file(CONFIGURE OUTPUT exported CONTENT "${exported}\n")
 test(library.exports COMMAND sh -c
   "'${CMAKE_NM}' -D --defined-only '${SHARED}' | sed 's/.* //' | LC_ALL=C sort | diff exported -")
-if(NOT CONST_HEX_CARGO)
+if(NOT CONST_HEX_PORTABLE)
   test(library.archive_names COMMAND ${CMAKE_NM} -g --defined-only $<TARGET_FILE:const_hex_static> PROPERTIES
     PASS_REGULAR_EXPRESSION " T const_hex_decode\n" FAIL_REGULAR_EXPRESSION " [A-Z] (c[^o]|[^c])")
   # Each kernel works on whole vectors. A loop over bytes would return the same.

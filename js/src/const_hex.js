@@ -38,15 +38,17 @@ const textBuffer = Buffer?.from(memory.buffer, TEXT, text.length);
 const textEncoder = globalThis.TextEncoder ? new TextEncoder() : { encodeInto: const_hex_decoder_update };
 const textDecoder = globalThis.TextDecoder && new TextDecoder();
 
-// Up to so many characters are copied by a loop, since calls of the engine take long to begin.
+// Up to so many characters are copied by a loop, since calls of the engine take long to begin, and so many bytes.
 const SHORT = Buffer ? 16 : 96;
+const SHORT_BYTES = 32;
 // From so many bytes on, Node joins the chunks of a text faster as bytes than as strings.
 const LONG = Buffer ? 2 ** 17 : Infinity;
 
 // What an array says of itself by these cannot be changed by its own properties or by a subclass.
 const { prototype: typedArray } = Object.getPrototypeOf(Uint8Array);
 const getterOf = (name) => Object.getOwnPropertyDescriptor(typedArray, name).get;
-const [typeOf, lengthOf, bufferOf] = [getterOf(Symbol.toStringTag), getterOf('length'), getterOf('buffer')];
+const [typeOf, lengthOf] = [getterOf(Symbol.toStringTag), getterOf('length')];
+const [bufferOf, offsetOf] = [getterOf('buffer'), getterOf('byteOffset')];
 
 export class HexError extends SyntaxError {
     name = 'HexError'; // An assignment would fail where `SyntaxError.prototype` is frozen.
@@ -59,19 +61,20 @@ export class HexError extends SyntaxError {
 }
 
 export function encode(input, options) {
-    const { prefix = false, upper = false } = options ?? {};
-    const view = viewOf(input, 'encode takes bytes: a Uint8Array, another view, or a buffer');
-    const length = lengthOf.call(view);
-    const flags = NO_NUL | (prefix ? PREFIX : 0) | (upper ? UPPER : 0);
-    if (length <= BYTES_CHUNK) return textAsString(encodeChunk(view, flags));
+    return encodeBytes(input, flagsOf(options));
+}
+
+function encodeBytes(input, flags) {
+    const { value, length } = bytesIn(input, 'encode takes bytes: a Uint8Array, another view, or a buffer');
+    if (length <= BYTES_CHUNK) return textAsString(encodeChunk(value, length, flags));
     // A string that is too long for the engine throws a RangeError when it is joined.
     const isJoined = length >= LONG && length < 2 ** 27;
     const joined = isJoined ? Buffer.allocUnsafeSlow(2 * length + (flags & PREFIX)) : undefined;
     let string = '';
     let written = 0;
     for (let index = 0; index < length; index += BYTES_CHUNK) {
-        const part = view.subarray(index, index + BYTES_CHUNK);
-        const count = encodeChunk(part, index === 0 ? flags : flags & ~PREFIX);
+        const part = value.subarray(index, index + BYTES_CHUNK);
+        const count = encodeChunk(part, part.length, index === 0 ? flags : flags & ~PREFIX);
         if (joined) joined.set(text.subarray(0, count), written);
         else string += textAsString(count);
         written += count;
@@ -89,18 +92,19 @@ export function decode(input) {
 
 export function decodeInto(input, target) {
     if (typeOf.call(target) !== 'Uint8Array') throw new TypeError('the target is not a Uint8Array');
-    typedArray.keys.call(target); // Throws if the target has lost its bytes.
-    const source = sourceOf(input);
     const length = lengthOf.call(target);
+    if (length === 0) typedArray.keys.call(target); // Throws if the target has lost its bytes.
+    const source = sourceOf(input);
     loadDecoder(0, 0);
     const output = decodeSource(source, true);
     try {
         if (!output || !finishes()) throw errorOf(source, length);
-        if (output.length !== length) throw new HexError(INVALID_LENGTH);
-        typedArray.set.call(target, output);
+        if ((output === bytes ? numbers[2] : output.length) !== length) throw new HexError(INVALID_LENGTH);
+        if (length > SHORT_BYTES) typedArray.set.call(target, output.subarray(0, length));
+        else for (let index = 0; index < length; index++) target[index] = output[index];
         return target;
     } finally {
-        if (output && output.buffer !== memory.buffer) new Uint8Array(output.buffer).fill(0);
+        if (output !== bytes) output?.fill(0);
     }
 }
 
@@ -124,12 +128,12 @@ export function decoder() {
 }
 
 export function encoderStream(options) {
-    let { prefix = false, upper = false } = options ?? {};
+    let flags = flagsOf(options);
     const transform = (chunk, controller) => {
-        controller.enqueue(encode(chunk, { prefix, upper }));
-        prefix = false;
+        controller.enqueue(encodeBytes(chunk, flags));
+        flags &= ~PREFIX;
     };
-    const flush = (controller) => { if (prefix) controller.enqueue('0x'); };
+    const flush = (controller) => { if (flags & PREFIX) controller.enqueue('0x'); };
     return new TransformStream({ transform, flush });
 }
 
@@ -172,12 +176,29 @@ function unusable(reason, cause) {
     return { memory: { buffer: new ArrayBuffer(2 ** 16) }, __heap_base: { value: STACK_SIZE }, ...functions };
 }
 
+/** Returns the flags for the options, of which only properties of the object itself count. */
+function flagsOf(options) {
+    const flagFor = (name, flag) => (Object.hasOwn(options, name) && options[name] ? flag : 0);
+    return options ? NO_NUL | flagFor('prefix', PREFIX) | flagFor('upper', UPPER) : NO_NUL;
+}
+
 /** Encodes at most a chunk of bytes into `text`, and returns how many characters it is. */
-function encodeChunk(view, flags) {
-    const length = lengthOf.call(view);
-    bytes.set(view);
+function encodeChunk(array, length, flags) {
+    copyBytes(array, length, bytes);
     if (!const_hex_encode(BYTES, length, TEXT, text.length, flags)) throw new Error('encoding failed');
     return 2 * length + (flags & PREFIX);
+}
+
+/** Copies the first bytes of an array to the front of `memory`, which may then have some more bytes of it. */
+function copyBytes(array, length, memory) {
+    try {
+        memory.set(array);
+    } catch (error) {
+        if (!(error instanceof RangeError)) throw error; // The array has lost its bytes.
+        // Another thread has let its buffer grow. Other arrays are not asked for their buffer: for one of few bytes V8
+        // would make a buffer, and leave a copy of the bytes where they were.
+        memory.set(new Uint8Array(bufferOf.call(array), offsetOf.call(array), length));
+    }
 }
 
 function loadDecoder(first, second) {
@@ -186,20 +207,19 @@ function loadDecoder(first, second) {
 }
 
 /**
- * Returns what a source decodes to, or undefined after an error. What a caller copies may be in `bytes`, or be the
- * beginning of its buffer. No other array keeps any of it.
+ * Returns what a source decodes to, or undefined after an error. What a caller copies may be the first `numbers[2]`
+ * bytes of `bytes`, or be the beginning of its buffer. No other array keeps any of it.
  */
 function decodeSource(source, isCopied = false) {
-    const length = lengthIn(source);
     let count = decodeChunk(source, 0);
     if (count < 0) return undefined;
-    if (length <= TEXT_CHUNK) return isCopied ? bytes.subarray(0, count) : bytes.slice(0, count);
-    const output = new Uint8Array(count + Math.ceil(length / 2) - BYTES_CHUNK);
+    if (source.length <= TEXT_CHUNK) return isCopied ? bytes : bytes.slice(0, count);
+    const output = new Uint8Array(count + Math.ceil(source.length / 2) - BYTES_CHUNK);
     let written = 0;
     for (let index = TEXT_CHUNK; count >= 0; index += TEXT_CHUNK) {
         output.set(bytes.subarray(0, count), written);
         written += count;
-        if (index >= length) break;
+        if (index >= source.length) break;
         count = decodeChunk(source, index);
     }
     if (count >= 0 && (isCopied || written === output.length)) return output.subarray(0, written);
@@ -224,19 +244,19 @@ function accepts(source) {
     do {
         if (decodeChunk(source, index) < 0) return false;
         index += TEXT_CHUNK;
-    } while (index < lengthIn(source));
+    } while (index < source.length);
     return finishes();
 }
 
 /** Copies the chunk at an index into `text`, and returns its length. */
-function copyChunk(source, index) {
-    const length = Math.min(lengthIn(source) - index, TEXT_CHUNK);
-    if (typeof source !== 'string') {
-        text.set(length < lengthOf.call(source) ? source.subarray(index, index + length) : source);
-    } else if (length > SHORT || !copyAscii(source, index, length)) {
+function copyChunk({ value, length: total }, index) {
+    const length = Math.min(total - index, TEXT_CHUNK);
+    if (typeof value !== 'string') {
+        copyBytes(length < total ? value.subarray(index, index + length) : value, length, text);
+    } else if (length > SHORT || !copyAscii(value, index, length)) {
         // An invalid character comes within this length, as none has fewer bytes than units of the string.
         // One unit more, so that no surrogate pair is cut.
-        textEncoder.encodeInto(source.slice(index, index + length + 1), text);
+        textEncoder.encodeInto(value.slice(index, index + length + 1), text);
     }
     return length;
 }
@@ -261,20 +281,23 @@ function textAsString(length) {
     return String.fromCharCode.apply(null, units);
 }
 
-const lengthIn = (source) => (typeof source === 'string' ? source.length : lengthOf.call(source));
-const sourceOf = (input) => (typeof input === 'string' ? input : viewOf(input, 'not text or bytes'));
+/** Returns a text, and its length now: another thread may let the buffer of an array grow. */
+const sourceOf = (input) => (
+    typeof input === 'string' ? { value: input, length: input.length } : bytesIn(input, 'not text or bytes')
+);
 
-/** Returns the bytes of a buffer or of a view, or throws a TypeError with the message. */
-function viewOf(value, message) {
+/** Returns the bytes of a buffer or of a view, and how many they are, or throws a TypeError with the message. */
+function bytesIn(value, message) {
     const type = typeOf.call(value);
+    const length = type === 'Uint8Array' ? lengthOf.call(value) : Infinity;
     // Copying throws if the array has lost its bytes.
-    if (type === 'Uint8Array' && lengthOf.call(value) <= BYTES_CHUNK && !bufferOf.call(value).growable) return value;
+    if (length <= BYTES_CHUNK) return { value, length };
     try {
         if (type) typedArray.keys.call(value); // Throws if the array has lost its bytes.
         const view = ArrayBuffer.isView(value) ? value : new DataView(value);
         const get = (name) => Reflect.get(type ? typedArray : DataView.prototype, name, view);
-        // Of this length, also if another thread lets a shared buffer grow.
-        return new Uint8Array(get('buffer'), get('byteOffset'), get('byteLength'));
+        const array = new Uint8Array(get('buffer'), get('byteOffset'), get('byteLength'));
+        return { value: array, length: array.length };
     } catch (cause) {
         const lost = typeof value === 'object' ? ' (or the buffer is detached or too short)' : '';
         throw new TypeError(message + lost, { cause });
@@ -285,8 +308,10 @@ function viewOf(value, message) {
 function errorOf(source, targetLength) {
     const [kind, byte, index] = numbers.subarray(4);
     if (source !== undefined) {
-        const length = utf8Length(source);
-        const start = typeof source === 'string' ? source : String.fromCharCode(source[0], source[1]);
+        const { value } = source;
+        const isString = typeof value === 'string';
+        const length = isString ? utf8Length(value) : source.length;
+        const start = isString ? value : String.fromCharCode(value[0], value[1]);
         const digits = /^0x/i.test(start) ? length - 2 : length;
         if (length % 2 === 1) return new HexError(ODD_LENGTH);
         if (targetLength !== undefined && digits !== 2 * targetLength) return new HexError(INVALID_LENGTH);
@@ -294,11 +319,10 @@ function errorOf(source, targetLength) {
     return new HexError(kind, kind === INVALID_CHARACTER ? { index, byte } : undefined);
 }
 
-function utf8Length(source) {
-    if (typeof source !== 'string') return lengthOf.call(source);
+function utf8Length(string) {
     let length = 0;
-    for (let index = 0; index < source.length; ) {
-        const { read, written } = textEncoder.encodeInto(source.slice(index), text);
+    for (let index = 0; index < string.length; ) {
+        const { read, written } = textEncoder.encodeInto(string.slice(index), text);
         index += read;
         length += written;
     }

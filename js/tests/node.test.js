@@ -1,7 +1,8 @@
 // The cases in Node, and what needs Node: engines by what they lack, the module's results, and large inputs.
 import assert from 'node:assert/strict';
-import { execFileSync, spawnSync } from 'node:child_process';
-import { readFileSync } from 'node:fs';
+import { execFileSync, spawn, spawnSync } from 'node:child_process';
+import { once } from 'node:events';
+import { closeSync, openSync, readFileSync, readSync } from 'node:fs';
 import test from 'node:test';
 import { runInNewContext } from 'node:vm';
 import * as hex from '../dist/const_hex.js';
@@ -140,6 +141,99 @@ test('a shared buffer that grows meanwhile', async () => {
         }
     }
 });
+
+// It grows between the look at its length and the copy.
+test('a shared buffer that grows beyond the memory', () => {
+    const arrays = Object.getPrototypeOf(Uint8Array.prototype);
+    const { set } = arrays;
+    for (const call of [hex.encode, hex.decode, (array) => hex.decodeInto(array, new Uint8Array(2))]) {
+        const buffer = new SharedArrayBuffer(4, { maxByteLength: 2 ** 17 });
+        Buffer.from(buffer).write('6b69');
+        arrays.set = function (...given) {
+            buffer.grow(2 ** 17);
+            return Reflect.apply(set, this, given);
+        };
+        try {
+            const result = call(new Uint8Array(buffer));
+            const [found, wanted] = call === hex.encode ? [result, '36623639'] : [hex.encode(result), '6b69'];
+            assert.equal(found, wanted);
+        } finally {
+            arrays.set = set;
+        }
+    }
+});
+
+test('options are properties of the object itself', async () => {
+    Object.assign(Object.prototype, { prefix: true, upper: true });
+    try {
+        const stream = hex.encoderStream({});
+        const writer = stream.writable.getWriter();
+        writer.write(Uint8Array.of(0xab));
+        const { value } = await stream.readable.getReader().read();
+        const texts = [undefined, {}, { upper: false }].map((options) => hex.encode(Uint8Array.of(0xab), options));
+        assert.deepEqual([value, ...texts], ['ab', 'ab', 'ab', 'ab']);
+    } finally {
+        delete Object.prototype.prefix;
+        delete Object.prototype.upper;
+    }
+});
+
+// Arrays of at most 64 bytes lie on the heap of V8, until something asks for their buffer.
+const KEYS = `
+    import * as hex from ${JSON.stringify(new URL('../dist/const_hex.js', import.meta.url))};
+    const complements = [];
+    const note = (array) => complements.push(Array.from(array, (byte) => byte ^ 255));
+    const arrayOf = (size, byteAt) => {
+        const array = new Uint8Array(size);
+        for (let index = 0; index < size; index++) array[index] = byteAt();
+        note(array);
+        return array;
+    };
+    const random = () => Math.random() * 256;
+    const digit = () => '0123456789abcdef'.charCodeAt(Math.random() * 16);
+    for (const size of [16, 32, 64, 65, 100]) {
+        globalThis['kept' + size] = arrayOf(size, random);
+        const [key, text, target] = [arrayOf(size, random), arrayOf(2 * size, digit), new Uint8Array(size)];
+        hex.encode(key);
+        hex.isHex(text);
+        note(hex.decodeInto(text, target));
+        for (const array of [key, text, target, hex.decode(text)]) array.fill(0);
+    }
+    hex.wipe();
+    console.log(JSON.stringify(complements));
+    setInterval(() => {}, 1e6);`;
+
+const noLinux = process.platform !== 'linux' && 'only Linux shows the memory of a process';
+test('no copy of a key is left once it is cleared', { skip: noLinux }, async () => {
+    const child = spawn(process.execPath, ['--input-type=module', '--eval', KEYS]);
+    try {
+        const [printed] = await once(child.stdout, 'data');
+        const arrays = JSON.parse(printed).map((complement) => Buffer.from(complement.map((byte) => byte ^ 255)));
+        const counts = countIn(child.pid, arrays.map((array) => array.subarray(-16)));
+        // Of each four arrays the first one was not cleared.
+        const isRight = counts.every((count, index) => (count > 0) === (index % 4 === 0));
+        assert(isRight, `copies of arrays for 16, 32, 64, 65 and 100 bytes: ${counts}`);
+    } finally {
+        child.kill();
+    }
+});
+
+/** Returns how often each pattern stands in the memory of a process. */
+function countIn(pid, patterns) {
+    const file = openSync(`/proc/${pid}/mem`);
+    const counts = patterns.map(() => 0);
+    for (const line of readFileSync(`/proc/${pid}/maps`, 'latin1').trim().split('\n')) {
+        const [, start, end] = /^(\w+)-(\w+) r(?!.*\[v)/.exec(line)?.map((number) => Number(`0x${number}`)) ?? [];
+        if (start === undefined) continue;
+        const region = Buffer.alloc(end - start);
+        readSync(file, region, 0, region.length, start);
+        patterns.forEach((pattern, number) => {
+            for (let at = -1; (at = region.indexOf(pattern, at + 1)) >= 0;) counts[number] += 1;
+        });
+    }
+    closeSync(file);
+    return counts;
+}
 
 test('a HexError where the prototypes of errors are frozen', () => {
     const code = `import { decode } from ${JSON.stringify(new URL('../dist/const_hex.js', import.meta.url))};

@@ -1,8 +1,8 @@
 """How those that call a function use its contract, which is proved of it.
 
-A contract says in `requires` what it asks for, and in `called` what holds after a call. What is written to a buffer is
-compared as any other store is: at an arbitrary place. If more followed here than what is proved, or less were asked
-for, a wrong caller could be accepted.
+A contract says in `requires` what it asks for, and in `called` what holds after a call. What is
+written to a buffer is compared as any other store is: at an arbitrary place. If more followed here
+than what is proved, or less were asked for, a wrong caller could be accepted.
 """
 
 import functools
@@ -10,7 +10,7 @@ import functools
 import z3
 
 from contracts.functions import is_digit
-from execution.state import byte, fresh, simple, word
+from execution.terms import byte, fresh_public, simple, word
 from solver.questions import is_public, names, require
 
 
@@ -20,23 +20,31 @@ def effects(contracts):
 
 
 def _called(contract, state):
-    """The states after a call of a function, each with the result, if there is one. It takes the state at the first
-    instruction of the function."""
+    """The states after a call of a function, each with the result, if there is one. It takes the
+    state at the first instruction of the function."""
     passed = list(zip(contract.arguments, state.arguments(len(contract.arguments))))
-    condition = simple(z3.And(*[z3.substitute(condition, *passed) for condition in contract.requires]))
-    require(state.may_leak or is_public(condition), "an argument depends on bytes that are secret")
-    state.must(condition, "arguments that the contract does not allow")
-    arguments = {formal.decl().name().removeprefix("p_"): given for formal, given in passed}
-    is_constant = not contract.may_leak and all(map(is_public, arguments.values()))
-    require(state.may_leak or is_constant, "how long a call takes may depend on bytes that are secret")
-    if way := state.when(condition):
-        yield from contract.called(way, **arguments)
+    condition = simple(
+        z3.And(*[z3.substitute(condition, *passed) for condition in contract.requires])
+    )
+    require(
+        state.is_declassified or is_public(condition),
+        "an argument depends on bytes that are secret",
+    )
+    state.prove(condition, "arguments that the contract does not allow")
+    arguments = {formal.decl().name(): given for formal, given in passed}
+    is_constant = not contract.is_declassified and all(map(is_public, arguments.values()))
+    require(
+        state.is_declassified or is_constant,
+        "how long a call takes may depend on bytes that are secret",
+    )
+    if path := state.branch(condition):
+        yield from contract.called(path, **arguments)
 
 
 def any_below(state, count):
     """The state with a number below another one, or None if there is none; and the number."""
-    index = word(0) if state.holds(count == 1) else fresh("p", 64)
-    return state.when(z3.ULT(index, count)), index
+    index = word(0) if state.is_valid(count == 1) else fresh_public(64)
+    return state.branch(z3.ULT(index, count)), index
 
 
 def offset_in(state, name, address):
@@ -44,18 +52,19 @@ def offset_in(state, name, address):
 
 
 def is_in(name, address):
-    return f"p_{name}" in names(address)
+    return name in names(address)
 
 
 def write(state, address, lane):
-    """What a kernel writes is compared with the contract of its caller, so it has to go to the output."""
+    """What a kernel writes is compared with the contract of its caller, so it has to go to the
+    output."""
     require(is_in("output", address), "a kernel writes to what is no output")
     state.store(address, lane)
 
 
-def judged(state, text, count):
-    """The state in which all characters are digits, and the one in which some are not, each with the result. In the
-    second, time may depend on the text if it is no valid one."""
+def checked(state, text, count):
+    """The state in which all characters are digits, and the one in which some are not, each with
+    the result. In the second, time may depend on the text if it is no valid one."""
     is_input = is_in("input", text)
     some, index = any_below(state, count)
     if not some:
@@ -63,20 +72,27 @@ def judged(state, text, count):
     if is_input:  # of which any character is read
         characters = some.load(simple(text + index), 1)
     else:
-        state.must(count == 2, "a text that is neither in the input nor a pair")
+        state.prove(count == 2, "a text that is neither in the input nor a pair")
         some, characters = state, state.load(text, 2)
     are_digits = z3.And(*map(is_digit, characters))
-    true = state.with_digits(offset_in(state, "input", text), count) if is_input else state.when(are_digits)
-    is_valid = some.choose(are_digits)
-    require(is_valid is not False, "a text that is never valid is read: its bytes may decide how long that takes")
-    if false := some.when(z3.Not(are_digits)):
-        false.may_leak |= is_valid is True
-    return [(way, result) for way, result in ((true, 1), (false, 0)) if way]
+    true = (
+        state.with_digits(offset_in(state, "input", text), count)
+        if is_input
+        else state.branch(are_digits)
+    )
+    input_is_valid = some.choose(are_digits)
+    require(
+        input_is_valid is not False,
+        "a text that is never valid is read: its bytes may decide how long that takes",
+    )
+    if false := some.branch(z3.Not(are_digits)):
+        false.is_declassified |= input_is_valid is True
+    return [(path, result) for path, result in ((true, 1), (false, 0)) if path]
 
 
 def first_invalid_from(state, text, count):
-    """The states after a search, with the index of the first character that is no digit, which may be any, and the
-    character; or, if all are digits, the length and 0."""
+    """The states after a search, with the index of the first character that is no digit, which may
+    be any, and the character; or, if all are digits, the length and 0."""
     start = offset_in(state, "input", text)
     some, index = any_below(state, count)
     if some:
@@ -84,8 +100,8 @@ def first_invalid_from(state, text, count):
         some.load(simple(text + index), 1)
     if none := state.with_digits(start, count):
         yield none, count, byte(0)
-    index = fresh("p", 64)
-    some = state.when(z3.ULT(index, count))
+    index = fresh_public(64)
+    some = state.branch(z3.ULT(index, count))
     some = some and some.with_no_digit(start + index)
     if some := some and some.with_digits(start, index, are_named=False):
         yield some, index, some.byte_of_input(start + index)

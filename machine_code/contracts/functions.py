@@ -1,4 +1,5 @@
-"""What the contracts of functions have in common: digits, what covers a buffer, and the states at a call.
+"""What the contracts of functions have in common: digits, what covers a buffer, and the states at a
+call.
 
 If these were wrong, another claim would be proved than the one that the other files here state.
 """
@@ -7,10 +8,10 @@ import itertools
 
 import z3
 
-from execution.state import byte, simple, word
-from solver.questions import require
+from execution.terms import byte, simple, word
+from solver.questions import public, require, secret
 
-N, INDEX = z3.BitVec("p_n", 64), z3.BitVec("p_index", 64)
+N, INDEX = public("n", 64), public("index", 64)
 ODD_LENGTH, INVALID_LENGTH, INVALID_CHARACTER = 1, 2, 3
 # The kind of an invalid character within the library, and what a decoder waits for after one.
 FOUND = FAILED = 2
@@ -23,8 +24,11 @@ def size_max(state):
 
 def is_digit(c):
     """Whether a character is one of 0-9, A-F and a-f."""
-    return z3.Or(z3.And(z3.UGE(c, 0x30), z3.ULE(c, 0x39)), z3.And(z3.UGE(c, 0x41), z3.ULE(c, 0x46)),
-                 z3.And(z3.UGE(c, 0x61), z3.ULE(c, 0x66)))
+    return z3.Or(
+        z3.And(z3.UGE(c, 0x30), z3.ULE(c, 0x39)),
+        z3.And(z3.UGE(c, 0x41), z3.ULE(c, 0x46)),
+        z3.And(z3.UGE(c, 0x61), z3.ULE(c, 0x66)),
+    )
 
 
 def value(c):
@@ -34,8 +38,10 @@ def value(c):
 
 def digits_of(number, is_upper):
     """The two digits of a byte."""
-    return [z3.If(z3.ULE(half, 9), half + 0x30, half - 10 + (0x41 if is_upper else 0x61))
-            for half in (z3.LShR(number, 4), number & 15)]
+    return [
+        z3.If(z3.ULE(half, 9), half + 0x30, half - 10 + (0x41 if is_upper else 0x61))
+        for half in (z3.LShR(number, 4), number & 15)
+    ]
 
 
 def decoded(high, low):
@@ -50,12 +56,12 @@ def is_prefix(zero, x):
 
 def base(name):
     """The address of a region."""
-    return z3.BitVec(f"p_{name}", 64)
+    return public(name, 64)
 
 
 def of_32_bits(term):
     """An argument of 32 bits: what lies above may be anything."""
-    return z3.Concat(z3.BitVec("g_above", 32), term)
+    return z3.Concat(secret("above", 32), term)
 
 
 def in_size_t(state, number):
@@ -68,41 +74,48 @@ def _lies_in(parts):
 
 
 def are_covered(first, limit, parts):
-    """Each index from a first one up to a limit lies in one of the parts, which have an offset and a count."""
+    """Each index from a first one up to a limit lies in one of the parts, which have an offset and
+    a count."""
     return z3.Implies(z3.And(z3.ULE(first, INDEX), z3.ULT(INDEX, limit)), _lies_in(parts))
 
 
-def must_be_digits(state, limit, message="a character is passed that may be no digit"):
+def prove_digits(state, limit, message="a character is passed that may be no digit"):
     """The digits of the text are digits up to a limit."""
-    state.must(are_covered(state.body, limit, list(state.known_digits())), message)
+    state.prove(are_covered(state.body, limit, list(state.known_digits())), message)
 
 
-def must_be_written(state, limit, message, first=word(0)):
+def prove_written(state, limit, message, first=word(0)):
     """The output is written up to a limit."""
-    state.must(are_covered(first, limit, state.writes), message)
+    state.prove(are_covered(first, limit, state.writes), message)
 
 
-def must_be_a_front(state):
+def prove_no_gap(state):
     """What is written is a front of the output: nothing is left out before it."""
     is_before = z3.Or(*[z3.ULT(INDEX, offset) for offset, _ in state.writes])
-    state.must(z3.Implies(is_before, _lies_in(state.writes)), "a byte is left out before what is written")
+    state.prove(
+        z3.Implies(is_before, _lies_in(state.writes)), "a byte is left out before what is written"
+    )
 
 
 class Function:
-    """A function with its arguments. `symbol` is how its name looks; what others call by its contract has less stack.
-    `regions` are what it may access, some of which depend on how many bytes a size_t has. `empty` are its buffers, with
-    their sizes, for which NULL may be passed if they are empty. `passed` has what a function does that is an argument."""
+    """A function with its arguments. `symbol` is how its name looks; what others call by its
+    contract has less stack. `regions` are what it may access, some of which depend on how many
+    bytes a size_t has. `empty` are its buffers, with their sizes, for which NULL may be passed
+    if they are empty. `passed` has what a function does that is an argument.
+    """
 
-    is_called = is_local = may_leak = is_unrolled = False
+    is_called = is_local = is_declassified = is_unrolled = False
     is_in_module = True
-    # Whether it may use what is kept between calls, which is no secret then; and whether every input is valid.
+    # Whether it may use what is kept between calls, which is no secret then; and whether every
+    # input is valid.
     is_keeping = is_any_valid = False
     is_digit = staticmethod(is_digit)
     regions = empty = requires = passed = ()
     name = "every call"
     called_as = property(lambda self: self.symbol)  # the name that others call it with
-    # In how many steps facts may be from what is to be proved, if that has a limit; for which CPU the code is, if its
-    # name does not say it; and what functions do, if not what callees.py says, by what follows its name in theirs.
+    # In how many steps facts may be from what is to be proved, if that has a limit; for which CPU
+    # the code is, if its name does not say it; and what functions do, if not what callees.py says,
+    # by what follows its name in theirs.
     near = level = imported = None
     parts = 1  # in which its starts are proved, beside each other
 
@@ -114,14 +127,14 @@ class Function:
         for condition in self.requires:
             state.assume(condition)
         nulls = [(base(name) != 0, z3.And(base(name) == 0, size == 0)) for name, size in self.empty]
-        ways = [state.when(z3.And(*choice)) for choice in itertools.product(*nulls)]
-        return [start for way in ways if way for start in self._all_cases(way)]
+        paths = [state.branch(z3.And(*choice)) for choice in itertools.product(*nulls)]
+        return [start for path in paths if path for start in self._all_cases(path)]
 
     def _all_cases(self, state):
-        ways = list(self.cases(state))
-        known = [z3.And(*[fact.term for fact in way.facts[len(state.facts) :]]) for way in ways]
-        state.must(z3.Implies(self.is_for(state), z3.Or(*known)), "a start is missing")
-        return ways
+        paths = list(self.cases(state))
+        known = [z3.And(*[fact.term for fact in path.facts[len(state.facts) :]]) for path in paths]
+        state.prove(z3.Implies(self.is_for(state), z3.Or(*known)), "a start is missing")
+        return paths
 
     def stacks(self, state):
         """How much stack it has, and how much of it is for what it calls."""
@@ -136,10 +149,11 @@ class Function:
         return z3.BoolVal(True)
 
     def reached(self, state, read, written):
-        """At the head of a loop: all characters so far are digits, and the output is written so far."""
-        must_be_digits(state, read)
-        must_be_a_front(state)
-        must_be_written(state, written, "a byte of the output is left out")
+        """At the head of a loop: all characters so far are digits, and the output is written so
+        far."""
+        prove_digits(state, read)
+        prove_no_gap(state)
+        prove_written(state, written, "a byte of the output is left out")
 
     def is_alone(self, state, offset):
         """Whether a byte of the input may decide which value a module selects."""
@@ -147,57 +161,70 @@ class Function:
 
     def valid(self, state):
         """What a valid input is, for constant time: the digits of the text are digits."""
-        return [is_digit(name) for offset, name in state.input.values()
-                if not self.is_any_valid and state.holds(z3.UGE(offset, state.body))]
+        return [
+            is_digit(name)
+            for offset, name in state.input.values()
+            if not self.is_any_valid and state.is_valid(z3.UGE(offset, state.body))
+        ]
 
 
 def with_prefix_or_without(state):
     """The start where the text has a prefix, and the one where it has none."""
-    has_prefix = z3.And(z3.UGE(N, 2), is_prefix(*[state.byte_of_input(word(index)) for index in (0, 1)]))
+    has_prefix = z3.And(
+        z3.UGE(N, 2), is_prefix(*[state.byte_of_input(word(index)) for index in (0, 1)])
+    )
     for condition, first in (has_prefix, 2), (z3.Not(has_prefix), 0):
-        if way := state.when(condition):
-            way.body = word(first)
-            yield way
+        if path := state.branch(condition):
+            path.body = word(first)
+            yield path
 
 
-def must_be_true_if(state, condition, message):
+def prove_true_if(state, condition, message):
     """The result is true if a condition holds, and false otherwise."""
     result = state.result()
-    state.must(result == z3.If(condition, z3.BitVecVal(1, result.size()), 0), message)
+    state.prove(result == z3.If(condition, z3.BitVecVal(1, result.size()), 0), message)
 
 
-def must_be_unchanged(state, name):
-    same = all(value.eq(state.cells[key]) for key, value in state.first_cells.items() if key[0] == name)
+def prove_unchanged(state, name):
+    same = all(
+        value.eq(state.cells[key]) for key, value in state.first_cells.items() if key[0] == name
+    )
     require(same, f"{name} is changed")
 
 
-def must_have(state, name, *numbers, offset=0):
+def prove_has(state, name, *numbers, offset=0):
     """An object has these numbers from an offset on, one after the other."""
     for number in numbers:
         count = number.size() // 8
-        state.must_equal(state.cell(name, offset, count), number, f"{name} is wrong at {offset}")
+        state.prove_equal(state.cell(name, offset, count), number, f"{name} is wrong at {offset}")
         offset += count
 
 
-def must_fail(state, kind, index=word(0), character=byte(0)):
-    """The error is of a kind. If that is an invalid character, it has its index and the character, else 0."""
-    must_have(state, "error", z3.BitVecVal(kind, 32), z3.ZeroExt(24, character), in_size_t(state, index))
+def prove_failure(state, kind, index=word(0), character=byte(0)):
+    """The error is of a kind. If that is an invalid character, it has its index and the character,
+    else 0."""
+    prove_has(
+        state, "error", z3.BitVecVal(kind, 32), z3.ZeroExt(24, character), in_size_t(state, index)
+    )
 
 
 def first_invalid(state):
-    """The index of the first character of the text that is no digit, and the character; or, if there is none, the
-    length and 0."""
+    """The index of the first character of the text that is no digit, and the character; or, if
+    there is none, the length and 0."""
     parts = list(state.known_digits())
     for index, character in list(state.input.values()):
-        is_in = z3.And(z3.ULE(state.body, index), z3.ULT(index, N), are_covered(state.body, index, parts))
-        if state.is_known(character, False) and state.holds(is_in):
+        is_in = z3.And(
+            z3.ULE(state.body, index), z3.ULT(index, N), are_covered(state.body, index, parts)
+        )
+        if state.is_known(character, False) and state.is_valid(is_in):
             return index, character
-    must_be_digits(state, N)
+    prove_digits(state, N)
     return N, byte(0)
 
 
 def moved(state, position, count):
-    """A position so many characters later, or SIZE_MAX if it is greater. Of all numbers the bits of a size_t count."""
+    """A position so many characters later, or SIZE_MAX if it is greater. Of all numbers the bits of
+    a size_t count."""
     later = simple(position + count)
     is_greater = z3.ULT(in_size_t(state, later), in_size_t(state, position))
     return state.either(is_greater, word(size_max(state)), later)

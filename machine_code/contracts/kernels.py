@@ -1,16 +1,28 @@
-"""The functions of a kernel, which the Rust crate and the C library call, and what is claimed of each.
+"""The functions of a kernel, which the Rust crate and the C library call, and what is claimed of
+each.
 
-If a claim were weaker than what machine_code.rs in rust/src/kernel says, a kernel could be accepted that the crate
-must not call. No length has a limit but that of Rust, whose slices have at most isize::MAX bytes: below 2^63.
+If a claim were weaker than what machine_code.rs in rust/src/kernel says, a kernel could be accepted
+that the crate must not call. No length has a limit but that of Rust, whose slices have at most
+isize::MAX bytes: below 2^63.
 """
 
 import z3
 
-from contracts.callees import any_below, is_in, judged, offset_in, write
-from contracts.functions import (N, Function, base, decoded, digits_of, is_digit, must_be_a_front, must_be_digits,
-                                 must_be_written)
-from execution.state import Region, simple, word
-from solver.questions import holds, require
+from contracts.callees import any_below, is_in, checked, offset_in, write
+from contracts.functions import (
+    N,
+    Function,
+    base,
+    decoded,
+    digits_of,
+    is_digit,
+    prove_no_gap,
+    prove_digits,
+    prove_written,
+)
+from execution.state import Region
+from execution.terms import simple, word
+from solver.questions import is_valid, require
 
 
 class Kernel(Function):
@@ -18,29 +30,37 @@ class Kernel(Function):
 
     is_called, name, imported = True, "any text", {}
     # Each of the two has less than 2^63 bytes.
-    requires = z3.ULT(N, 1 << 62),
+    requires = (z3.ULT(N, 1 << 62),)
     input_size, output_size = simple(2 * N), N
     symbol = property(lambda self: rf"const_hex_(\d+_\d+_\d+|kernel)_{self.function}(_v[23])?")
     called_as = property(lambda self: f"const_hex_kernel_{self.function}")
-    regions = property(lambda self: (Region("input", self.input_size), Region("output", self.output_size)))
+    regions = property(
+        lambda self: (Region("input", self.input_size), Region("output", self.output_size))
+    )
 
     def returns(self, state):
-        """The result is true if and only if all characters are digits. Then all of the output is written."""
+        """The result is true if and only if all characters are digits. Then all of the output is
+        written."""
         result = state.result()
-        must_be_a_front(state)
-        state.must(z3.Or(result == 0, result == 1), "the result is neither true nor false")
-        if true := state.when(result == 1):
+        prove_no_gap(state)
+        state.prove(z3.Or(result == 0, result == 1), "the result is neither true nor false")
+        if true := state.branch(result == 1):
             self.reached(true, self.input_size, self.output_size)
-        if not state.may_leak:
-            require(holds(state.facts + state.is_valid(), result == 1), "digits are rejected")
+        if not state.is_declassified:
+            require(
+                is_valid(state.facts + state.input_is_valid(), result == 1), "digits are rejected"
+            )
 
     def has_written(self, state, output, n):
         """After a call, all of its output is written."""
-        state.writes.append((offset_in(state, "output", output), simple(z3.substitute(self.output_size, (N, n)))))
+        state.writes.append(
+            (offset_in(state, "output", output), simple(z3.substitute(self.output_size, (N, n))))
+        )
 
 
 class Fill(Kernel):
-    """fill_lower(bytes, n, text), or fill_upper: the text has the two digits of each byte. There is no result."""
+    """fill_lower(bytes, n, text), or fill_upper: the text has the two digits of each byte. There is
+    no result."""
 
     is_any_valid, name, arguments = True, "any bytes", (base("input"), N, base("output"))
     input_size, output_size = N, simple(2 * N)
@@ -50,10 +70,10 @@ class Fill(Kernel):
 
     def store(self, state, offset, lane):
         """At an even offset stands the higher digit of a byte, and at the next one the lower."""
-        must_be_digits_of(state, offset, lane, self.is_upper)
+        prove_digits_of(state, offset, lane, self.is_upper)
 
     def reached(self, state, read, written):
-        must_be_written(state, written, "a character of the text is left out")
+        prove_written(state, written, "a character of the text is left out")
 
     def returns(self, state):
         self.reached(state, None, self.output_size)
@@ -66,65 +86,67 @@ class Fill(Kernel):
         yield state,
 
 
-def must_be_digits_of(state, offset, lane, is_upper):
+def prove_digits_of(state, offset, lane, is_upper):
     """Characters at an offset in the digits of all bytes are theirs."""
-    odd = next((odd for odd in (0, 1) if state.holds(offset & 1 == odd)), None)
+    odd = next((odd for odd in (0, 1) if state.is_valid(offset & 1 == odd)), None)
     require(odd is not None, "an offset in the text that may be odd or even")
     source = simple(z3.LShR(offset, 1))
     for half, character in enumerate(lane, odd):
         wanted = digits_of(state.byte_of_input(source + half // 2), is_upper)[half % 2]
-        state.must_equal(character, wanted, f"a wrong character at {offset} + {half - odd}")
+        state.prove_equal(character, wanted, f"a wrong character at {offset} + {half - odd}")
 
 
 class Check(Kernel):
     """check(text, n): whether all characters are digits."""
 
     function = "check"
-    requires = z3.ULT(N, 1 << 63),
+    requires = (z3.ULT(N, 1 << 63),)
     input_size, output_size = N, word(0)
     arguments = base("input"), N
 
     def called(self, state, input, n):
-        return judged(state, input, n)
+        return checked(state, input, n)
 
 
 class Read(Kernel):
-    """read(text, bytes, n): whether all 2n characters are digits. Then the bytes are what the text decodes to."""
+    """read(text, bytes, n): whether all 2n characters are digits. Then the bytes are what the text
+    decodes to."""
 
     function = "read"
     arguments = base("input"), base("output"), N
 
     def store(self, state, offset, lane):
         """Only what digits decode to is written that have no invalid character before them."""
-        must_be_decoded(state, offset, lane)
+        prove_decoded(state, offset, lane)
 
     def called(self, state, input, n, output):
-        """Any byte may be written before which, and of which, all is digits. All are, if all is; else a front."""
+        """Any byte may be written before which, and of which, all is digits. All are, if all is;
+        else a front."""
         some, index = any_below(state, n)
         if some:
             pair = some.load(input + 2 * index, 2)
             if is_in("input", input):
                 some = some.with_digits(offset_in(some, "input", input), 2 * index + 2)
-            if some := some and some.when(z3.And(*map(is_digit, pair))):
+            if some := some and some.branch(z3.And(*map(is_digit, pair))):
                 write(some, output + index, [decoded(*pair)])
-        for way, result in judged(state, input, simple(2 * n)):
+        for path, result in checked(state, input, simple(2 * n)):
             if some:
-                self.has_written(way, output, n if result else word(0))
-            yield way, result
+                self.has_written(path, output, n if result else word(0))
+            yield path, result
 
 
-def must_be_decoded(state, offset, lane):
-    """Bytes at an offset are what the digits of the text decode to, which have no invalid character before them. The
-    first half of the first one may be a digit that waits."""
+def prove_decoded(state, offset, lane):
+    """Bytes at an offset are what the digits of the text decode to, which have no invalid character
+    before them. The first half of the first one may be a digit that waits."""
     is_waiting = state.waiting is not None
-    is_first = is_waiting and state.holds(offset == 0)
-    state.must(z3.Or(not is_waiting, is_first, offset != 0), "whether it is the first byte")
+    is_first = is_waiting and state.is_valid(offset == 0)
+    state.prove(z3.Or(not is_waiting, is_first, offset != 0), "whether it is the first byte")
     begin = state.body - is_waiting
-    must_be_digits(state, simple(begin + 2 * (offset + len(lane))), "written before it is known")
+    prove_digits(state, simple(begin + 2 * (offset + len(lane))), "written before it is known")
     for index, number in enumerate(lane):
         high, low = [state.byte_of_input(begin + 2 * (offset + index) + more) for more in (0, 1)]
         high = state.waiting if is_first and index == 0 else high
-        state.must_equal(number, decoded(high, low), f"a wrong byte at {offset} + {index}")
+        state.prove_equal(number, decoded(high, low), f"a wrong byte at {offset} + {index}")
 
 
 KERNELS = Fill(0), Fill(1), Check(), Read()

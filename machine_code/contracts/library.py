@@ -1,7 +1,9 @@
-"""The functions of the C library, and what c/const_hex.h says of each. A NULL `error` is a matter of c/asm/dispatch.S.
+"""The functions of the C library, and what c/const_hex.h says of each. A NULL `error` is a matter
+of c/asm/dispatch.S.
 
-If a claim were weaker than what the header says, a library could be accepted that does something else. A text has less
-than 2^63 characters, and so have the bytes whose text fits into a buffer; a size that is passed has no limit.
+If a claim were weaker than what the header says, a library could be accepted that does something
+else. A text has less than 2^63 characters, and so have the bytes whose text fits into a buffer; a
+size that is passed has no limit.
 """
 
 import re
@@ -9,27 +11,53 @@ import re
 import z3
 
 from contracts.callees import first_invalid_from
-from contracts.functions import (FAILED, FOUND, INVALID_CHARACTER, INVALID_LENGTH, N, ODD_LENGTH, Function, base,
-                                 first_invalid, in_size_t, is_digit, is_prefix, moved, must_be_a_front,
-                                 must_be_digits, must_be_true_if, must_be_unchanged, must_be_written, must_fail,
-                                 must_have, of_32_bits, size_max, with_prefix_or_without)
-from contracts.kernels import Check as CheckKernel, Fill, must_be_decoded, must_be_digits_of
+from contracts.functions import (
+    FAILED,
+    FOUND,
+    INVALID_CHARACTER,
+    INVALID_LENGTH,
+    N,
+    ODD_LENGTH,
+    Function,
+    base,
+    first_invalid,
+    in_size_t,
+    is_digit,
+    is_prefix,
+    moved,
+    prove_no_gap,
+    prove_digits,
+    prove_true_if,
+    prove_unchanged,
+    prove_written,
+    prove_failure,
+    prove_has,
+    of_32_bits,
+    size_max,
+    with_prefix_or_without,
+)
+from contracts.kernels import Check as CheckKernel, Fill, prove_decoded, prove_digits_of
 from contracts.names import HEADER, WITH_ERROR
-from execution.state import Region, byte, fresh, joined, simple, split, word
-from solver.questions import names, require
+from execution.state import Region
+from execution.terms import byte, fresh_secret, joined, simple, split, word
+from solver.questions import names, public, require
 
-FLAGS, SIZE = z3.BitVec("p_flags", 32), z3.BitVec("p_size", 64)
+FLAGS, SIZE = public("flags", 32), public("size", 64)
 UPPER, PREFIX, NO_NUL = 1, 2, 4
 TEXT = Region("input", N)
 # By how many bytes a size_t has.
-ERROR, WRITTEN = lambda size: Region("error", word(8 + size), size), lambda size: Region("written", word(size), size)
+ERROR, WRITTEN = lambda size: Region("error", word(8 + size), size), lambda size: Region(
+    "written", word(size), size
+)
 DECODER = lambda size: Region("decoder", word(2 * size), size)
 
 
 class Exported(Function):
     """A function of the header, which handles an error that is not NULL."""
 
-    symbol = property(lambda self: f"const_hex_{self.function}{'_nonnull' if self.function in WITH_ERROR else ''}")
+    symbol = property(
+        lambda self: f"const_hex_{self.function}{'_nonnull' if self.function in WITH_ERROR else ''}"
+    )
 
 
 class Version(Exported):
@@ -39,24 +67,29 @@ class Version(Exported):
 
     def returns(self, state):
         wanted = int(re.search(r"#define CONST_HEX_VERSION (\d+)", HEADER.read_text())[1])
-        state.must(state.result(32) == wanted, f"the version is not {wanted}")
+        state.prove(state.result(32) == wanted, f"the version is not {wanted}")
 
 
 def needed(flags):
-    """The size that a text needs, in as many bits as it takes: two digits for each byte, the prefix, and a NUL."""
+    """The size that a text needs, in as many bits as it takes: two digits for each byte, the
+    prefix, and a NUL."""
     prefix, no_nul = [z3.ZeroExt(65, z3.Extract(bit, bit, flags)) for bit in (1, 2)]
     return simple(2 * z3.ZeroExt(2, N) + 2 * prefix + 1 - no_nul)
 
 
 class EncodedSize(Exported):
-    """encoded_size(bytes_length, flags): what is needed, or SIZE_MAX if that is no size, or for unknown flags."""
+    """encoded_size(bytes_length, flags): what is needed, or SIZE_MAX if that is no size, or for
+    unknown flags."""
 
     function, arguments = "encoded_size", (N, of_32_bits(FLAGS))
 
     def returns(self, state):
         size = needed(FLAGS)
         is_size = z3.And(z3.ULT(FLAGS, 8), z3.ULT(size, size_max(state)))
-        state.must(state.result(64) == z3.If(is_size, z3.Extract(63, 0, size), size_max(state)), "another size")
+        state.prove(
+            state.result(64) == z3.If(is_size, z3.Extract(63, 0, size), size_max(state)),
+            "another size",
+        )
 
 
 class Encode(Exported):
@@ -69,43 +102,50 @@ class Encode(Exported):
         self.name = "unknown flags" if flags is None else f"flags {flags}"
         self.flags = FLAGS if flags is None else z3.BitVecVal(flags, 32)
         self.arguments = base("input"), N, base("output"), SIZE, simple(of_32_bits(self.flags))
-        self.fits = simple(z3.And(z3.ULT(self.flags, 8), z3.ULE(needed(self.flags), z3.ZeroExt(2, SIZE))))
+        self.fits = simple(
+            z3.And(z3.ULT(self.flags, 8), z3.ULE(needed(self.flags), z3.ZeroExt(2, SIZE)))
+        )
         self.has_nul = simple(self.flags & NO_NUL == 0)
         # Where the digits begin, and where they end.
         self.begin = 2 if flags and flags & PREFIX else 0
         self.end = simple(2 * N + self.begin)
-        self.requires = (z3.Implies(self.fits, z3.ULT(N, 1 << 62)), *([z3.UGE(FLAGS, 8)] if flags is None else []))
+        self.requires = (
+            z3.Implies(self.fits, z3.ULT(N, 1 << 62)),
+            *([z3.UGE(FLAGS, 8)] if flags is None else []),
+        )
 
     reached = Fill.reached
 
     def store(self, state, offset, lane):
         """A text that fits: the prefix, the digits and a NUL. Otherwise a NUL at the start."""
-        if state.holds(z3.Not(self.fits)):
-            return self.must_be_nul(state, offset, lane, word(0))
-        state.must(self.fits, "written though the text may not fit")
+        if state.is_valid(z3.Not(self.fits)):
+            return self.prove_nul(state, offset, lane, word(0))
+        state.prove(self.fits, "written though the text may not fit")
         if z3.is_bv_value(offset) and offset.as_long() + len(lane) <= self.begin:
             require(all(map(z3.is_bv_value, lane)), "a prefix that is not known")
             written = bytes(character.as_long() for character in lane)
             return require(written == b"0x"[offset.as_long() :][: len(lane)], "a wrong prefix")
-        if state.holds(offset == self.end):
-            return self.must_be_nul(state, offset, lane, self.end)
+        if state.is_valid(offset == self.end):
+            return self.prove_nul(state, offset, lane, self.end)
         is_inside = z3.And(z3.UGE(offset, self.begin), z3.ULE(offset + len(lane), self.end))
-        state.must(is_inside, "written beside the digits")
-        must_be_digits_of(state, simple(offset - self.begin), lane, bool(self.flags.as_long() & UPPER))
+        state.prove(is_inside, "written beside the digits")
+        prove_digits_of(
+            state, simple(offset - self.begin), lane, bool(self.flags.as_long() & UPPER)
+        )
 
-    def must_be_nul(self, state, offset, lane, wanted):
-        state.must(z3.And(self.has_nul, offset == wanted), "another place than that of a NUL")
+    def prove_nul(self, state, offset, lane, wanted):
+        state.prove(z3.And(self.has_nul, offset == wanted), "another place than that of a NUL")
         require(len(lane) == 1 and lane[0].eq(byte(0)), "no NUL")
 
     def returns(self, state):
-        must_be_true_if(state, self.fits, "whether the text fits")
-        if fits := state.when(self.fits):
+        prove_true_if(state, self.fits, "whether the text fits")
+        if fits := state.branch(self.fits):
             limit = self.end + z3.If(self.has_nul, word(1), word(0))
-            must_be_written(fits, simple(limit), "a character of the text is left out")
-        if failed := state.when(z3.Not(self.fits)):
+            prove_written(fits, simple(limit), "a character of the text is left out")
+        if failed := state.branch(z3.Not(self.fits)):
             require(not failed.reads, "the input is read though the text does not fit")
             limit = z3.If(z3.And(self.has_nul, SIZE != 0), word(1), word(0))
-            must_be_written(failed, limit, "the text is not the empty string")
+            prove_written(failed, limit, "the text is not the empty string")
 
 
 class CheckRaw(CheckKernel):
@@ -116,26 +156,27 @@ class CheckRaw(CheckKernel):
 
 
 class FirstInvalid(Function):
-    """locate_invalid(text, length): the first invalid character, and its index; 0 and the length if there is none."""
+    """locate_invalid(text, length): the first invalid character, and its index; 0 and the length if
+    there is none."""
 
-    is_called = is_local = may_leak = True
+    is_called = is_local = is_declassified = True
     symbol, function, name = "const_hex_body_locate_invalid", "locate_invalid", "any text"
-    requires = z3.ULT(N, 1 << 63),
+    requires = (z3.ULT(N, 1 << 63),)
     regions, arguments = (TEXT,), (base("input"), N)
 
     def returns(self, state):
         index, character = first_invalid(state)
-        state.must(state.result(32) == z3.ZeroExt(24, character), "another character")
-        state.must(state.result(64, 1) == index, "another index")
+        state.prove(state.result(32) == z3.ZeroExt(24, character), "another character")
+        state.prove(state.result(64, 1) == index, "another index")
 
     def called(self, state, input, n):
-        for way, index, character in first_invalid_from(state, input, n):
-            yield way, z3.ZeroExt(24, character), index
+        for path, index, character in first_invalid_from(state, input, n):
+            yield path, z3.ZeroExt(24, character), index
 
 
 class Text(Exported):
-    """A function that returns true for a text of digits, whose bytes it writes if it has an output, and false for
-    another one."""
+    """A function that returns true for a text of digits, whose bytes it writes if it has an output,
+    and false for another one."""
 
     name, empty, requires = "any text", (("input", N),), (z3.ULT(N, 1 << 63),)
 
@@ -147,47 +188,47 @@ class Text(Exported):
         return simple(z3.LShR(N - state.body + (state.waiting is not None), 1))
 
     def errors(self, state):
-        """What is an error beside an invalid character, in the order in which it is looked for: when it is one, what
-        it is, and the error."""
+        """What is an error beside an invalid character, in the order in which it is looked for:
+        when it is one, what it is, and the error."""
         return [(N & 1 == 1, "an odd length", ODD_LENGTH)]
 
     def store(self, state, offset, lane):
         for is_error, what, *_ in self.errors(state):
-            state.must(z3.Not(is_error), f"written though it is {what}")
-        state.must(z3.ULE(offset + len(lane), self.count(state)), "written after the bytes")
-        must_be_decoded(state, offset, lane)
+            state.prove(z3.Not(is_error), f"written though it is {what}")
+        state.prove(z3.ULE(offset + len(lane), self.count(state)), "written after the bytes")
+        prove_decoded(state, offset, lane)
 
     def returns(self, state):
         result = state.result()
-        if state.holds(result == 1):
+        if state.is_valid(result == 1):
             for is_error, what, *_ in self.errors(state):
-                state.must(z3.Not(is_error), f"{what} is accepted")
-            must_be_digits(state, N)
-            must_be_unchanged(state, "error")
+                state.prove(z3.Not(is_error), f"{what} is accepted")
+            prove_digits(state, N)
+            prove_unchanged(state, "error")
             return self.accepts(state)
-        state.must(result == 0, "the result is neither true nor false")
-        must_be_a_front(state)
+        state.prove(result == 0, "the result is neither true nor false")
+        prove_no_gap(state)
         if "written" in state.regions:
-            must_have(state, "written", in_size_t(state, word(0)))
+            prove_has(state, "written", in_size_t(state, word(0)))
         for is_error, what, *error in self.errors(state):
-            if state.holds(is_error):
-                must_be_unchanged(state, "decoder")
-                return must_fail(state, *error)
-            state.must(z3.Not(is_error), f"whether it is {what}")
+            if state.is_valid(is_error):
+                prove_unchanged(state, "decoder")
+                return prove_failure(state, *error)
+            state.prove(z3.Not(is_error), f"whether it is {what}")
         index, character = first_invalid(state)
-        state.must(z3.ULT(index, N), "digits are rejected")
+        state.prove(z3.ULT(index, N), "digits are rejected")
         self.rejects(state, index, character)
 
     def accepts(self, state):
         """What else holds if the result is true."""
         if "output" in state.regions:
-            must_be_written(state, self.count(state), "a byte is left out")
+            prove_written(state, self.count(state), "a byte is left out")
         if "written" in state.regions:
-            must_have(state, "written", in_size_t(state, self.count(state)))
+            prove_has(state, "written", in_size_t(state, self.count(state)))
 
     def rejects(self, state, index, character):
         """What holds if the first invalid character is this one, with its index."""
-        must_fail(state, INVALID_CHARACTER, index, character)
+        prove_failure(state, INVALID_CHARACTER, index, character)
 
 
 class Check(Text):
@@ -197,28 +238,37 @@ class Check(Text):
 
 
 class DecodeExact(Text):
-    """decode_exact(text, length, bytes, bytes_length, error): the bytes that the text decodes to, which are as many."""
+    """decode_exact(text, length, bytes, bytes_length, error): the bytes that the text decodes to,
+    which are as many."""
 
     function, regions = "decode_exact", (TEXT, Region("output", SIZE), ERROR)
     arguments = base("input"), N, base("output"), SIZE, base("error")
     empty = ("input", N), ("output", SIZE)
 
     def errors(self, state):
-        return [*super().errors(state), (self.count(state) != SIZE, "another length", INVALID_LENGTH)]
+        return [
+            *super().errors(state),
+            (self.count(state) != SIZE, "another length", INVALID_LENGTH),
+        ]
 
 
 class Decode(Text):
-    """decode(text, length, bytes, bytes_size, written, error): the same, in a buffer that may be larger."""
+    """decode(text, length, bytes, bytes_size, written, error): the same, in a buffer that may be
+    larger."""
 
     function, regions, empty = "decode", (*DecodeExact.regions, WRITTEN), DecodeExact.empty
     arguments = base("input"), N, base("output"), SIZE, base("written"), base("error")
 
     def errors(self, state):
-        return [*super().errors(state), (z3.UGT(self.count(state), SIZE), "more than fits", INVALID_LENGTH)]
+        return [
+            *super().errors(state),
+            (z3.UGT(self.count(state), SIZE), "more than fits", INVALID_LENGTH),
+        ]
 
 
 class DecoderFinish(Exported):
-    """decoder_finish(decoder, error): whether no digit waits for its second half, and there was no error."""
+    """decoder_finish(decoder, error): whether no digit waits for its second half, and there was no
+    error."""
 
     function, name, arguments = "decoder_finish", "any decoder", (base("decoder"), base("error"))
     regions = lambda size: Region("decoder", word(2 * size), size, is_writable=False), ERROR
@@ -228,61 +278,85 @@ class DecoderFinish(Exported):
 
     def returns(self, state):
         index, character, kind = decoder_of(state)
-        must_be_true_if(state, kind == 0, "whether the text is complete")
-        if state.holds(kind == 0):
-            must_be_unchanged(state, "error")
-        elif state.holds(kind == 1):
-            must_fail(state, ODD_LENGTH)
+        prove_true_if(state, kind == 0, "whether the text is complete")
+        if state.is_valid(kind == 0):
+            prove_unchanged(state, "error")
+        elif state.is_valid(kind == 1):
+            prove_failure(state, ODD_LENGTH)
         else:
-            state.must(z3.UGT(kind, 1), "whether there was an error")
-            must_fail(state, INVALID_CHARACTER, index, character)
+            state.prove(z3.UGT(kind, 1), "whether there was an error")
+            prove_failure(state, INVALID_CHARACTER, index, character)
 
 
 def with_decoder(state):
-    """A decoder has the position in the text, a character, and what it waits for: 0 for any digit, 1 for the second
-    digit of a byte, more for nothing after an error. Only the character is secret."""
-    state.put_cells("decoder", 0, split(z3.BitVec(f"p_position_{state.WORD}", 8 * state.WORD)))
-    state.put_cells("decoder", state.WORD + 1, [z3.BitVec("p_kind", 8)])
+    """A decoder has the position in the text, a character, and what it waits for: 0 for any digit,
+    1 for the second digit of a byte, more for nothing after an error. Only the character is
+    secret."""
+    state.put_cells("decoder", 0, split(public(f"position_{state.WORD}", 8 * state.WORD)))
+    state.put_cells("decoder", state.WORD + 1, [public("kind", 8)])
     state.first_cells = state.cells.copy()
     return state
 
 
 def decoder_of(state):
     """What a decoder had at the call."""
-    *position, character, kind = [state.first_cells["decoder", offset] for offset in range(state.WORD + 2)]
+    *position, character, kind = [
+        state.first_cells["decoder", offset] for offset in range(state.WORD + 2)
+    ]
     return simple(z3.ZeroExt(64 - 8 * state.WORD, joined(position))), character, kind
 
 
 class DecoderUpdate(Text):
-    """decoder_update(decoder, text, length, bytes, bytes_size, written, error): the bytes of a chunk's digits, with the
-    one before that waits for its second half."""
+    """decoder_update(decoder, text, length, bytes, bytes_size, written, error): the bytes of a
+    chunk's digits, with the one before that waits for its second half."""
 
     function, name, parts = "decoder_update", "every decoder and chunk", 6
     regions = DECODER, TEXT, Region("output", SIZE), WRITTEN, ERROR
-    arguments = (base("decoder"), base("input"), N, base("output"), SIZE, base("written"), base("error"))
+    arguments = (
+        base("decoder"),
+        base("input"),
+        N,
+        base("output"),
+        SIZE,
+        base("written"),
+        base("error"),
+    )
     empty, requires = (("input", N), ("output", SIZE)), (z3.ULT(N, 1 << 63),)
 
     def kinds(self, state):
-        """What a decoder may be: at the start; after one digit, which may be the first half of a prefix; later, where
-        no digit waits, or one; after an error."""
+        """What a decoder may be: at the start; after one digit, which may be the first half of a
+        prefix; later, where no digit waits, or one; after an error."""
         position, character, kind = decoder_of(with_decoder(state))
         waits, later = z3.And(kind == 1, is_digit(character)), z3.UGE(position, 2)
-        return (z3.And(position == 0, kind == 0), z3.And(position == 1, waits), z3.And(later, kind == 0),
-                z3.And(later, waits), z3.UGT(kind, 1))
+        return (
+            z3.And(position == 0, kind == 0),
+            z3.And(position == 1, waits),
+            z3.And(later, kind == 0),
+            z3.And(later, waits),
+            z3.UGT(kind, 1),
+        )
 
     def is_for(self, state):
         return z3.Or(*self.kinds(state))
 
     def cases(self, state):
         start, one, complete, waits, failed = self.kinds(state)
-        is_rest = z3.And(z3.UGE(N, 1), is_prefix(decoder_of(state)[1], state.byte_of_input(word(0))))
-        yield from with_prefix_or_without(state.when(start))
-        # Whether a digit waits that belongs to the first byte, and where the digits of this chunk begin.
-        for condition, is_waiting, body in ((z3.And(one, is_rest), False, 1), (z3.And(one, z3.Not(is_rest)), True, 0),
-                                            (complete, False, 0), (waits, True, 0), (failed, False, 0)):
-            if way := state.when(condition):
-                way.waiting, way.body = decoder_of(way)[1] if is_waiting else None, word(body)
-                yield way
+        is_rest = z3.And(
+            z3.UGE(N, 1), is_prefix(decoder_of(state)[1], state.byte_of_input(word(0)))
+        )
+        yield from with_prefix_or_without(state.branch(start))
+        # Whether a digit waits that belongs to the first byte, and where the digits of this chunk
+        # begin.
+        for condition, is_waiting, body in (
+            (z3.And(one, is_rest), False, 1),
+            (z3.And(one, z3.Not(is_rest)), True, 0),
+            (complete, False, 0),
+            (waits, True, 0),
+            (failed, False, 0),
+        ):
+            if path := state.branch(condition):
+                path.waiting, path.body = decoder_of(path)[1] if is_waiting else None, word(body)
+                yield path
 
     def waits(self, state):
         """Whether a digit waits for the next chunk."""
@@ -290,41 +364,46 @@ class DecoderUpdate(Text):
 
     def is_alone(self, state, offset):
         """The digit of this chunk that waits for the next one."""
-        return state.holds(z3.And(self.waits(state), offset == N - 1))
+        return state.is_valid(z3.And(self.waits(state), offset == N - 1))
 
     def errors(self, state):
         position, character, kind = decoder_of(state)
-        return [(z3.UGT(kind, 1), "a chunk after an error", INVALID_CHARACTER, position, character),
-                (z3.UGT(self.count(state), SIZE), "more than fits", INVALID_LENGTH)]
+        return [
+            (z3.UGT(kind, 1), "a chunk after an error", INVALID_CHARACTER, position, character),
+            (z3.UGT(self.count(state), SIZE), "more than fits", INVALID_LENGTH),
+        ]
 
     def accepts(self, state):
         super().accepts(state)
         position, character, _ = decoder_of(state)
-        must_have(state, "decoder", in_size_t(state, moved(state, position, N)))
+        prove_has(state, "decoder", in_size_t(state, moved(state, position, N)))
         waits = self.waits(state)
-        must_have(state, "decoder", z3.If(waits, byte(1), byte(0)), offset=state.WORD + 1)
-        if other := state.when(z3.And(waits, N == 0)):
-            must_have(other, "decoder", character, offset=state.WORD)
-        if other := state.when(z3.And(waits, N != 0)):
-            must_have(other, "decoder", other.byte_of_input(N - 1), offset=state.WORD)
+        prove_has(state, "decoder", z3.If(waits, byte(1), byte(0)), offset=state.WORD + 1)
+        if other := state.branch(z3.And(waits, N == 0)):
+            prove_has(other, "decoder", character, offset=state.WORD)
+        if other := state.branch(z3.And(waits, N != 0)):
+            prove_has(other, "decoder", other.byte_of_input(N - 1), offset=state.WORD)
 
     def rejects(self, state, index, character):
         position = moved(state, decoder_of(state)[0], index)
         super().rejects(state, position, character)
-        must_have(state, "decoder", in_size_t(state, position), character)
-        state.must(z3.UGT(state.cell("decoder", state.WORD + 1, 1), 1), "the decoder does not keep its error")
+        prove_has(state, "decoder", in_size_t(state, position), character)
+        state.prove(
+            z3.UGT(state.cell("decoder", state.WORD + 1, 1), 1),
+            "the decoder does not keep its error",
+        )
 
 
 class ChangedDecoder(DecoderUpdate):
     """The same with a decoder that a program has changed: it is safe, and may do anything else."""
 
-    name, parts, may_leak, is_in_module = "a decoder that was changed", 1, True, False
+    name, parts, is_declassified, is_in_module = "a decoder that was changed", 1, True, False
 
     def is_for(self, state):
         return z3.Not(super().is_for(state))
 
     def cases(self, state):
-        return [state.when(self.is_for(state))]
+        return [state.branch(self.is_for(state))]
 
     def store(self, state, offset, lane):
         """Anything may be written to the output."""
@@ -334,19 +413,23 @@ class ChangedDecoder(DecoderUpdate):
 
 
 class DecoderFail(FirstInvalid):
-    """decoder_fail(result, decoder, before, text, length), of a chunk, before which come some characters: the decoder
-    moves to the invalid one, and keeps the error."""
+    """decoder_fail(result, decoder, before, text, length), of a chunk, before which come some
+    characters: the decoder moves to the invalid one, and keeps the error."""
 
     symbol, function, name = "const_hex_decoder_fail", "decoder_fail", "every decoder and chunk"
-    before = z3.BitVec("p_before", 64)
-    regions = *[lambda size, name=name: Region(name, word(2 * size)) for name in ("result", "decoder")], TEXT
+    before = public("before", 64)
+    regions = (
+        *[lambda size, name=name: Region(name, word(2 * size)) for name in ("result", "decoder")],
+        TEXT,
+    )
     arguments = base("result"), base("decoder"), before, base("input"), N
 
     def cases(self, state):
         return [with_decoder(state)]
 
     def outcomes(self, state, position, before, index, character):
-        """What is found, and what the decoder keeps. In the module an error has no kind of its own."""
+        """What is found, and what the decoder keeps. In the module an error has no kind of its
+        own."""
         kind = [z3.BitVecVal(FOUND, 32)] if state.WORD == 8 else []
         index = in_size_t(state, moved(state, moved(state, position, before), index))
         return [*kind, z3.ZeroExt(24, character), index], [index, character, byte(FAILED)]
@@ -354,18 +437,36 @@ class DecoderFail(FirstInvalid):
     def returns(self, state):
         outcomes = self.outcomes(state, decoder_of(state)[0], self.before, *first_invalid(state))
         for name, numbers in zip(("result", "decoder"), outcomes):
-            must_have(state, name, *numbers)
+            prove_has(state, name, *numbers)
 
     def called(self, state, result, decoder, before, input, n):
-        require(set(names(result)).isdisjoint(names(decoder)), "a decoder in the place of what is found")
+        require(
+            set(names(result)).isdisjoint(names(decoder)), "a decoder in the place of what is found"
+        )
         position = simple(z3.ZeroExt(64 - 8 * state.WORD, joined(state.load(decoder, state.WORD))))
-        for way, *invalid in first_invalid_from(state, input, n):
-            for address, numbers in zip((result, decoder), self.outcomes(way, position, before, *invalid)):
+        for path, *invalid in first_invalid_from(state, input, n):
+            for address, numbers in zip(
+                (result, decoder), self.outcomes(path, position, before, *invalid)
+            ):
                 # What comes after these numbers may be anything.
                 lane = [part for number in numbers for part in split(number)]
-                way.store(address, lane + [fresh("g", 8) for _ in range(2 * way.WORD - len(lane))])
-            yield way,
+                path.store(
+                    address, lane + [fresh_secret(8) for _ in range(2 * path.WORD - len(lane))]
+                )
+            yield path,
 
 
-FUNCTIONS = (Version(), EncodedSize(), *[Encode(flags) for flags in (*range(8), None)], CheckRaw(), FirstInvalid(),
-             Check(), DecodeExact(), Decode(), DecoderFinish(), DecoderFail(), DecoderUpdate(), ChangedDecoder())
+FUNCTIONS = (
+    Version(),
+    EncodedSize(),
+    *[Encode(flags) for flags in (*range(8), None)],
+    CheckRaw(),
+    FirstInvalid(),
+    Check(),
+    DecodeExact(),
+    Decode(),
+    DecoderFinish(),
+    DecoderFail(),
+    DecoderUpdate(),
+    ChangedDecoder(),
+)

@@ -1,12 +1,14 @@
 """The instructions and constants of a file, as `reading` has them.
 
-A file lies at an unknown place, a multiple of a page, and all that it has at fixed distances from there. Instructions
-are read where they are run. If this were wrong, another instruction or constant could be proved than that which runs.
+A file lies at an unknown place, a multiple of a page, and all that it has at fixed distances from
+there. Instructions are read where they are run. If this were wrong, another instruction or constant
+could be proved than that which runs.
 """
 
 import z3
 
-from execution.state import Region, word
+from execution.state import Region
+from execution.terms import word
 from reading import library
 
 PAGE = 4096  # Loaders keep no greater alignment.
@@ -17,17 +19,27 @@ class Code:
 
     def __init__(self, content, processors, symbol, effects, level=None):
         self.object = library.read(content)
-        self.processor, self.level = processors[self.object.machine], level or symbol.rpartition("_")[2]
+        self.processor, self.level = (
+            processors[self.object.machine],
+            level or symbol.rpartition("_")[2],
+        )
         self.start, self.kept = self.object.symbols[symbol], None
-        self.callees = {self.object.symbols[name]: effect for name, effect in effects.items()
-                        if name in self.object.symbols}
-        self.constants = Region("constants", word(self.object.size), PAGE if self.object.machine else 1, self.object)
+        self.callees = {
+            self.object.symbols[name]: effect
+            for name, effect in effects.items()
+            if name in self.object.symbols
+        }
+        self.constants = Region(
+            "constants", word(self.object.size), PAGE if self.object.machine else 1, self.object
+        )
         self.instructions = {}
 
     def instruction(self, address):
         """That at an address, or None. It is read with those after it when it is asked for."""
         if address not in self.instructions and (part := self.object.code_at(address)):
-            self.instructions = self.processor.instructions(self, part, self.level) | self.instructions
+            self.instructions = (
+                self.processor.instructions(self, part, self.level) | self.instructions
+            )
         return self.instructions.get(address)
 
     def placed(self, address):
@@ -35,12 +47,18 @@ class Code:
         return self.constants.base + (address - self.object.first)
 
     def keeps(self, offset, count):
-        """Whether it is the only byte that a function keeps between calls, which all threads have."""
-        if count != 1 or not z3.is_bv_value(offset) or not self.object.is_kept(self.object.first + offset.as_long()):
+        """Whether it is the only byte that a function keeps between calls, which all threads
+        have."""
+        if (
+            count != 1
+            or not z3.is_bv_value(offset)
+            or not self.object.is_kept(self.object.first + offset.as_long())
+        ):
             return False
         self.kept = offset.as_long() if self.kept is None else self.kept
         return self.kept == offset.as_long()
 
     def name_at(self, address):
         instruction = self.instruction(address)
-        return f"{self.object.name_at(address)} {instruction.text if instruction else 'no instruction'}"
+        text = instruction.text if instruction else "no instruction"
+        return f"{self.object.name_at(address)} {text}"

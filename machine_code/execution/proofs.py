@@ -1,7 +1,8 @@
-"""Proves the functions of a file, each part of one in a process of its own, so that no proof depends on another.
+"""Proves the functions of a file, each part of one in a process of its own, so that no proof
+depends on another.
 
-If a contract were left out here, or a function were called by a contract that is proved of another one, wrong code
-could be accepted.
+If a contract were left out here, or a function were called by a contract that is proved of another
+one, wrong code could be accepted.
 """
 
 import os
@@ -14,11 +15,12 @@ from contracts.library import FUNCTIONS
 from contracts.messages import MESSAGES
 from execution.code import Code
 from execution.paths import run
-from hints.loops import guess, heads
+from hints.loops import infer_invariant, loop_headers
 from meanings import aarch64, webassembly, x86_64
-from reading.image import AARCH64, X86_64
+from reading import library
+from reading.image import AARCH64, HEADER, X86_64
 from solver import cvc5, questions
-from solver.questions import Refused
+from solver.questions import Rejected
 
 PROCESSORS = {X86_64: x86_64, AARCH64: aarch64, None: webassembly}
 SAMPLE = 100  # so many questions of each function go to the second solver, too
@@ -29,51 +31,91 @@ LEVEL = re.compile("_v[23]$")
 
 
 def contracts_of(obj):
-    """What has to be proved: pairs of a symbol and the number of a contract. What is called by its contract has the
-    symbol for it, and so it is among them."""
+    """What has to be proved: pairs of a symbol and the number of a contract. What is called by its
+    contract has the symbol for it, and so it is among them."""
     is_x86_64 = obj.machine == X86_64
 
     def is_of(symbol, contract):
         if obj.machine is None:
-            return contract.is_in_module and re.fullmatch(contract.symbol.removesuffix("_nonnull"), symbol)
+            return contract.is_in_module and re.fullmatch(
+                contract.symbol.removesuffix("_nonnull"), symbol
+            )
         if contract in KERNELS and is_x86_64 != bool(LEVEL.search(symbol)):
             return False
-        return (is_x86_64 or contract not in dispatch.CHOICES) and re.fullmatch(contract.symbol, symbol)
+        return (is_x86_64 or contract not in dispatch.CHOICES) and re.fullmatch(
+            contract.symbol, symbol
+        )
 
-    return [(symbol, number) for symbol in sorted(obj.symbols) for number, contract in enumerate(CONTRACTS)
-            if is_of(symbol, contract)]
+    return [
+        (symbol, number)
+        for symbol in sorted(obj.symbols)
+        for number, contract in enumerate(CONTRACTS)
+        if is_of(symbol, contract)
+    ]
+
+
+def functions_of(content):
+    """The image or the module with these bytes, and what has to be proved of it, which is not
+    nothing."""
+    file = library.whole(content)
+    functions = contracts_of(file)
+    if not functions:
+        raise ValueError("it has no function of the library, or is stripped: keep its symbol table")
+    is_for_windows = content.startswith(library.PE) and file.machine == X86_64
+    if is_for_windows and HEADER & file.symbols.keys():
+        raise ValueError(
+            "compilers for Windows call functions for C by another ABI, which is not proved"
+        )
+    return file, functions
 
 
 def effects_of(symbol, contract):
-    """What functions do that are called by their contracts. Each of these calls fewer so, or two might be proved by
-    each other's: functions of the header, local ones, those that choose a kernel, and kernels."""
+    """What functions do that are called by their contracts. Each of these calls fewer so, or two
+    might be proved by each other's: functions of the header, local ones, those that choose a
+    kernel, and kernels."""
     if contract.imported is not None:
         return {symbol + end: effect for end, effect in contract.imported.items()}
-    return callees.effects(other for other in CONTRACTS if other in KERNELS or other.is_local and not contract.is_local)
+    return callees.effects(
+        other for other in CONTRACTS if other in KERNELS or other.is_local and not contract.is_local
+    )
 
 
 def prove(content, symbol, contract, which=slice(None)):
-    """Proves a function of a file, from all starts or from some. Gives how many paths have ended."""
+    """Proves a function of a file, from all starts or from some. Gives how many paths have
+    ended."""
     code = Code(content, PROCESSORS, symbol, effects_of(symbol, contract), contract.level)
     starts = contract.starts(code)
-    return run(code, starts[which], () if contract.is_unrolled else heads(code, starts[0].address), guess)
+    return run(
+        code,
+        starts[which],
+        () if contract.is_unrolled else loop_headers(code, starts[0].address),
+        infer_invariant,
+    )
 
 
 def task(job):
-    """Proves a function of a file from one part of its starts. Gives which function it is, whether it is refused, and
-    what is to be said of it in a line."""
+    """Proves a function of a file from one part of its starts. Gives which function it is, whether
+    it is rejected, and what is to be said of it in a line."""
     (file, symbol, number), content, part, is_whole = job
     contract, fault = CONTRACTS[number], None
     try:
         count = prove(content, symbol, contract, slice(part, None, contract.parts))
         outcome = f"proved at every length: {count} paths, {questions.counts['asked']} questions"
-        if others := cvc5.disagreements(questions.proved, None if is_whole else SAMPLE // contract.parts):
+        if others := cvc5.disagreements(
+            questions.proved, None if is_whole else SAMPLE // contract.parts
+        ):
             fault = f"cvc5 says {others[0][1]}: {others[0][0]}"
-    except (Refused, ValueError) as refused:
-        fault = refused
+    except (Rejected, ValueError) as rejected:
+        fault = rejected
     except Exception as error:
         fault = f"an error in this tool: {error!r}"
-    outcome = f"REFUSED: {fault}" if fault else outcome
-    name = f"{contract.name}, {part + 1} of {contract.parts}" if contract.parts > 1 else contract.name
+    outcome = f"REJECTED: {fault}" if fault else outcome
+    name = (
+        f"{contract.name}, {part + 1} of {contract.parts}" if contract.parts > 1 else contract.name
+    )
     line = textwrap.shorten(f"{symbol}, {name}: {outcome}", LONGEST)
-    return (file, symbol, number), bool(fault), f"{line}, {sum(os.times()[:4]):.0f} s of processor time"
+    return (
+        (file, symbol, number),
+        bool(fault),
+        f"{line}, {sum(os.times()[:4]):.0f} s of processor time",
+    )

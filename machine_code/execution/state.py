@@ -1,71 +1,44 @@
 """What a machine holds: registers, memory, and what is known of them.
 
-Memory is regions at unknown bases: the input, the output, objects such as the stack or an error, and the file with its
-constants. An address is a term of 64 bits; an access has to lie inside of one region, whatever the bases are. The bytes
-of objects are kept by their offsets, those of the input have names, and the output is never read. If `_place` or `load`
-were wrong, an access outside of a buffer or a wrong byte could be accepted.
+Memory is regions at unknown bases: the input, the output, objects such as the stack or an error,
+and the file with its constants. An address is a term of 64 bits; an access has to lie inside of one
+region, whatever the bases are. The bytes of objects are kept by their offsets, those of the input
+have names, and the output is never read. If `_place` or `load` were wrong, an access outside of a
+buffer or a wrong byte could be accepted.
 """
 
 import itertools
+from dataclasses import dataclass, field
 
 import z3
 
+from execution.terms import byte, chosen, fresh_public, fresh_secret, joined, simple, split, word
 from solver import quotient_by_ten
-from solver.questions import (Refused, conjuncts, facts_of, holds, is_impossible, is_public, names, relevant, require,
-                              values)
-
-simple = z3.simplify
-_numbers = itertools.count()
-
-
-def byte(value):
-    return z3.BitVecVal(value, 8)
-
-
-def word(value):
-    return z3.BitVecVal(value, 64)
-
-
-def fresh(kind, bits):
-    """A new constant. Its kind is p for what is public, i for a byte of the input, and g for what may be anything."""
-    return z3.BitVec(f"{kind}_{next(_numbers)}", bits)
-
-
-_wholes = {}
-
-
-def joined(lane):
-    """The number that bytes make, of which the first is the lowest."""
-    if whole := _wholes.get(tuple(part.get_id() for part in lane)):
-        return whole[0]
-    return simple(z3.Concat(*reversed(lane))) if len(lane) > 1 else lane[0]
-
-
-def split(term):
-    """The bytes of a number. One of 32 or 64 bits, and the lower half of one of 64, are kept for `joined`, which would
-    not find the same sums again."""
-    lane = [simple(z3.Extract(bit + 7, bit, term)) for bit in range(0, term.size(), 8)]
-    for size in (4, 8):
-        if len(lane) in (size, 8):
-            _wholes[tuple(part.get_id() for part in lane[:size])] = simple(z3.Extract(8 * size - 1, 0, term)), lane
-    return lane
-
-
-def chosen(table, index):
-    """The entry that the lowest bits of an index choose, of a table whose length is a power of two up to 256."""
-    for bit in range(len(table).bit_length() - 1):
-        is_set = z3.Extract(bit, bit, index) == 1
-        table = [one if one.eq(other) else z3.If(is_set, other, one) for one, other in zip(table[::2], table[1::2])]
-    return table[0]
+from solver.questions import (
+    Rejected,
+    conjuncts,
+    facts_of,
+    is_impossible,
+    is_public,
+    is_valid,
+    names,
+    public,
+    relevant,
+    require,
+    secret,
+    values,
+)
 
 
 class Region:
-    """So many bytes of memory at an unknown base that is a multiple of `align`. The constants are those of a file. The
-    "input", the "output" and what is "kept" between calls have these names; each other region is an object."""
+    """So many bytes of memory at an unknown base that is a multiple of `align`. The constants are
+    those of a file. The "input", the "output" and what is "kept" between calls have these names;
+    each other region is an object.
+    """
 
     def __init__(self, name, size, align=1, data=None, is_writable=True):
         self.name, self.size, self.align, self.data = name, size, align, data
-        self.base = z3.BitVec(f"p_{name}", 64)
+        self.base = public(name, 64)
         self.is_writable = is_writable and data is None and name != "input"
         self.is_object = data is None and name not in ("input", "output", "kept")
 
@@ -74,103 +47,142 @@ class Region:
 KEPT, MOST = Region("kept", word(1)), 64
 
 
+@dataclass
 class State:
-    """A processor adds its registers, which of them have the stack pointer, arguments and the result, and which of
-    them a function keeps: see `meanings`."""
+    """What is known at an instruction. A processor adds its registers, which of them have the stack
+    pointer, arguments and the result, and which of them a function keeps: see `meanings`."""
 
     # How many of the lowest bytes of a vector a function keeps, and the bytes of an address.
     KEPT_VECTORS, WORD = {}, 8
-    near = None  # in how many steps facts may be from what is asked, if that has a limit
-    is_clean = True  # whether the upper halves of vectors are clear, where `vzeroupper` has to clear them
+
+    code: object = None
+    contract: object = None
+    address: int = 0  # of the instruction
+    # Conditions that hold, and in how many steps they may be from what is asked, if that has a
+    # limit.
+    facts: list = field(default_factory=list)
+    near: int = None
+    # Registers, and whether the upper halves of vectors are clear, where `vzeroupper` has to clear
+    # them.
+    general: dict = field(default_factory=dict)
+    vectors: dict = field(default_factory=dict)
+    flags: dict = None
+    is_clean: bool = True
+    # Memory by names, the bytes of objects by names and offsets, and those of the input by the
+    # terms of their offsets.
+    regions: dict = field(default_factory=dict)
+    cells: dict = field(default_factory=dict)
+    input: dict = field(default_factory=dict)
+    # The registers and bytes of objects at the call.
+    first: dict = field(default_factory=dict)
+    first_vectors: dict = field(default_factory=dict)
+    first_cells: dict = field(default_factory=dict)
+    # Offset and count of what was read of the input and written to the output, and whether reads
+    # are of digits, by these terms themselves: two keys are the same only if their terms are.
+    reads: list = field(default_factory=list)
+    writes: list = field(default_factory=list)
+    digits: dict = field(default_factory=dict)
+    # What was read of the byte that is kept between calls, and what was stored there.
+    seen: list = field(default_factory=list)
+    kept: list = field(default_factory=list)
+    # Where the digits of the input begin, and the digit that waits before them, if there is one.
+    body: object = word(0)
+    waiting: object = None
+    calls: dict = field(default_factory=dict)  # where they return to
+    tenths: dict = field(
+        default_factory=dict
+    )  # the parts of products that have a tenth, by their factors
+    # The loops that were entered, the last one, if nothing was called since by its contract, and
+    # the instructions since its header.
+    loops: dict = field(default_factory=dict)
+    loop: object = None
+    steps: int = 0
+    # Whether time may depend on secrets: the input is surely invalid.
+    is_declassified: bool = False
 
     def start(self, code, contract, address, regions, arguments):
-        """Before the first instruction of a function, nothing is known of registers but the arguments. A function that
-        others call by its contract has less of the stack."""
+        """Before the first instruction of a function, nothing is known of registers but the
+        arguments. A function that others call by its contract has less of the stack."""
         self.code, self.contract, self.address, self.near = code, contract, address, contract.near
+        self.is_declassified = contract.is_declassified
         self.STACK, self.STACK_OF_CALLED = contract.stacks(self)
         on_stack = arguments[len(self.ARGUMENTS) :]
         stack = Region("stack", word(self.STACK + self.RETURN + 8 * len(on_stack)), 16)
         regions = [*regions, stack, code.constants]
         self.regions = {region.name: region for region in regions}
-        self.facts = [fact for region in regions for fact in facts_of(region.base & region.align - 1 == 0)]
-        self.general = {name: z3.BitVec(f"g_{name}", 64) for name in self.GENERAL}
-        self.vectors = {number: [z3.BitVec(f"g_v{number}_{index}", 8) for index in range(self.WIDTH)]
-                        for number in range(self.VECTORS)}
+        for region in regions:
+            self.assume(region.base & region.align - 1 == 0)
+        self.general = {name: secret(name, 64) for name in self.GENERAL}
         self.general |= dict(zip(self.ARGUMENTS, arguments))
-        # Bytes of objects by their names and offsets, the input's by the terms of their offsets, and where a call
-        # returns to.
-        self.cells = {(region.name, offset): z3.BitVec(f"g_{region.name}_{offset}", 8) for region in regions
-                      if region.is_object and region.name != "stack" for offset in range(region.size.as_long())}
+        for number in range(self.VECTORS):
+            self.vectors[number] = [secret(f"v{number}_{index}", 8) for index in range(self.WIDTH)]
+        for region in regions:
+            if region.is_object and region is not stack:
+                size = region.size.as_long()
+                lane = [secret(f"{region.name}_{offset}", 8) for offset in range(size)]
+                self.put_cells(region.name, 0, lane)
         for index, argument in enumerate(on_stack):
             self.put_cells("stack", self.STACK + self.RETURN + 8 * index, split(argument))
-        self.input, self.calls = {}, {}
-        # The parts of products that have a tenth, by their factors.
-        self.tenths = {}
-        # What was read of what is kept between calls, and what was stored there.
-        self.seen, self.kept = [], []
-        # Offset and count of what was read of the input and written to the output, and whether reads are of digits, by
-        # these terms themselves: two keys are the same only if their terms are.
-        self.reads, self.writes, self.digits = [], [], {}
-        # The loops that were entered, the last one, if nothing was called since by its contract, and the instructions
-        # since its head. Whether time may depend on the input, which is surely invalid.
-        self.loops, self.loop, self.steps, self.may_leak, self.flags = {}, None, 0, contract.may_leak, None
-        # Where the digits of the input begin, and the digit that waits before them, if there is one.
-        self.body, self.waiting = word(0), None
         self.enter()
         self.first, self.first_vectors = self.general.copy(), self.vectors.copy()
         self.first_cells = self.cells.copy()
 
     def copy(self):
         other = object.__new__(type(self))
-        other.__dict__ = {name: value.copy() if type(value) in (dict, list) else value
-                          for name, value in self.__dict__.items()}
+        other.__dict__ = {
+            name: value.copy() if type(value) in (dict, list) else value
+            for name, value in self.__dict__.items()
+        }
         return other
 
     # What is known
     def assume(self, condition):
         self.facts += facts_of(condition)
 
-    def holds(self, goal):
-        return holds(self.facts, goal, self.near)
+    def is_valid(self, goal):
+        return is_valid(self.facts, goal, self.near)
 
-    def must(self, goal, message):
-        require(self.holds(goal), message)
+    def prove(self, goal, message):
+        require(self.is_valid(goal), message)
 
-    def when(self, condition, address=None):
-        """This state where a condition holds, perhaps at another address, or None if it can't hold."""
-        if self.holds(z3.Not(condition)):
+    def branch(self, condition, address=None):
+        """This state where a condition holds, perhaps at another address, or None if it can't
+        hold."""
+        if self.is_valid(z3.Not(condition)):
             return None
         other = self.copy()
         other.assume(condition)
         other.address = self.address if address is None else address
         return other
 
-    def is_valid(self):
+    def input_is_valid(self):
         """That the input is valid, as far as it was read."""
         return [fact for condition in self.contract.valid(self) for fact in facts_of(condition)]
 
     def either(self, condition, one, other, is_asked=False):
-        """The first of two terms where a condition holds, else the second; that one alone, if it is asked and known."""
+        """The first of two terms where a condition holds, else the second; that one alone, if it is
+        asked and known."""
         if is_asked or is_public(condition):
-            for term, way in (one, condition), (other, z3.Not(condition)):
-                if self.holds(way):
+            for term, path in (one, condition), (other, z3.Not(condition)):
+                if self.is_valid(path):
                     return term
         return simple(z3.If(condition, one, other))
 
     def choose(self, choice):
         """Whether a condition holds for all valid inputs, or for none; None where it is public."""
-        if self.may_leak or is_public(choice):
+        if self.is_declassified or is_public(choice):
             return None
-        facts = self.facts + self.is_valid()
-        ways = (True, choice), (False, z3.Not(choice))
-        for truth, condition in sorted(ways, key=lambda way: -len(conjuncts(way[1]))):
-            if holds(facts, condition):
+        facts = self.facts + self.input_is_valid()
+        paths = (True, choice), (False, z3.Not(choice))
+        for truth, condition in sorted(paths, key=lambda path: -len(conjuncts(path[1]))):
+            if is_valid(facts, condition):
                 return truth
-        raise Refused("a branch depends on bytes that are secret")
+        raise Rejected("a branch depends on bytes that are secret")
 
     # Products
     def _parts(self, number):
-        """A tenth of a number, and the bits below it in a product. What is known of them is assumed once."""
+        """A tenth of a number, and the bits below it in a product. What is known of them is assumed
+        once."""
         number = simple(number)
         if number.get_id() not in self.tenths:
             *self.tenths[number.get_id()], known = quotient_by_ten.parts(number)
@@ -183,7 +195,11 @@ class State:
 
     def product(self, a, b):
         """The product of two numbers of 64 bits, which has 128."""
-        if z3.is_bv_value(b) and b.as_long() == quotient_by_ten.FACTOR and not z3.is_bv_value(simple(a)):
+        if (
+            z3.is_bv_value(b)
+            and b.as_long() == quotient_by_ten.FACTOR
+            and not z3.is_bv_value(simple(a))
+        ):
             return simple(z3.Concat(*self._parts(a), a * b))
         return simple(z3.ZeroExt(64, a) * z3.ZeroExt(64, b))
 
@@ -191,15 +207,29 @@ class State:
     def _place(self, address, count, aligned):
         """The region of an access, and its offset."""
         address = simple(address)
-        is_allowed = self.may_leak or is_public(address)
+        is_allowed = self.is_declassified or is_public(address)
         require(is_allowed, "an address depends on bytes that are secret, or on what is unknown")
-        regions = [region for region in self.regions.values() if region.base.decl().name() in names(address)]
-        require(len(regions) == 1, f"an address in {[region.name for region in regions]}: {address}")
+        regions = [
+            region
+            for region in self.regions.values()
+            if region.base.decl().name() in names(address)
+        ]
+        require(
+            len(regions) == 1, f"an address in {[region.name for region in regions]}: {address}"
+        )
         region, offset = regions[0], simple(address - regions[0].base)
-        self.must(z3.And(z3.UGE(region.size, count), z3.ULE(offset, region.size - count)),
-                  f"an access may lie outside of {region.name}: {offset}")
-        require(not aligned or self.holds(address & count - 1 == 0), "an access may not be aligned")
-        is_kept = region is self.code.constants and self.contract.is_keeping and self.code.keeps(offset, count)
+        self.prove(
+            z3.And(z3.UGE(region.size, count), z3.ULE(offset, region.size - count)),
+            f"an access may lie outside of {region.name}: {offset}",
+        )
+        require(
+            not aligned or self.is_valid(address & count - 1 == 0), "an access may not be aligned"
+        )
+        is_kept = (
+            region is self.code.constants
+            and self.contract.is_keeping
+            and self.code.keeps(offset, count)
+        )
         return KEPT if is_kept else region, offset
 
     def load(self, address, count, aligned=False):
@@ -211,7 +241,7 @@ class State:
             return [self.byte_of_input(offset + index) for index in range(count)]
         if region.name == "kept":
             # Another thread may have written it since it was read before.
-            self.seen += [fresh("p", 8) for _ in range(count)]
+            self.seen += [fresh_public(8) for _ in range(count)]
             return self.seen[-count:]
         require(region.is_object, f"{region.name} is read")
         first = self._offset_in(region, offset)
@@ -227,24 +257,32 @@ class State:
             first = solver.model().eval(offset, True).as_long()
             index = simple(offset - first)
             table = region.data.read(first, 256)
-            self.must(z3.ULT(index, len(table)), "a place beyond a table, or that may be written")
+            self.prove(z3.ULT(index, len(table)), "a place beyond a table, or that may be written")
             return [simple(chosen([*map(byte, table.ljust(256, b"\0"))], z3.Extract(7, 0, index)))]
         lane = None
         for value in values(self.facts, offset, MOST):
             data = [byte(part) for part in region.data.read(value, count)]
             require(len(data) == count, "a place that has no constant, or may be written")
-            lane = [z3.If(offset == value, new, old) for new, old in zip(data, lane)] if lane else data
+            lane = (
+                [z3.If(offset == value, new, old) for new, old in zip(data, lane)] if lane else data
+            )
         return list(map(simple, lane))
 
     def jumps(self, address):
-        """The conditions under which a jump leads to places of the file, and these places; or an argument."""
-        require(self.may_leak or is_public(address), "a jump depends on bytes that are secret")
+        """The conditions under which a jump leads to places of the file, and these places; or an
+        argument."""
+        require(
+            self.is_declassified or is_public(address), "a jump depends on bytes that are secret"
+        )
         if address.decl().name() in self.contract.passed:
             return address
         base = self.code.constants.base
         require(base.decl().name() in names(address), "a jump to a place that is not fixed")
         offset = simple(address - base)
-        return [(offset == value, self.code.object.first + value) for value in values(self.facts, offset, MOST)]
+        return [
+            (offset == value, self.code.object.first + value)
+            for value in values(self.facts, offset, MOST)
+        ]
 
     def store(self, address, lane, aligned=False):
         region, offset = self._place(address, len(lane), aligned)
@@ -273,95 +311,124 @@ class State:
 
     def _offset_in(self, region, offset):
         require(z3.is_bv_value(offset), f"an offset in the {region.name} is not known")
-        require(region.name != "stack" or offset.as_long() >= self.top(), "an access below the stack pointer")
+        require(
+            region.name != "stack" or offset.as_long() >= self.top(),
+            "an access below the stack pointer",
+        )
         return offset.as_long()
 
     def drop_below(self):
         """A signal handler may change what lies below the stack pointer."""
         top = self.top()
-        self.cells = {(name, offset): value for (name, offset), value in self.cells.items()
-                      if name != "stack" or offset >= top}
+        self.cells = {
+            (name, offset): value
+            for (name, offset), value in self.cells.items()
+            if name != "stack" or offset >= top
+        }
 
     # Bytes of the input. Two names may stand for one byte.
     def byte_of_input(self, offset):
         offset = simple(offset)
         if offset.get_id() not in self.input:
-            self.input[offset.get_id()] = offset, fresh("i", 8)
+            self.input[offset.get_id()] = offset, fresh_secret(8)
         return self.input[offset.get_id()][1]
 
-    def must_equal(self, value, wanted, message):
-        """That two values are the same, where bytes of the input are the same that have the same offset."""
+    def prove_equal(self, value, wanted, message):
+        """That two values are the same, where bytes of the input are the same that have the same
+        offset."""
         about = {*names(value == wanted)}
-        used = [(offset, name) for offset, name in self.input.values() if about.issuperset(names(name))]
-        same = [fact for (first, one), (second, other) in itertools.combinations(used, 2)
-                if self.holds(first == second) for fact in facts_of(one == other)]
-        require(holds(self.facts + same, value == wanted, self.near), message)
+        used = [
+            (offset, name) for offset, name in self.input.values() if about.issuperset(names(name))
+        ]
+        same = [
+            fact
+            for (first, one), (second, other) in itertools.combinations(used, 2)
+            if self.is_valid(first == second)
+            for fact in facts_of(one == other)
+        ]
+        require(is_valid(self.facts + same, value == wanted, self.near), message)
 
-    # Digits. What is known of a part of the input does not say which names lie in it, so that is asked.
+    # Digits. What is known of a part of the input does not say which names lie in it, so that is
+    # asked.
     def known_digits(self):
         """The parts of the input, by offset and count, that are digits."""
         for offset, count in self.reads:
             if (offset, count) not in self.digits:
                 self.digits[offset, count] = all(
-                    self.holds(self.contract.is_digit(self.byte_of_input(offset + index))) for index in range(count))
+                    self.is_valid(self.contract.is_digit(self.byte_of_input(offset + index)))
+                    for index in range(count)
+                )
             if self.digits[offset, count]:
                 yield offset, count
 
     def is_known(self, character, is_digit):
-        """Whether what is known of a character alone says that it is a digit, or that it is none."""
+        """Whether what is known of a character alone says that it is a digit, or that it is
+        none."""
         wanted = self.contract.is_digit(character) == is_digit
         return is_impossible([*relevant(self.facts, wanted, 0), z3.Not(wanted)])
 
     def with_digits(self, offset, count, are_named=True):
-        """This state where a part of the input has digits alone, or None if it can't: what is known to be no digit lies
-        elsewhere, and what is known to lie in the part is a digit, which only some callers ask."""
+        """This state where a part of the input has digits alone, or None if it can't: what is known
+        to be no digit lies elsewhere, and what is known to lie in the part is a digit, which
+        only some callers ask."""
         other, offset, count = self.copy(), simple(offset), simple(count)
         other.reads.append((offset, count))
         other.digits[offset, count] = True
         for index, character in self.input.values():
             is_inside = z3.ULT(index - offset, count)
             if other and self.is_known(character, False):
-                other = other.when(z3.Not(is_inside))
-            elif are_named and other and not self.is_known(character, True) and other.holds(is_inside):
-                other = other.when(self.contract.is_digit(character))
+                other = other.branch(z3.Not(is_inside))
+            elif (
+                are_named
+                and other
+                and not self.is_known(character, True)
+                and other.is_valid(is_inside)
+            ):
+                other = other.branch(self.contract.is_digit(character))
         return other
 
     def with_no_digit(self, offset):
-        """This state where a character of the input is no digit, or None if it can't be: it lies in no part that has
-        digits alone."""
-        other = self.when(z3.Not(self.contract.is_digit(self.byte_of_input(offset))))
+        """This state where a character of the input is no digit, or None if it can't be: it lies in
+        no part that has digits alone."""
+        other = self.branch(z3.Not(self.contract.is_digit(self.byte_of_input(offset))))
         for start, count in list(self.known_digits()):
-            other = other and other.when(z3.Not(z3.ULT(offset - start, count)))
+            other = other and other.branch(z3.Not(z3.ULT(offset - start, count)))
         return other
 
     # Calls
     def return_to(self, address):
         """A number that stands for the address of an instruction, to which a return will go."""
-        token = z3.BitVec(f"p_return_{address:x}", 64)
+        token = public(f"return_{address:x}", 64)
         self.calls |= {token.decl().name(): address}
         return token
 
     def returned(self):
         """What a return out of the function needs."""
         for name in self.KEPT:
-            self.must(self.general[name] == self.first[name], f"{name} is not as before")
+            self.prove(self.general[name] == self.first[name], f"{name} is not as before")
         for number, count in self.KEPT_VECTORS.items():
             for byte_now, first in zip(self.vectors[number][:count], self.first_vectors[number]):
-                self.must(byte_now == first, f"v{number} is not as before")
+                self.prove(byte_now == first, f"v{number} is not as before")
 
     def arguments(self, count):
-        """So many arguments, at the first instruction of a function: in registers, and then in the stack."""
+        """So many arguments, at the first instruction of a function: in registers, and then in the
+        stack."""
         return [self.general[name] for name in self.ARGUMENTS[:count]] + [
-            self.cell("stack", self.top() + self.frame(index), 8) for index in range(len(self.ARGUMENTS), count)]
+            self.cell("stack", self.top() + self.frame(index), 8)
+            for index in range(len(self.ARGUMENTS), count)
+        ]
 
     def result(self, bits=None, number=0):
         """So many bits of a result, or those that callers may look at if it is a bool."""
         return simple(z3.Extract((bits or self.BOOL) - 1, 0, self.general[self.RESULTS[number]]))
 
-    def must_call(self):
+    def prove_call(self):
         """What a function needs that is called by its contract: its stack, which is aligned."""
         top = self.top()
-        require(top >= self.STACK_OF_CALLED and (top - self.STACK) % 16 == 0, "the stack of a function that is called")
+        require(
+            top >= self.STACK_OF_CALLED and (top - self.STACK) % 16 == 0,
+            "the stack of a function that is called",
+        )
 
     def frame(self, count):
         """How many bytes of the stack belong to a call with so many arguments."""
@@ -370,19 +437,22 @@ class State:
     def forget_arguments(self, count):
         """Those in the stack belong to what was called."""
         for offset in range(self.RETURN, self.frame(count)):
-            self.put_cells("stack", self.top() + offset, [fresh("g", 8)])
+            self.put_cells("stack", self.top() + offset, [fresh_secret(8)])
 
     def forget(self):
         """A function that was called has changed all registers that it need not keep."""
         kept = (*self.KEPT, self.TOP)
-        self.general = {name: value if name in kept else fresh("g", 64) for name, value in self.general.items()}
+        self.general = {
+            name: value if name in kept else fresh_secret(64)
+            for name, value in self.general.items()
+        }
         for number, lane in self.vectors.items():
             count = self.KEPT_VECTORS.get(number, 0)
-            self.vectors[number] = lane[:count] + [fresh("g", 8) for _ in lane[count:]]
+            self.vectors[number] = lane[:count] + [fresh_secret(8) for _ in lane[count:]]
         self.flags = None
 
     def put_results(self, results):
         """A number has some bits, and nothing is known of the others. So has a bool."""
         for register, result in zip(self.RESULTS, results):
             result = result if z3.is_expr(result) else z3.BitVecVal(result, self.BOOL)
-            self.general[register] = simple(z3.Extract(63, 0, z3.Concat(fresh("g", 64), result)))
+            self.general[register] = simple(z3.Extract(63, 0, z3.Concat(fresh_secret(64), result)))

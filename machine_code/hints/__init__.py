@@ -1,1 +1,1 @@
-"""Not trusted: what may hold at the head of a loop. A wrong hint is refused."""
+"""Not trusted: loop invariants. A wrong one is rejected."""

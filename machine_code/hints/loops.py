@@ -1,8 +1,9 @@
-"""What may hold at the head of a loop, guessed from one round.
+"""Infers loop invariants from one round.
 
-The round begins with registers that are some unknown numbers more than where the loop was entered. What the round adds
-to each is a step, if it is a constant; and the branches that lead back to the head say what holds of the registers
-then. All of it is proved where it is used (execution/paths.py), so a wrong guess is refused.
+The round begins with registers that are some unknown numbers more than where the loop was entered.
+What the round adds to each is a step, if it is a constant; and the branches that lead back to the
+head say what holds of the registers then. All of it is proved where it is used
+(execution/paths.py), so a wrong guess is rejected.
 """
 
 import re
@@ -10,25 +11,30 @@ import re
 import z3
 
 from execution import paths
-from execution.state import fresh, simple, word
+from execution.terms import fresh_public, simple, word
 from meanings.webassembly import ENDS, Operands
 from reading.module import SPACE
-from solver.questions import Refused, is_public, names
+from solver.questions import Rejected, is_public, names
 
-# What leads to the place that it names, and what does not lead to the next instruction; on each processor.
+# What leads to the place that it names, and what does not lead to the next instruction; on each
+# processor.
 JUMP, LAST = re.compile(r"j|call|bl?$|b\.|cbn?z|tbn?z"), ("jmp", "b", "ret", *ENDS)
 
 
 def follows(i):
     """Where an instruction leads."""
     if isinstance(i.operands, Operands):
-        targets = i.operands.targets + [SPACE * (number + 1) for number in i.operands.numbers if i.mnemonic == "call"]
+        targets = i.operands.targets + [
+            SPACE * (number + 1) for number in i.operands.numbers if i.mnemonic == "call"
+        ]
     else:
-        targets = [o.value for o in i.operands[-1:] if JUMP.match(i.mnemonic) and o.kind == "number"]
+        targets = [
+            o.value for o in i.operands[-1:] if JUMP.match(i.mnemonic) and o.kind == "number"
+        ]
     return [i.address + i.size] * (i.mnemonic not in LAST) + targets
 
 
-def heads(code, start):
+def loop_headers(code, start):
     """The targets of edges back to an instruction that is being visited, in calls, too."""
     targets, done, work = set(), set(), [(start, frozenset())]
     while work:
@@ -54,10 +60,12 @@ def leading_to(code, target):
     return leading
 
 
-class Hint:
-    """By k, which is how many rounds are done: registers, guards, and how much was read and written.
+class Invariant:
+    """By k, which is how many rounds are done: registers, guards, and how much was read and
+    written.
 
-    `added` has what a register is more than where the loop was entered, when the round began that `end` came from.
+    `added` has what a register is more than where the loop was entered, when the round began that
+    `end` came from.
     """
 
     def __init__(self, entry, end, added):
@@ -66,30 +74,51 @@ class Hint:
             return by.as_signed_long() if z3.is_bv_value(by) else None
 
         steps = {name: difference(name) for name in entry.general}
-        self.added, self.steps = added, {name: step for name, step in steps.items() if step is not None}
-        self.kept = [number for number, lane in entry.vectors.items()
-                     if all(a.eq(b) for a, b in zip(lane, end.vectors[number]))]
+        self.added, self.steps = added, {
+            name: step for name, step in steps.items() if step is not None
+        }
+        self.unchanged = [
+            number
+            for number, lane in entry.vectors.items()
+            if all(a.eq(b) for a, b in zip(lane, end.vectors[number]))
+        ]
         self.is_clean = entry.is_clean and end.is_clean
         self.first_read, self.first_written = _least(end.reads), _least(end.writes)
         unknown = {added[name].decl().name() for name in added if name not in self.steps}
         moving = {added[name].decl().name() for name, step in self.steps.items() if step}
-        facts = [fact.term for fact in end.facts[len(entry.facts):] if fact.names & moving and not fact.names & unknown]
+        facts = [
+            fact.term
+            for fact in end.facts[len(entry.facts) :]
+            if fact.names & moving and not fact.names & unknown
+        ]
         # What the branches say of the registers where the round ends, and so held where it began.
-        self.facts = [fact for fact in facts if entry.holds(self._at(fact, word(-1)))]
-        rest = {name: end.general[name] == value for name, value in entry.general.items() if name not in self.steps}
+        self.facts = [fact for fact in facts if entry.is_valid(self._at(fact, word(-1)))]
+        rest = {
+            name: end.general[name] == value
+            for name, value in entry.general.items()
+            if name not in self.steps
+        }
         if rest := {name: same for name, same in rest.items() if is_public(same)}:
-            self._keep(rest, entry, end.facts[len(entry.facts):])
+            self._keep(rest, entry, end.facts[len(entry.facts) :])
 
     def _keep(self, rest, entry, facts):
         """Finds registers that a round changes only if it is the last one."""
-        state, k = entry.copy(), fresh("p", 64)
-        for fact in [z3.ULE(k, self.bound(entry)), *self.guards(k), *[self._at(fact.term, k) for fact in facts]]:
+        state, k = entry.copy(), fresh_public(64)
+        for fact in [
+            z3.ULE(k, self.bound(entry)),
+            *self.guards(k),
+            *[self._at(fact.term, k) for fact in facts],
+        ]:
             state.assume(fact)
-        self.steps |= {name: 0 for name, same in rest.items() if state.holds(self._at(same, k))}
+        self.steps |= {name: 0 for name, same in rest.items() if state.is_valid(self._at(same, k))}
 
     def _at(self, term, k):
         """A term of the registers after so many rounds."""
-        return simple(z3.substitute(term, *[(self.added[name], step * k) for name, step in self.steps.items() if step]))
+        return simple(
+            z3.substitute(
+                term, *[(self.added[name], step * k) for name, step in self.steps.items() if step]
+            )
+        )
 
     def guards(self, k):
         return [self._at(fact, k - 1) for fact in self.facts]
@@ -101,7 +130,8 @@ class Hint:
         return self._at(self.first_written, k)
 
     def bound(self, entry):
-        """How many rounds a register allows that counts down from more than 0, or a comparison of two terms."""
+        """How many rounds a register allows that counts down from more than 0, or a comparison of
+        two terms."""
         guarded = {name for fact in self.facts for name in names(fact)}
         for name, step in self.steps.items():
             begin, is_guarded = entry.general[name], self.added[name].decl().name() in guarded
@@ -113,7 +143,7 @@ class Hint:
             if z3.is_bv_value(step) and step.as_long():
                 step = step.as_signed_long()
                 return simple(z3.UDiv(first if step < 0 else -first, word(abs(step))))
-        raise Refused("nothing counts down")
+        raise Rejected("nothing counts down")
 
 
 def _compared(fact):
@@ -127,13 +157,17 @@ def _compared(fact):
 def _least(parts):
     """The least offset of what was read or written, if there is one."""
     far = [simple(offset - parts[0][0]) for offset, _ in parts]
-    return simple(parts[0][0] + min(by.as_signed_long() for by in far if z3.is_bv_value(by))) if parts else word(0)
+    return (
+        simple(parts[0][0] + min(by.as_signed_long() for by in far if z3.is_bv_value(by)))
+        if parts
+        else word(0)
+    )
 
 
 class Unproved:
     """A state of which nothing has to be proved."""
 
-    def must(self, goal, message):
+    def prove(self, goal, message):
         pass
 
     def choose(self, choice):
@@ -143,19 +177,19 @@ class Unproved:
         return True
 
     def store(self, address, lane, aligned=False):
-        if "p_output" in names(simple(address)):
+        if "output" in names(simple(address)):
             self.writes.append((simple(address - self.regions["output"].base), len(lane)))
         else:
             super().store(address, lane, aligned)
 
     def returned(self):
-        raise Refused("a round that ends elsewhere")
+        raise Rejected("a round that ends elsewhere")
 
 
 class Directed(Unproved):
-    """One of which is known which way it goes: a branch goes both ways."""
+    """One of which is known which path it takes: a branch takes both."""
 
-    def when(self, condition, address=None):
+    def branch(self, condition, address=None):
         other = self.copy()
         other.assume(condition)
         other.address = self.address if address is None else address
@@ -171,32 +205,38 @@ def _at_head(entry, kind, added):
 
 
 def _first_round(code, entry):
-    """The addresses on a way from a loop's head back to it, and the state there; or None, if none was found."""
+    """The addresses on a path from a loop's header back to it, and the state there; or None, if none
+    was found."""
     unchanged = {name: word(0) for name in entry.general}
     work, leading = [(_at_head(entry, Unproved, unchanged), ())], leading_to(code, entry.address)
     while work:
         # Those that lead back come first.
         work.sort(key=lambda part: part[0].address in leading)
-        state, way = work.pop()
-        if way and state.address == entry.address:
-            return way, state
+        state, path = work.pop()
+        if path and state.address == entry.address:
+            return path, state
         try:
-            work += [(after, (*way, after.address)) for after in paths.step(code, state)]
-        # Nothing is checked here, so an access outside of a table is tried. The proof itself rejects it.
-        except (Refused, IndexError):
+            work += [(after, (*path, after.address)) for after in paths.step(code, state)]
+        # Nothing is checked here, so an access outside of a table is tried. The proof itself
+        # rejects it.
+        except (Rejected, IndexError):
             pass
     return None
 
 
-def guess(code, entry):
-    """What may hold at the head that a state has come to, or None. A first round finds a way back to the head, and
-    which registers change. A second one goes that way again, from registers that are more by unknown numbers."""
+def infer_invariant(code, entry):
+    """The invariant at the loop header that a state has come to, or None. A first round finds a way back
+    to the head, and which registers change. A second one goes that way again, from registers
+    that are more by unknown numbers.
+    """
     if not (first := _first_round(code, entry)):
         return None
-    way, end = first
-    added = {name: word(0) if end.general[name].eq(value) else fresh("p_added", 64)
-             for name, value in entry.general.items()}
+    path, end = first
+    added = {
+        name: word(0) if end.general[name].eq(value) else fresh_public(64)
+        for name, value in entry.general.items()
+    }
     state = _at_head(entry, Directed, added)
-    for address in way:
+    for address in path:
         state = next(after for after in paths.step(code, state) if after.address == address)
-    return Hint(entry, state, added)
+    return Invariant(entry, state, added)

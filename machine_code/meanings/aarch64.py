@@ -1,7 +1,9 @@
-"""AArch64: its operands as `objdump` writes them, what each instruction does, and the procedure call standard.
+"""AArch64: its operands as `objdump` writes them, what each instruction does, and the procedure
+call standard.
 
-If a meaning were wrong, code would be proved that does something else. test_meanings.py compares each form that occurs
-with QEMU. An instruction is refused unless the assembler, which knows ARMv8.0, makes the same bytes of its text.
+If a meaning were wrong, code would be proved that does something else. test_meanings.py compares
+each form that occurs with QEMU. An instruction is rejected unless the assembler, which knows
+ARMv8.0, makes the same bytes of its text.
 """
 
 import re
@@ -10,12 +12,27 @@ import z3
 
 from execution import state
 from execution.paths import Branch
-from execution.state import byte, chosen, joined, simple, split, word
-from meanings.lanes import (ADD, AND, MINIMUM, OR, SUBTRACT, SUBTRACT_SATURATED, XOR, bytes_of, conditions,
-                            difference_flags, each, holds, logic_flags, sum_flags, units)
+from execution.terms import byte, chosen, joined, simple, split, word
+from meanings.lanes import (
+    ADD,
+    AND,
+    MINIMUM,
+    OR,
+    SUBTRACT,
+    SUBTRACT_SATURATED,
+    XOR,
+    bytes_of,
+    conditions,
+    difference_flags,
+    each,
+    holds,
+    logic_flags,
+    sum_flags,
+    units,
+)
 from reading import assembled
 from reading.image import AARCH64
-from solver.questions import require
+from solver.questions import public, require
 
 # An address, registers in braces, or anything else without a comma.
 OPERAND = re.compile(r"\[[^]]*\]!?|\{[^}]*\}(?:\[\d+\])?|[^,\s][^,]*")
@@ -25,13 +42,17 @@ NUMBER = r"(?!18\b)\d+"
 
 
 class Operand:
-    """A register of so many bytes, of which a vector has lanes; an element of a vector; a number; an address; how
-    another operand is shifted; or a condition."""
+    """A register of so many bytes, of which a vector has lanes; an element of a vector; a number;
+    an address; how another operand is shifted; or a condition."""
 
     def __init__(self, text):
         self.text, self.lane, self.size = text, None, None
         if match := re.fullmatch(rf"([xw])({NUMBER}|zr)|(w?sp)", text):
-            self.kind, self.name, self.size = "general", match[3] and "sp" or f"x{match[2]}", 4 if text[0] == "w" else 8
+            self.kind, self.name, self.size = (
+                "general",
+                match[3] and "sp" or f"x{match[2]}",
+                4 if text[0] == "w" else 8,
+            )
         elif match := re.fullmatch(r"([bhsdq])(\d+)", text):
             self.kind, self.name, self.size = "vector", int(match[2]), SIZES[match[1]]
         elif match := re.fullmatch(r"\{?v(\d+)\.(\d+)([bhsd])\}?", text):
@@ -41,20 +62,34 @@ class Operand:
             self.kind, self.name, self.size = "element", int(match[1]), SIZES[match[2]]
             self.first = int(match[3]) * self.size
         elif match := re.fullmatch(rf"\[(x{NUMBER}|sp)(?:, (?:#(-?\d+)|(x{NUMBER})))?\](!?)", text):
-            self.kind, self.base, self.offset, self.index = "memory", match[1], int(match[2] or 0), match[3]
+            self.kind, self.base, self.offset, self.index = (
+                "memory",
+                match[1],
+                int(match[2] or 0),
+                match[3],
+            )
             self.is_moved, self.after = bool(match[4]), None
         elif match := re.fullmatch(r"(lsl|lsr) #(\d+)|(uxtw)", text):
-            self.kind, self.how, self.count = "shift", match[1] or match[3], match[2] and int(match[2])
+            self.kind, self.how, self.count = (
+                "shift",
+                match[1] or match[3],
+                match[2] and int(match[2]),
+            )
         elif text in CONDITIONS:
             self.kind = "condition"
         else:
-            self.kind, self.value = "number", int(text.removeprefix("#"), 0 if text.startswith("#") else 16)
+            self.kind, self.value = "number", int(
+                text.removeprefix("#"), 0 if text.startswith("#") else 16
+            )
 
 
 def _operands(text):
     """Those of an instruction. What stands after an address is added to its base afterwards."""
     # Two registers in braces, which are loaded or stored, are two operands.
-    operands = [Operand(part.strip()) for part in OPERAND.findall(re.sub(r"^{(.*?), (.*?)}", r"{\1}, {\2}", text))]
+    operands = [
+        Operand(part.strip())
+        for part in OPERAND.findall(re.sub(r"^{(.*?), (.*?)}", r"{\1}, {\2}", text))
+    ]
     if len(operands) > 1 and operands[-2].kind == "memory":
         *operands, after = operands
         operands[-1].after = after
@@ -66,7 +101,11 @@ def _is_page(i, old, new):
     words = [int.from_bytes(code[:4], "little") for code in (old, new)]
     pages = words[0] >> 29 & 3 | words[0] >> 3 & 0x1FFFFC
     to = (i.address >> 12) + pages - (pages >> 20 << 21) << 12
-    return i.mnemonic == "adrp" and (words[0] ^ words[1]) & ~0x60FFFFE0 == 0 and i.operands[1].value == to
+    return (
+        i.mnemonic == "adrp"
+        and (words[0] ^ words[1]) & ~0x60FFFFE0 == 0
+        and i.operands[1].value == to
+    )
 
 
 def instructions(code, part, level):
@@ -78,13 +117,20 @@ def instructions(code, part, level):
 class State(state.State):
     """The arguments are in these registers, and a call has left the address to return to in x30."""
 
-    TOP, STACK, STACK_OF_CALLED, STACK_OF_DISPATCH, RETURN, VECTORS, WIDTH = "sp", 2000, 64, 2032, 0, 32, 16
+    TOP = "sp"
+    STACK, STACK_OF_CALLED, STACK_OF_DISPATCH = 2000, 64, 2032
+    RETURN, VECTORS, WIDTH = 0, 32, 16
     GENERAL = tuple(f"x{number}" for number in range(31)) + ("sp",)
     ARGUMENTS, RESULTS, BOOL = tuple(f"x{number}" for number in range(8)), ("x0", "x1"), 32
-    KEPT, KEPT_VECTORS = ("sp", *(f"x{number}" for number in range(19, 30))), dict.fromkeys(range(8, 16), 8)
+    KEPT, KEPT_VECTORS = ("sp", *(f"x{number}" for number in range(19, 30))), dict.fromkeys(
+        range(8, 16), 8
+    )
 
     def enter(self):
-        self.general |= {"sp": simple(self.regions["stack"].base + self.STACK), "x30": z3.BitVec("p_return", 64)}
+        self.general |= {
+            "sp": simple(self.regions["stack"].base + self.STACK),
+            "x30": public("return", 64),
+        }
 
     def return_address(self):
         return self.general["x30"]
@@ -114,27 +160,39 @@ class State(state.State):
         """The bytes of any register."""
         if o.kind == "general":
             return split(self.number(o))
-        return self.vectors[o.name][o.first :][: o.size] if o.kind == "element" else self.vectors[o.name][: o.size]
+        return (
+            self.vectors[o.name][o.first :][: o.size]
+            if o.kind == "element"
+            else self.vectors[o.name][: o.size]
+        )
 
     def put(self, o, term):
         if o.name != "xzr":
             self.general[o.name] = simple(z3.ZeroExt(32, term) if o.size == 4 else term)
 
     def put_lane(self, o, lane):
-        """Writes any register. What lies above in it is cleared, but not what is beside an element."""
+        """Writes any register. What lies above in it is cleared, but not what is beside an
+        element."""
         if o.kind == "general":
             return self.put(o, joined(lane))
         old = self.vectors[o.name]
-        self.vectors[o.name] = (old[: o.first] + lane + old[o.first + o.size :] if o.kind == "element" else
-                                lane + [byte(0)] * (16 - o.size))
+        self.vectors[o.name] = (
+            old[: o.first] + lane + old[o.first + o.size :]
+            if o.kind == "element"
+            else lane + [byte(0)] * (16 - o.size)
+        )
 
 
 SHIFTS = {"lsl": lambda a, by: a * (1 << by), "lsr": z3.LShR}
 CONDITIONS = conditions(
-    {"eq": lambda flag: flag("z"), "cs": lambda flag: flag("c"),
-     "hi": lambda flag: z3.And(flag("c"), z3.Not(flag("z"))),
-     "gt": lambda flag: z3.And(z3.Not(flag("z")), flag("s") == flag("o"))},
-    {"ne": "eq", "cc": "cs", "ls": "hi", "le": "gt"})
+    {
+        "eq": lambda flag: flag("z"),
+        "cs": lambda flag: flag("c"),
+        "hi": lambda flag: z3.And(flag("c"), z3.Not(flag("z"))),
+        "gt": lambda flag: z3.And(z3.Not(flag("z")), flag("s") == flag("o")),
+    },
+    {"ne": "eq", "cc": "cs", "ls": "hi", "le": "gt"},
+)
 
 
 def comparison_flags(a, b):
@@ -149,6 +207,7 @@ def general(function, flags=None, is_kept=True):
         s.flags = flags(*given) if flags else s.flags
         if is_kept:
             s.put(i.operands[0], simple(function(*given)))
+
     return handler
 
 
@@ -165,7 +224,8 @@ def move_part(s, i):
 
 
 def insert_bits(s, i):
-    """bfxil: bits from anywhere in a register replace the lowest of another. bfi: the lowest replace bits anywhere."""
+    """bfxil: bits from anywhere in a register replace the lowest of another. bfi: the lowest
+    replace bits anywhere."""
     to, by, place, count = i.operands
     require(count.value < 8 * to.size, "all bits")
     low, at = (place.value, 0) if i.mnemonic == "bfxil" else (0, place.value)
@@ -185,12 +245,20 @@ def select(function):
         to, one, other, name = i.operands
         a, b = s.number(one, to.size), s.number(other, to.size)
         s.put(to, s.either(holds(s, CONDITIONS[name.text]), a, simple(function(b)), is_asked=True))
+
     return handler
 
 
 def set_if(s, i):
     to, name = i.operands
-    s.put(to, s.either(holds(s, CONDITIONS[name.text]), z3.BitVecVal(1, 8 * to.size), z3.BitVecVal(0, 8 * to.size)))
+    s.put(
+        to,
+        s.either(
+            holds(s, CONDITIONS[name.text]),
+            z3.BitVecVal(1, 8 * to.size),
+            z3.BitVecVal(0, 8 * to.size),
+        ),
+    )
 
 
 # Vectors
@@ -204,6 +272,7 @@ def by_units(function):
     def handler(s, i):
         to, one, other = same(*i.operands)
         s.put_lane(to, each(function, to.lane, s.lane(one), s.lane(other)))
+
     return handler
 
 
@@ -216,6 +285,7 @@ def shifted(function):
         *vectors, by = i.operands
         to, one = same(*vectors)
         s.put_lane(to, each(lambda a: function(a, by.value), to.lane, s.lane(one)))
+
     return handler
 
 
@@ -223,7 +293,15 @@ def shift_left_and_insert(s, i):
     """The lower bits of each number stay as they were."""
     *vectors, by = i.operands
     to, one = same(*vectors)
-    s.put_lane(to, each(lambda a, old: a << by.value | old & (1 << by.value) - 1, to.lane, s.lane(one), s.lane(to)))
+    s.put_lane(
+        to,
+        each(
+            lambda a, old: a << by.value | old & (1 << by.value) - 1,
+            to.lane,
+            s.lane(one),
+            s.lane(to),
+        ),
+    )
 
 
 def constant(s, i):
@@ -237,7 +315,8 @@ def move(s, i):
     to, by = i.operands
     if by.kind == "number" or by.kind == to.kind == "general":
         return s.put(to, s.number(by, to.size))
-    # An element comes from the lower bytes of a register, and goes into a register that may be wider.
+    # An element comes from the lower bytes of a register, and goes into a register that may be
+    # wider.
     s.put_lane(to, s.lane(by)[: to.size] + [byte(0)] * (to.size - by.size))
 
 
@@ -251,11 +330,21 @@ def narrow(s, i):
     s.put_lane(to, bytes_of(z3.Extract(8 * to.lane - 1, 0, a) for a in units(s.lane(by), by.lane)))
 
 
+def widen(s, i):
+    to, by = i.operands
+    numbers = units(s.lane(by), by.lane)
+    s.put_lane(to, bytes_of(z3.ZeroExt(8 * (to.lane - by.lane), a) for a in numbers))
+
+
 def mixed(function):
     """An instruction that takes numbers of two vectors."""
+
     def handler(s, i):
         to, one, other = same(*i.operands)
-        s.put_lane(to, bytes_of(function(units(s.lane(one), to.lane), units(s.lane(other), to.lane))))
+        s.put_lane(
+            to, bytes_of(function(units(s.lane(one), to.lane), units(s.lane(other), to.lane)))
+        )
+
     return handler
 
 
@@ -273,7 +362,10 @@ def extract(s, i):
 def look_up(s, i):
     to, table, by = i.operands
     entries = s.lane(table)
-    s.put_lane(to, [simple(z3.If(z3.ULT(index, 16), chosen(entries, index), byte(0))) for index in s.lane(by)])
+    s.put_lane(
+        to,
+        [simple(z3.If(z3.ULT(index, 16), chosen(entries, index), byte(0))) for index in s.lane(by)],
+    )
 
 
 # Jumps
@@ -294,7 +386,10 @@ def jump_if(s, i):
 
 def jump_if_bit(s, i):
     by, bit, to = i.operands
-    return Branch(simple(z3.Extract(bit.value, bit.value, s.number(by)) == int(i.mnemonic == "tbnz")), to.value)
+    return Branch(
+        simple(z3.Extract(bit.value, bit.value, s.number(by)) == int(i.mnemonic == "tbnz")),
+        to.value,
+    )
 
 
 def jump_if_zero(s, i):
@@ -308,12 +403,13 @@ STORES = "str", "stur", "stp", "st1", "st2", "strb", "sturb", "strh"
 
 
 def accessed(s, i):
-    """The registers of a load or store, how many bytes are of each, the address, and what the base is afterwards."""
+    """The registers of a load or store, how many bytes are of each, the address, and what the base
+    is afterwards."""
     *registers, o = i.operands
     require(o.kind == "memory", "an address of another form")
     base = s.general[o.base]
     if o.base == "sp":
-        s.must(base & 15 == 0, "the stack pointer is not aligned")
+        s.prove(base & 15 == 0, "the stack pointer is not aligned")
     address = simple(base + (s.general[o.index] if o.index else o.offset))
     moved = simple(base + s.number(o.after, 8)) if o.after else address if o.is_moved else base
     size = registers[0].lane if i.mnemonic == "ld1r" else registers[0].size
@@ -340,21 +436,62 @@ def store(s, i):
 
 
 HANDLERS = {
-    "add": either(general(ADD), by_units(ADD)), "adds": general(ADD, sum_flags),
-    "cmn": general(ADD, sum_flags, is_kept=False), "tst": general(AND, logic_flags(AND), is_kept=False),
-    "sub": either(general(SUBTRACT), by_units(SUBTRACT)), "subs": general(SUBTRACT, comparison_flags),
-    "cmp": general(SUBTRACT, comparison_flags, is_kept=False), "and": either(general(AND), by_units(AND)),
-    "orr": either(general(OR), by_units(OR)), "eor": general(XOR), "neg": general(lambda a: -a),
-    "mvn": general(lambda a: ~a), "msub": general(lambda a, b, c: c - a * b), "umulh": upper_product,
-    "movk": move_part, "bfi": insert_bits, "bfxil": insert_bits, "lsl": shift, "lsr": shift,
-    "adrp": lambda s, i: s.put(i.operands[0], s.code.placed(i.operands[1].value)), "cset": set_if,
-    "csel": select(lambda b: b), "csinv": select(lambda b: ~b), "b": jump, "bl": jump, "ret": ret, "cbz": jump_if_zero,
-    "cbnz": jump_if_zero, "tbz": jump_if_bit, "tbnz": jump_if_bit, "umin": by_units(MINIMUM),
-    "uqsub": by_units(SUBTRACT_SATURATED), "ushr": shifted(z3.LShR), "shl": shifted(lambda a, count: a << count),
+    "add": either(general(ADD), by_units(ADD)),
+    "adds": general(ADD, sum_flags),
+    "cmn": general(ADD, sum_flags, is_kept=False),
+    "tst": general(AND, logic_flags(AND), is_kept=False),
+    "sub": either(general(SUBTRACT), by_units(SUBTRACT)),
+    "subs": general(SUBTRACT, comparison_flags),
+    "cmp": general(SUBTRACT, comparison_flags, is_kept=False),
+    "and": either(general(AND), by_units(AND)),
+    "orr": either(general(OR), by_units(OR)),
+    "eor": general(XOR),
+    "neg": general(lambda a: -a),
+    "mvn": general(lambda a: ~a),
+    "msub": general(lambda a, b, c: c - a * b),
+    "umulh": upper_product,
+    "movk": move_part,
+    "bfi": insert_bits,
+    "bfxil": insert_bits,
+    "lsl": shift,
+    "lsr": shift,
+    **dict.fromkeys(
+        ("adr", "adrp"), lambda s, i: s.put(i.operands[0], s.code.placed(i.operands[1].value))
+    ),
+    "nop": lambda s, i: None,
+    "cset": set_if,
+    "csel": select(lambda b: b),
+    "csinv": select(lambda b: ~b),
+    "b": jump,
+    "bl": jump,
+    "ret": ret,
+    "cbz": jump_if_zero,
+    "cbnz": jump_if_zero,
+    "tbz": jump_if_bit,
+    "tbnz": jump_if_bit,
+    "mul": by_units(lambda a, b: a * b),
+    "umin": by_units(MINIMUM),
+    "uqsub": by_units(SUBTRACT_SATURATED),
+    "ushr": shifted(z3.LShR),
+    "shl": shifted(lambda a, count: a << count),
     "sli": shift_left_and_insert,
-    "rev16": lambda s, i: s.put_lane(i.operands[0], each(lambda a: z3.RotateLeft(a, 8), 2, s.lane(i.operands[1]))),
-    "movi": constant, "mov": move, "fmov": move, "umov": move, "dup": duplicate, "xtn": narrow, "ext": extract,
-    "tbl": look_up, "uzp1": mixed(lambda a, b: (a + b)[::2]), "uzp2": mixed(lambda a, b: (a + b)[1::2]),
-    "zip1": mixed(lambda a, b: pairs(a, b)[: len(a)]), "zip2": mixed(lambda a, b: pairs(a, b)[len(a) :]),
-    **dict.fromkeys(LOADS, load), **dict.fromkeys(STORES, store), **{f"b.{name}": jump_if for name in CONDITIONS},
+    "rev16": lambda s, i: s.put_lane(
+        i.operands[0], each(lambda a: z3.RotateLeft(a, 8), 2, s.lane(i.operands[1]))
+    ),
+    "movi": constant,
+    "mov": move,
+    "fmov": move,
+    "umov": move,
+    "dup": duplicate,
+    "xtn": narrow,
+    "uxtl": widen,
+    "ext": extract,
+    "tbl": look_up,
+    "uzp1": mixed(lambda a, b: (a + b)[::2]),
+    "uzp2": mixed(lambda a, b: (a + b)[1::2]),
+    "zip1": mixed(lambda a, b: pairs(a, b)[: len(a)]),
+    "zip2": mixed(lambda a, b: pairs(a, b)[len(a) :]),
+    **dict.fromkeys(LOADS, load),
+    **dict.fromkeys(STORES, store),
+    **{f"b.{name}": jump_if for name in CONDITIONS},
 }

@@ -1,9 +1,9 @@
-"""What instructions of several processors have in common. A vector is a list of its bytes, the lowest first. Each
-meaning is compared with the processor by test_meanings.py."""
+"""What instructions of several processors have in common. A vector is a list of its bytes, the
+lowest first. Each meaning is compared with the processor by test_meanings.py."""
 
 import z3
 
-from execution.state import joined, simple, split
+from execution.terms import joined, simple, split
 from solver.questions import require
 
 
@@ -23,19 +23,32 @@ def each(function, size, *lanes):
 
 def saturated(numbers):
     """Signed numbers as bytes: each one, or the nearest one that is a byte."""
-    return [simple(z3.Extract(7, 0, z3.If(number < 0, 0, z3.If(number > 255, 255, number)))) for number in numbers]
+    return [
+        simple(z3.Extract(7, 0, z3.If(number < 0, 0, z3.If(number > 255, 255, number))))
+        for number in numbers
+    ]
 
 
 # By two numbers of any size.
 ADD, SUBTRACT, MULTIPLY = lambda a, b: a + b, lambda a, b: a - b, lambda a, b: a * b
-AND, OR, XOR, AND_NOT = lambda a, b: a & b, lambda a, b: a | b, lambda a, b: a ^ b, lambda a, b: ~a & b
+AND, OR, XOR, AND_NOT = (
+    lambda a, b: a & b,
+    lambda a, b: a | b,
+    lambda a, b: a ^ b,
+    lambda a, b: ~a & b,
+)
 MINIMUM, MAXIMUM = lambda a, b: z3.If(z3.ULT(a, b), a, b), lambda a, b: z3.If(z3.ULT(a, b), b, a)
 SUBTRACT_SATURATED = lambda a, b: z3.If(z3.ULT(a, b), z3.BitVecVal(0, a.size()), a - b)
 
 
 # Flags: the sign of a result, whether it is 0, the carry, and whether the signed result is another.
 def sum_flags(a, b):
-    return {"s": a + b < 0, "z": a + b == 0, "c": z3.ULT(a + b, a), "o": (a ^ a + b) & (b ^ a + b) < 0}
+    return {
+        "s": a + b < 0,
+        "z": a + b == 0,
+        "c": z3.ULT(a + b, a),
+        "o": (a ^ a + b) & (b ^ a + b) < 0,
+    }
 
 
 def difference_flags(a, b):
@@ -46,16 +59,22 @@ def logic_flags(function):
     def flags(a, b):
         result = simple(function(a, b))
         return {"s": result < 0, "z": result == 0, "c": z3.BoolVal(False), "o": z3.BoolVal(False)}
+
     return flags
 
 
 def conditions(known, opposites):
-    """Conditions by their names, each a function of what gives a flag; and those that are their opposites."""
-    return known | {name: lambda flag, other=known[other]: z3.Not(other(flag)) for name, other in opposites.items()}
+    """Conditions by their names, each a function of what gives a flag; and those that are their
+    opposites."""
+    return known | {
+        name: lambda flag, other=known[other]: z3.Not(other(flag))
+        for name, other in opposites.items()
+    }
 
 
 def holds(s, condition):
     """Whether a condition holds in a state."""
+
     def flag(letter):
         require(s.flags and s.flags[letter] is not None, "a flag that is not known")
         return s.flags[letter]

@@ -1,8 +1,8 @@
 """x86-64: its operands as `objdump` writes them, what each instruction does, and the System V ABI.
 
-If a meaning were wrong, code would be proved that does something else. test_meanings.py compares each form that occurs
-with the processor. An instruction is refused unless the assembler, which knows what a CPU of the level has, makes the
-same bytes of its text.
+If a meaning were wrong, code would be proved that does something else. test_meanings.py compares
+each form that occurs with the processor. An instruction is rejected unless the assembler, which
+knows what a CPU of the level has, makes the same bytes of its text.
 """
 
 import re
@@ -11,27 +11,47 @@ import z3
 
 from execution import state
 from execution.paths import Branch
-from execution.state import byte, chosen, joined, simple, split, word
-from meanings.lanes import (ADD, AND, AND_NOT, MINIMUM, MULTIPLY, OR, SUBTRACT, SUBTRACT_SATURATED, XOR, conditions,
-                            difference_flags, each, holds, logic_flags, saturated, sum_flags, units)
+from execution.terms import byte, fresh_public, joined, simple, split, word
+from meanings.lanes import (
+    ADD,
+    AND,
+    OR,
+    SUBTRACT,
+    XOR,
+    conditions,
+    difference_flags,
+    each,
+    holds,
+    logic_flags,
+    sum_flags,
+)
+from meanings.x86_64_vectors import VECTOR_HANDLERS
 from reading import assembled
 from reading.image import X86_64
-from solver.questions import require
+from solver.questions import public, require
 
 # What a CPU has, by the levels of the x86-64 psABI, as GNU as names it.
 V2 = "generic64+cx16+popcnt+sse3+ssse3+sse4.1+sse4.2"
-# `xgetbv`, which is one of XSAVE, is known in rust/src/asm/dispatch.s, which asks for OSXSAVE before, on every CPU.
+# `xgetbv`, which is one of XSAVE, is known in rust/src/asm/dispatch.s, which asks for OSXSAVE
+# before, on every CPU.
 LEVELS = {"v3": f"{V2}+xsave+avx+avx2+bmi+bmi2+f16c+fma+lzcnt+movbe", "dispatch": "generic64+xsave"}
 # What assemblers put between instructions, and assemble otherwise from its text.
 NOPS = "0f1f4000 0f1f440000 660f1f440000 0f1f8000000000 0f1f840000000000 660f1f840000000000".split()
 NOPS += ["66" * count + "2e0f1f840000000000" for count in range(1, 7)]
 SIZES = {"BYTE": 1, "WORD": 2, "DWORD": 4, "QWORD": 8, "XMMWORD": 16, "YMMWORD": 32}
 # The register that a name means, and how many of its bytes.
-GENERAL = {f"r{_number}{_end}": (f"r{_number}", _size)
-           for _number in range(8, 16) for _end, _size in (("", 8), ("d", 4), ("w", 2), ("b", 1))}
+GENERAL = {
+    f"r{_number}{_end}": (f"r{_number}", _size)
+    for _number in range(8, 16)
+    for _end, _size in (("", 8), ("d", 4), ("w", 2), ("b", 1))
+}
 for _name in ("ax", "bx", "cx", "dx", "si", "di", "bp", "sp"):
-    GENERAL |= {f"r{_name}": (f"r{_name}", 8), f"e{_name}": (f"r{_name}", 4), _name: (f"r{_name}", 2),
-                f"{_name.removesuffix('x')}l": (f"r{_name}", 1)}
+    GENERAL |= {
+        f"r{_name}": (f"r{_name}", 8),
+        f"e{_name}": (f"r{_name}", 4),
+        _name: (f"r{_name}", 2),
+        f"{_name.removesuffix('x')}l": (f"r{_name}", 1),
+    }
 
 
 class Operand:
@@ -42,7 +62,11 @@ class Operand:
         if text in GENERAL:
             self.kind, (self.name, self.size) = "general", GENERAL[text]
         elif match := re.fullmatch(r"([xy])mm(\d+)", text):
-            self.kind, self.name, self.size = "vector", int(match[2]), SIZES[f"{match[1].upper()}MMWORD"]
+            self.kind, self.name, self.size = (
+                "vector",
+                int(match[2]),
+                SIZES[f"{match[1].upper()}MMWORD"],
+            )
         elif match := re.fullmatch(r"(?:(\w+) PTR )?\[(.*)\]", text):
             self.kind, self.size, self.terms, self.offset = "memory", SIZES.get(match[1]), [], 0
             for sign, part in re.findall(r"([+-]?)([^+-]+)", match[2]):
@@ -71,23 +95,28 @@ def _is_nop(i, old, new):
 
 
 def instructions(code, part, level):
-    """The instructions of a part of a file, by their addresses. One that the least CPU of the level does not have is
-    among those that `assembled` says are refused, since the assembler knows only what that CPU has."""
+    """The instructions of a part of a file, by their addresses. One that the least CPU of the level
+    does not have is among those that `assembled` says are rejected, since the assembler knows
+    only what that CPU has.
+    """
     command = ["as", "--64", "-msyntax=intel", "-mnaked-reg", f"-march={LEVELS.get(level, V2)}"]
     return assembled.read(part, X86_64, _operands, command, _text_to_assemble, _is_nop)
 
 
 class State(state.State):
-    """The arguments are in these registers, and a call has left the address to return to on the stack."""
+    """The arguments are in these registers, and a call has left the address to return to on the
+    stack."""
 
-    TOP, STACK, STACK_OF_CALLED, STACK_OF_DISPATCH, RETURN, VECTORS, WIDTH = "rsp", 1912, 72, 2040, 8, 16, 32
+    TOP = "rsp"
+    STACK, STACK_OF_CALLED, STACK_OF_DISPATCH = 1912, 72, 2040
+    RETURN, VECTORS, WIDTH = 8, 16, 32
     GENERAL = tuple(dict.fromkeys(name for name, _ in GENERAL.values()))
     ARGUMENTS, RESULTS, BOOL = ("rdi", "rsi", "rdx", "rcx", "r8", "r9"), ("rax", "rdx"), 8
     KEPT = ("rbx", "rbp", "r12", "r13", "r14", "r15")
 
     def enter(self):
         self.general["rsp"] = simple(self.regions["stack"].base + self.STACK)
-        self.put_cells("stack", self.STACK, split(z3.BitVec("p_return", 64)))
+        self.put_cells("stack", self.STACK, split(public("return", 64)))
         self.is_legacy = False
 
     def return_address(self):
@@ -110,12 +139,16 @@ class State(state.State):
             return split(z3.Extract(8 * o.size - 1, 0, self.general[o.name]))[:size]
         if o.kind == "vector":
             return self.vectors[o.name][: size or o.size]
-        return self.load(self.address_of(o, i), size or o.size, self.is_legacy and (size or o.size) == 16)
+        return self.load(
+            self.address_of(o, i), size or o.size, self.is_legacy and (size or o.size) == 16
+        )
 
     def number(self, o, i, size=None):
         if o.kind == "number":
             return z3.BitVecVal(o.value, 8 * size)
-        return self.general[o.name] if o.kind == "general" and o.size == 8 else joined(self.lane(o, i))
+        return (
+            self.general[o.name] if o.kind == "general" and o.size == 8 else joined(self.lane(o, i))
+        )
 
     def put(self, o, i, term):
         """Writes a general register, of which 4 bytes clear the others, or memory."""
@@ -128,16 +161,22 @@ class State(state.State):
         self.general[o.name] = simple(term)
 
     def put_vector(self, o, lane):
-        """Writes a vector: what lies above is kept by the old forms of instructions, and cleared by the new ones."""
+        """Writes a vector: what lies above is kept by the old forms of instructions, and cleared by
+        the new ones."""
         above = self.vectors[o.name][o.size :] if self.is_legacy else [byte(0)] * (32 - o.size)
         self.vectors[o.name] = [*lane, *[byte(0)] * (o.size - len(lane)), *above]
         self.is_clean &= o.size == 16
 
 
 CONDITIONS = conditions(
-    {"e": lambda flag: flag("z"), "b": lambda flag: flag("c"), "be": lambda flag: z3.Or(flag("c"), flag("z")),
-     "s": lambda flag: flag("s")},
-    {"ne": "e", "ae": "b", "a": "be", "ns": "s"})
+    {
+        "e": lambda flag: flag("z"),
+        "b": lambda flag: flag("c"),
+        "be": lambda flag: z3.Or(flag("c"), flag("z")),
+        "s": lambda flag: flag("s"),
+    },
+    {"ne": "e", "ae": "b", "a": "be", "ns": "s"},
+)
 
 
 # General instructions
@@ -148,21 +187,25 @@ def numbers(s, i):
 
 def general(function, flags=None, is_kept=True):
     """What becomes of the first operand, and the flags, if it sets some."""
+
     def handler(s, i):
         given = numbers(s, i)
         s.flags = flags(*given) if flags else s.flags
         if is_kept:
             s.put(i.operands[0], i, simple(function(*given)))
+
     return handler
 
 
 def by_one(function, flags):
     """The carry is as before."""
+
     def handler(s, i):
         [number], carry = numbers(s, i), (s.flags or {}).get("c")
         one = z3.BitVecVal(1, number.size())
         s.flags = flags(number, one) | {"c": carry}
         s.put(i.operands[0], i, function(number, one))
+
     return handler
 
 
@@ -170,16 +213,21 @@ def shift(function):
     def handler(s, i):
         to, by = i.operands
         require(by.kind == "number" and 0 < by.value < 8 * to.size, "a shift")
-        s.put(to, i, simple(function(s.number(to, i), by.value)))
-        s.flags = None
+        result = simple(function(s.number(to, i), by.value))
+        s.put(to, i, result)
+        s.flags = {"s": result < 0, "z": result == 0, "c": None, "o": None}
+
     return handler
 
 
 def multiply(s, i):
-    by, = i.operands
+    (by,) = i.operands
     require(by.size == 8, "another size")
     product = s.product(s.general["rax"], s.number(by, i))
-    s.general |= {"rax": simple(z3.Extract(63, 0, product)), "rdx": simple(z3.Extract(127, 64, product))}
+    s.general |= {
+        "rax": simple(z3.Extract(63, 0, product)),
+        "rdx": simple(z3.Extract(127, 64, product)),
+    }
     s.flags = None
 
 
@@ -188,6 +236,7 @@ def move(extension):
         to, by = i.operands
         number = s.number(by, i, to.size)
         s.put(to, i, simple(extension(8 * to.size - number.size(), number)))
+
     return handler
 
 
@@ -251,171 +300,66 @@ def ret(s, i):
 
 # What the CPU reports
 def reported(instruction, leaf, register):
-    return z3.BitVec(f"p_{instruction}_{leaf:x}_{register}", 32)
+    return public(f"{instruction}_{leaf:x}_{register}", 32)
 
 
 def cpuid(s, i):
-    """Anything, but for the same leaf always the same, except for the number of the processor in leaf 1. Of the leaves
-    here, only 7 has parts by ecx."""
+    """Anything, but for the same leaf always the same, except for the number of the processor in
+    leaf 1. Of the leaves here, only 7 has parts by ecx."""
     leaf, part = [simple(z3.Extract(31, 0, s.general[name])) for name in ("rax", "rcx")]
     is_known = z3.is_bv_value(leaf) and leaf.as_long() in (0, 1, 7, 0x80000000, 0x80000001)
-    require(is_known and (leaf.as_long() != 7 or part.eq(z3.BitVecVal(0, 32))), "another leaf of cpuid, or part of one")
+    require(
+        is_known and (leaf.as_long() != 7 or part.eq(z3.BitVecVal(0, 32))),
+        "another leaf of cpuid, or part of one",
+    )
     for name in ("rax", "rbx", "rcx", "rdx"):
         is_number = (leaf.as_long(), name) == (1, "rbx")
-        answer = state.fresh("p", 32) if is_number else reported("cpuid", leaf.as_long(), name)
+        answer = fresh_public(32) if is_number else reported("cpuid", leaf.as_long(), name)
         s.general[name] = simple(z3.ZeroExt(32, answer))
 
 
 def xgetbv(s, i):
     """It traps unless the CPU reports bit 27 of leaf 1, OSXSAVE."""
-    require(simple(z3.Extract(31, 0, s.general["rcx"])).eq(z3.BitVecVal(0, 32)), "another register of xgetbv")
-    s.must(reported("cpuid", 1, "rcx") & 1 << 27 != 0, "xgetbv on a CPU that may not have it")
+    require(
+        simple(z3.Extract(31, 0, s.general["rcx"])).eq(z3.BitVecVal(0, 32)),
+        "another register of xgetbv",
+    )
+    s.prove(reported("cpuid", 1, "rcx") & 1 << 27 != 0, "xgetbv on a CPU that may not have it")
     for name in ("rax", "rdx"):
         s.general[name] = simple(z3.ZeroExt(32, reported("xgetbv", 0, name)))
 
 
-# Vectors. The old form of an instruction has its target for the first source.
-def three(s, i):
-    to, *others = i.operands
-    return to, *([to, *others] if len(others) == 1 else others)
-
-
-def by_units(size, function):
-    def handler(s, i):
-        to, one, other = three(s, i)
-        s.put_vector(to, each(function, size, s.lane(one, i), s.lane(other, i)))
-    return handler
-
-
-def by_halves(function):
-    """Does the same to each 16 bytes of two operands."""
-    def handler(s, i):
-        to, one, other = three(s, i)
-        a, b = s.lane(one, i), s.lane(other, i)
-        s.put_vector(to, [x for first in range(0, to.size, 16) for x in function(a[first:][:16], b[first:][:16])])
-    return handler
-
-
-def shift_units(size, function):
-    def handler(s, i):
-        to, one, by = three(s, i)
-        require(by.kind == "number" and by.value < 8 * size, "a shift")
-        s.put_vector(to, each(lambda a: function(a, by.value), size, s.lane(one, i)))
-    return handler
-
-
-def looked_up(table, index):
-    return simple(z3.If(z3.Extract(7, 7, index) == 1, byte(0), chosen(table, index)))
-
-
-def interleaved(size):
-    return by_halves(lambda a, b: [x for first in range(0, 8, size) for x in a[first:][:size] + b[first:][:size]])
-
-
-def move_vector(is_aligned):
-    def handler(s, i):
-        to, by = i.operands
-        if to.kind == "memory":
-            return s.store(s.address_of(to, i), s.lane(by, i), is_aligned)
-        s.put_vector(to, s.load(s.address_of(by, i), by.size, is_aligned) if by.kind == "memory" else s.lane(by, i))
-    return handler
-
-
-def move_low(size):
-    """Between the lowest bytes of a vector and another place. In a vector, the others are cleared."""
-    def handler(s, i):
-        to, by = i.operands
-        lane = s.lane(by, i, size)
-        return s.put_vector(to, lane) if to.kind == "vector" else s.put(to, i, joined(lane))
-    return handler
-
-
-def insert(size):
-    def handler(s, i):
-        to, *one, by, index = i.operands
-        require(index.value < to.size // size, "an index")
-        lane, first = s.lane([*one, to][0], i), index.value * size
-        s.put_vector(to, lane[:first] + s.lane(by, i, size) + lane[first + size :])
-    return handler
-
-
-def extract(size):
-    def handler(s, i):
-        to, one, index = i.operands
-        lane = s.lane(one, i)
-        require(index.value < len(lane) // size, "an index")
-        part = lane[index.value * size :][:size]
-        whole = part + [byte(0)] * (to.size - size)
-        return s.put_vector(to, whole) if to.kind == "vector" else s.put(to, i, joined(whole))
-    return handler
-
-
-def broadcast(size):
-    def handler(s, i):
-        to, by = i.operands
-        s.put_vector(to, s.lane(by, i, size) * (to.size // size))
-    return handler
-
-
-def test_vector(s, i):
-    one, other = i.operands
-    lanes = s.lane(one, i), s.lane(other, i)
-    z, c = [z3.And(*[simple(function(a, b)) == 0 for a, b in zip(*lanes)]) for function in (AND, AND_NOT)]
-    s.flags = {"z": z, "c": c, "s": z3.BoolVal(False), "o": z3.BoolVal(False)}
-
-
-def widen(s, i):
-    to, by = i.operands
-    s.put_vector(to, [x for low in s.lane(by, i, to.size // 2) for x in (low, byte(0))])
-
-
-def permute(s, i):
-    to, by, how = i.operands
-    lane = s.lane(by, i)
-    s.put_vector(to, [x for bit in range(0, 8, 2) for x in lane[8 * (how.value >> bit & 3) :][:8]])
-
-
-def vzeroupper(s, i):
-    s.vectors = {name: lane[:16] + [byte(0)] * 16 for name, lane in s.vectors.items()}
-    s.is_clean = True
-
-
-VECTORS = {
-    "paddb": by_units(1, ADD), "paddw": by_units(2, ADD), "psubb": by_units(1, SUBTRACT),
-    "psubusb": by_units(1, SUBTRACT_SATURATED), "pminub": by_units(1, MINIMUM), "por": by_units(1, OR),
-    "pxor": by_units(1, XOR), "pmullw": by_units(2, MULTIPLY), "punpckldq": interleaved(4),
-    "psllw": shift_units(2, lambda a, by: a << by), "psrlw": shift_units(2, z3.LShR), "punpcklqdq": interleaved(8),
-    "pshufb": by_halves(lambda a, b: [looked_up(a, index) for index in b]),
-    "packuswb": by_halves(lambda a, b: saturated(units(a + b, 2))),
-    "movdqu": move_vector(False), "movdqa": move_vector(True), "movups": move_vector(False),
-    "movaps": move_vector(True), "xorps": by_units(1, XOR), "movd": move_low(4), "movq": move_low(8),
-    "pinsrb": insert(1), "pinsrw": insert(2), "pinsrd": insert(4), "pextrw": extract(2), "pextrd": extract(4),
-    "pextrq": extract(8), "pextrb": extract(1), "ptest": test_vector, "pmovzxbw": widen,
-}
-
-
-def legacy(handler):
-    """The form of SSE: an operand of 16 bytes in memory is aligned, and what lies above in a vector is kept."""
-    def of_sse(s, i):
-        s.is_legacy = True
-        handler(s, i)
-        s.is_legacy = False
-    return of_sse
-
-
 HANDLERS = {
-    "add": general(ADD, sum_flags), "sub": general(SUBTRACT, difference_flags), "and": general(AND, logic_flags(AND)),
-    "or": general(OR, logic_flags(OR)), "xor": general(XOR, logic_flags(XOR)), "not": general(lambda a: ~a),
-    "cmp": general(SUBTRACT, difference_flags, is_kept=False), "test": general(AND, logic_flags(AND), is_kept=False),
-    "inc": by_one(ADD, sum_flags), "dec": by_one(SUBTRACT, difference_flags), "mul": multiply,
-    "mov": move(z3.ZeroExt), "movabs": move(z3.ZeroExt), "movzx": move(z3.ZeroExt), "movsxd": move(z3.SignExt),
-    "lea": lea, "shl": shift(lambda a, by: a * (1 << by)), "shr": shift(z3.LShR), "push": push, "pop": pop,
-    "nop": lambda s, i: None, "jmp": jump, "call": call, "ret": ret, "cpuid": cpuid, "xgetbv": xgetbv,
-    **{f"{name}{end}": handler for name, handler in {"j": jump_if, "set": set_if, "cmov": move_if}.items()
-       for end in CONDITIONS},
-    **{name: legacy(handler) for name, handler in VECTORS.items()},
-    **{f"v{name}": handler for name, handler in VECTORS.items()},
-    "vpbroadcastb": broadcast(1), "vpbroadcastd": broadcast(4), "vpbroadcastq": broadcast(8),
-    "vbroadcasti128": broadcast(16), "vpermq": permute, "vinserti128": insert(16), "vextracti128": extract(16),
-    "vzeroupper": vzeroupper,
+    "add": general(ADD, sum_flags),
+    "sub": general(SUBTRACT, difference_flags),
+    "and": general(AND, logic_flags(AND)),
+    "or": general(OR, logic_flags(OR)),
+    "xor": general(XOR, logic_flags(XOR)),
+    "not": general(lambda a: ~a),
+    "cmp": general(SUBTRACT, difference_flags, is_kept=False),
+    "test": general(AND, logic_flags(AND), is_kept=False),
+    "inc": by_one(ADD, sum_flags),
+    "dec": by_one(SUBTRACT, difference_flags),
+    "mul": multiply,
+    "mov": move(z3.ZeroExt),
+    "movabs": move(z3.ZeroExt),
+    "movzx": move(z3.ZeroExt),
+    "movsxd": move(z3.SignExt),
+    "lea": lea,
+    "shl": shift(lambda a, by: a * (1 << by)),
+    "shr": shift(z3.LShR),
+    "push": push,
+    "pop": pop,
+    "nop": lambda s, i: None,
+    "jmp": jump,
+    "call": call,
+    "ret": ret,
+    "cpuid": cpuid,
+    "xgetbv": xgetbv,
+    **{
+        f"{name}{end}": handler
+        for name, handler in {"j": jump_if, "set": set_if, "cmov": move_if}.items()
+        for end in CONDITIONS
+    },
+    **VECTOR_HANDLERS,
 }

@@ -1,8 +1,9 @@
 """The instructions of a section, as `objdump` prints them, assembled again.
 
-`objdump` prints one text for several encodings, also for some that a CPU refuses to run, and it knows instructions
-that not every CPU has. So each text goes to the assembler, which is told what the CPU has. An instruction is refused
-where it is run, unless the assembler makes the same bytes of its text and has nothing to say.
+`objdump` prints one text for several encodings, also for some that a CPU refuses to run, and it
+knows instructions that not every CPU has. So each text goes to the assembler, which knows what
+the CPU has. An instruction is rejected where it is run, unless the assembler makes the same bytes
+of its text and has nothing to say.
 """
 
 import collections
@@ -14,33 +15,45 @@ import tempfile
 
 from reading.image import AARCH64, X86_64
 
-# `refused` says why it must not be run, or is None.
-Instruction = collections.namedtuple("Instruction", "address size mnemonic operands text refused", defaults=[None])
-# By the processor: what prints its instructions, what begins a comment there, and what copies from an object.
-COMMANDS = {X86_64: (["objdump", "-m", "i386:x86-64", "-M", "intel", "-w"], "[#<]", "objcopy"),
-            AARCH64: (["aarch64-linux-gnu-objdump", "-m", "aarch64"], "//|<", "aarch64-linux-gnu-objcopy")}
+# `rejected` says why it must not be run, or is None.
+Instruction = collections.namedtuple(
+    "Instruction", "address size mnemonic operands text rejected", defaults=[None]
+)
+# By the processor: what prints its instructions, what begins a comment there, and what copies from
+# an object.
+COMMANDS = {
+    X86_64: (["objdump", "-m", "i386:x86-64", "-M", "intel", "-w"], "[#<]", "objcopy"),
+    AARCH64: (["aarch64-linux-gnu-objdump", "-m", "aarch64"], "//|<", "aarch64-linux-gnu-objcopy"),
+}
 LINE = re.compile(r"^\s*([0-9a-f]+):\t((?:(?:[0-9a-f]{2})+ )+)\s*\t(.*)$")
-# Each text is assembled in a place of its own, which has more bytes than an instruction, and these where none is.
-PLACE, FILL = 16, b"\xcc"
-ADDRESS, SAID = re.compile(r"(?<!#)\b0x([0-9a-f]+)$"), re.compile(r"\{standard input\}:(\d+): \w+: (.*)")
+# Each text is assembled in a place of its own, which has more bytes than an instruction, and these
+# where none is.
+SLOT, FILL = 16, b"\xcc"
+ADDRESS, MESSAGE = re.compile(r"(?<!#)\b0x([0-9a-f]+)$"), re.compile(
+    r"\{standard input\}:(\d+): \w+: (.*)"
+)
 
 
 def with_distance(instruction):
     """The text of an instruction that ends in an address, with the distance to it."""
-    return ADDRESS.sub(lambda match: f".{int(match[1], 16) - instruction.address:+d}", instruction.text)
+    return ADDRESS.sub(
+        lambda match: f".{int(match[1], 16) - instruction.address:+d}", instruction.text
+    )
 
 
 def read(part, processor, operands, command, text_of, is_same):
-    """The instructions of some code, by address. `operands` reads what stands after a mnemonic. Those that the
-    assembler makes otherwise have a reason why they are refused: `text_of` gives what is assembled for one, and
-    `is_same` says of one whose bytes differ that they are right."""
+    """The instructions of some code, by address. `operands` reads what stands after a mnemonic.
+    Those that the assembler makes otherwise have a reason why they are rejected: `text_of` gives
+    what is assembled for one, and `is_same` says of one whose bytes differ that they are right."""
     (first, content), instructions = part, printed(part, processor, operands)
-    made, said = _assembled(processor, command, [text_of(i) for i in instructions.values()])
+    made, messages = _assembled(processor, command, [text_of(i) for i in instructions.values()])
     for number, (address, i) in enumerate(instructions.items()):
-        old, new = content[address - first :][: i.size], made[PLACE * number :][:PLACE]
-        if (said[number] or new != old.ljust(PLACE, FILL)) and not is_same(i, old, new):
-            what = "; ".join(said[number]) or new.rstrip(FILL).hex()
-            instructions[address] = i._replace(refused=f"{old.hex()} is not what the assembler makes of it: {what}")
+        old, new = content[address - first :][: i.size], made[SLOT * number :][:SLOT]
+        if (messages[number] or new != old.ljust(SLOT, FILL)) and not is_same(i, old, new):
+            what = "; ".join(messages[number]) or new.rstrip(FILL).hex()
+            instructions[address] = i._replace(
+                rejected=f"{old.hex()} is not what the assembler makes of it: {what}"
+            )
     return instructions
 
 
@@ -57,29 +70,43 @@ def printed(part, processor, operands=lambda text: ()):
     for match in filter(None, map(LINE.match, listing.splitlines())):
         address, size = int(match[1], 16), len(bytes.fromhex(match[2]))
         text = re.split(comment, match[3])[0].replace("\t", " ").strip()
-        # A nop may have prefixes and operands, which mean nothing. That of two bytes has another name.
+        # A nop may have prefixes and operands, which mean nothing. That of two bytes has another
+        # name.
         mnemonic, _, rest = re.sub("^(data16 |cs )*nop.*|^xchg +ax,ax$", "nop", text).partition(" ")
         try:
             instructions[address] = Instruction(address, size, mnemonic, operands(rest), text)
         except Exception:
-            # An operand that is not known here. It is refused if it is run.
+            # An operand that is not known here. It is rejected if it is run.
             instructions[address] = Instruction(address, size, "unknown", (), text)
     return instructions
 
 
 def _assembled(processor, command, texts):
     """The places with what the assembler makes of each text, and what it says of each."""
-    lines = [f".org {PLACE * number}, {FILL[0]}; {text}\n" for number, text in enumerate([*texts, ""])]
+    lines = [
+        f".org {SLOT * number}, {FILL[0]}; {text}\n" for number, text in enumerate([*texts, ""])
+    ]
     with tempfile.TemporaryDirectory() as folder:
         # With -Z there is an object in spite of errors.
-        file, command = pathlib.Path(folder, "again.o"), [*command, "-Z", "-o", f"{folder}/again.o", "-"]
+        file, command = pathlib.Path(folder, "again.o"), [
+            *command,
+            "-Z",
+            "-o",
+            f"{folder}/again.o",
+            "-",
+        ]
         english = os.environ | {"LC_ALL": "C"}
-        run = subprocess.run(command, input="".join(lines), capture_output=True, text=True, env=english)
+        run = subprocess.run(
+            command, input="".join(lines), capture_output=True, text=True, env=english
+        )
         if not file.exists():
             raise OSError(f"{command[0]} fails: {run.stderr}")
-        subprocess.run([COMMANDS[processor][2], "-O", "binary", "-j", ".text", file, f"{folder}/text"], check=True)
+        subprocess.run(
+            [COMMANDS[processor][2], "-O", "binary", "-j", ".text", file, f"{folder}/text"],
+            check=True,
+        )
         made = pathlib.Path(folder, "text").read_bytes()
-    said = collections.defaultdict(list)
-    for line, words in SAID.findall(run.stderr):
-        said[int(line) - 1].append(words)
-    return made, said
+    messages = collections.defaultdict(list)
+    for line, words in MESSAGE.findall(run.stderr):
+        messages[int(line) - 1].append(words)
+    return made, messages

@@ -1,7 +1,7 @@
 """A module for WebAssembly, as `wasm2wat` prints it, which also validates it.
 
-Each function is a section of code, whose addresses count its instructions, far above all addresses of the
-memory. The data lie where the memory has them.
+Each function is a section of code, whose addresses count its instructions, far above all addresses
+of the memory. The data lie where the memory has them.
 """
 
 import re
@@ -19,14 +19,22 @@ Function = namedtuple("Function", "name address parameters results locals conten
 
 
 class Module:
-    """`globals` are their values at the start. Number 0 is the stack pointer, below which the stack lies.
-    `mutable` has the numbers of those that may change, and `places` the addresses that it exports."""
+    """`globals` are their values at the start. Number 0 is the stack pointer, below which the stack
+    lies. `mutable` has the numbers of those that may change, and `places` the addresses that it
+    exports.
+    """
 
     def __init__(self):
         self.machine, self.functions, self.data = None, [], []
         # Where the data lie, which have so many bytes.
         self.first = self.size = 0
-        self.symbols, self.exported, self.globals, self.mutable, self.places = {}, set(), [], set(), {}
+        self.symbols, self.exported, self.globals, self.mutable, self.places = (
+            {},
+            set(),
+            [],
+            set(),
+            {},
+        )
 
     def read(self, offset, count):
         return self.data[0].content[offset : offset + count]
@@ -36,7 +44,14 @@ class Module:
 
     def code_at(self, address):
         """The function with an address."""
-        return next((function for function in self.functions if function.address == address // SPACE * SPACE), None)
+        return next(
+            (
+                function
+                for function in self.functions
+                if function.address == address // SPACE * SPACE
+            ),
+            None,
+        )
 
     def name_at(self, address):
         return f"function {address // SPACE - 1}+{address % SPACE:#x}"
@@ -51,16 +66,24 @@ def read(data):
     # Each part begins in a line with two spaces, and the instructions of a function follow.
     for part in re.split(r"\n  (?=\()", made.stdout.decode().rstrip().removesuffix(")")):
         _add(module, part if part.startswith("(data") else re.sub(r" *;;.*", "", part))
-    module.symbols |= {name: function.address for function in module.functions for name, sizes in LOCAL.items()
-                       if (function.parameters, function.results) == sizes}
+    module.symbols |= {
+        name: function.address
+        for function in module.functions
+        for name, sizes in LOCAL.items()
+        if (function.parameters, function.results) == sizes
+    }
     return module
 
 
 def _add(module, part):
     if part.startswith("(func"):
         module.functions.append(_function(len(module.functions), part))
-    elif fields := re.fullmatch(r'\(data \(;\d+;\) \(i32\.const (\d+)\) "((\\[0-9a-f]{2}|[^\\])*)"\)', part):
-        content = re.sub(rb"\\(..)", lambda code: bytes.fromhex(code[1].decode()), fields[2].encode("ascii"))
+    elif fields := re.fullmatch(
+        r'\(data \(;\d+;\) \(i32\.const (\d+)\) "((\\[0-9a-f]{2}|[^\\])*)"\)', part
+    ):
+        content = re.sub(
+            rb"\\(..)", lambda code: bytes.fromhex(code[1].decode()), fields[2].encode("ascii")
+        )
         module.data.append(Data(int(fields[1]), content))
         module.first, module.size = int(fields[1]), len(content)
     elif fields := re.search(r"^\(global .*\((i\d\d)\.const (-?\d+)\)\)$", part):
@@ -82,7 +105,13 @@ def _add(module, part):
 def _function(number, part):
     lines = [line.strip() for line in re.sub(r"\(;.*?;\)", "", part.removesuffix(")")).split("\n")]
     heads = 1 + (len(lines) > 1 and lines[1].startswith("(local"))
-    sizes = [[SIZES[type_] for types in re.findall(rf"\({kind}([^)]*)\)", " ".join(lines[:heads]))
-              for type_ in types.split()] for kind in ("param", "result", "local")]
+    sizes = [
+        [
+            SIZES[type_]
+            for types in re.findall(rf"\({kind}([^)]*)\)", " ".join(lines[:heads]))
+            for type_ in types.split()
+        ]
+        for kind in ("param", "result", "local")
+    ]
     # The end of a function returns.
     return Function(f"function {number}", SPACE * (number + 1), *sizes, [*lines[heads:], "return"])

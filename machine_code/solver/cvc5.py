@@ -22,7 +22,9 @@ def as_text(logic, conditions):
 
 def disagreements(questions, most=None):
     """The questions, or so many of them chosen at random, to which cvc5 does not answer "unsat"."""
-    chosen = random.sample(questions, most) if most is not None and most < len(questions) else questions
+    chosen = (
+        random.sample(questions, most) if most is not None and most < len(questions) else questions
+    )
     texts = [as_text(*question) for question in chosen]
     command = ["cvc5", "--lang=smt2", f"--rlimit-per={LIMIT}", "-"]
     run = subprocess.run(command, input="(reset)\n".join(texts), text=True, capture_output=True)

@@ -1,20 +1,30 @@
 """Conditions on numbers of bits as conditions on integers, which mean exactly the same.
 
-If a translation were wrong, what z3 says of it would say nothing of the code, and a wrong access or a wrong length
-could be accepted. test_questions.py compares it with bits on random terms.
+If a translation were wrong, what z3 says of it would say nothing of the code, and a wrong access or
+a wrong length could be accepted. test_questions.py compares it with bits on random terms.
 """
 
 import z3
 
-JOINS = {z3.Z3_OP_AND: z3.And, z3.Z3_OP_OR: z3.Or, z3.Z3_OP_NOT: z3.Not, z3.Z3_OP_IMPLIES: z3.Implies}
-COMPARES = {z3.Z3_OP_ULEQ: lambda a, b: a <= b, z3.Z3_OP_ULT: lambda a, b: a < b, z3.Z3_OP_UGT: lambda a, b: a > b,
-            z3.Z3_OP_UGEQ: lambda a, b: a >= b, z3.Z3_OP_EQ: lambda a, b: a == b}
+JOINS = {
+    z3.Z3_OP_AND: z3.And,
+    z3.Z3_OP_OR: z3.Or,
+    z3.Z3_OP_NOT: z3.Not,
+    z3.Z3_OP_IMPLIES: z3.Implies,
+}
+COMPARES = {
+    z3.Z3_OP_ULEQ: lambda a, b: a <= b,
+    z3.Z3_OP_ULT: lambda a, b: a < b,
+    z3.Z3_OP_UGT: lambda a, b: a > b,
+    z3.Z3_OP_UGEQ: lambda a, b: a >= b,
+    z3.Z3_OP_EQ: lambda a, b: a == b,
+}
 FEW = 16  # in so many bits it is not asked whether a number is that small
 
 
 class Facts:
-    """Facts in integers. `is_impossible` says whether integer conditions, all together, contradict each other: it
-    decides, too, that a sum is so small that it need not be reduced."""
+    """Facts in integers. `is_impossible` says whether integer conditions, all together, contradict
+    each other: it decides, too, that a sum is so small that it need not be reduced."""
 
     def __init__(self, is_impossible):
         self.conditions, self.ranges, self.sums, self._is_impossible = [], {}, {}, is_impossible
@@ -23,12 +33,18 @@ class Facts:
     def and_also(self, fact):
         """These facts and another one, or None if that is not linear."""
         other = Facts(self._is_impossible)
-        other.conditions, other.ranges, other.sums = self.conditions.copy(), self.ranges.copy(), self.sums.copy()
+        other.conditions, other.ranges, other.sums = (
+            self.conditions.copy(),
+            self.ranges.copy(),
+            self.sums.copy(),
+        )
         try:
             other.conditions.append(other.condition(fact))
         except ValueError:
             return None
-        other.models = [model for model in self.models if z3.is_true(model.eval(other.conditions[-1], True))]
+        other.models = [
+            model for model in self.models if z3.is_true(model.eval(other.conditions[-1], True))
+        ]
         return other
 
     def condition(self, term):
@@ -57,7 +73,9 @@ class Facts:
             return z3.If(self.condition(children[0]), *map(self._number, children[1:]))
         if kind == z3.Z3_OP_EXTRACT:
             high, low = term.params()
-            part = _divided(self._number(children[0]), 1 << low) if low else self._number(children[0])
+            part = (
+                _divided(self._number(children[0]), 1 << low) if low else self._number(children[0])
+            )
             return part if high == children[0].size() - 1 else self._cut(term, part)
         if kind == z3.Z3_OP_CONCAT:
             whole = z3.IntVal(0)
@@ -71,7 +89,9 @@ class Facts:
         most = 1 << term.size()
         if term.get_id() not in self.sums:
             is_large = z3.Or(number < 0, number >= most)
-            is_small = term.size() > FEW and self._is_impossible([*self.ranges.values(), *self.conditions, is_large])
+            is_small = term.size() > FEW and self._is_impossible(
+                [*self.ranges.values(), *self.conditions, is_large]
+            )
             self.sums[term.get_id()] = number if is_small else number % most
         return self.sums[term.get_id()]
 
@@ -90,7 +110,8 @@ class Facts:
 
 
 def _divided(number, by):
-    """A number divided by another one and rounded down. What is a multiple in a sum is divided by itself."""
+    """A number divided by another one and rounded down. What is a multiple in a sum is divided by
+    itself."""
     whole, rest = z3.IntVal(0), z3.IntVal(0)
     for part in number.children() if z3.is_add(number) else [number]:
         factor, *others = part.children() if z3.is_mul(part) else [part, z3.IntVal(1)]

@@ -1,8 +1,9 @@
 """Whether a condition follows from facts, by z3.
 
-If `holds` said yes where a condition does not follow, any code could be accepted. A yes is z3's "unsat". An answer
-that is "unknown", or takes more of z3's steps than the limit, is a no. Facts may be left out, and so may be which
-constants these are: both only make a proof harder, or find it among those that were made already.
+If `is_valid` said yes where a condition does not follow, any code could be accepted. A yes is z3's
+"unsat". An answer that is "unknown", or takes more of z3's steps than the limit, is a no. Facts may
+be left out, and so may be which constants these are: both only make a proof harder, or find it
+among those that were made already.
 """
 
 import z3
@@ -16,15 +17,16 @@ proved = []
 counts = {"asked": 0}
 # By their names and numbers, and the terms that are kept so that their numbers are not used again.
 _constants, _names, _kept = {}, {}, []
+_is_public = {}  # by the name of a constant; others are secret
 
 
-class Refused(Exception):
-    """Code is refused, or what is to be proved of it is not known to hold."""
+class Rejected(Exception):
+    """Code is rejected, or what is to be proved of it is not known to hold."""
 
 
 def require(condition, message):
     if not condition:
-        raise Refused(message)
+        raise Rejected(message)
 
 
 def names(term):
@@ -37,20 +39,49 @@ def _names_of(part, context):
     """By z3's functions for C, which are faster on many parts."""
     number, app = z3.Z3_get_ast_id(context, part), z3.Z3_to_app(context, part)
     if number not in _names:
-        parts = [z3.Z3_get_app_arg(context, app, index) for index in range(z3.Z3_get_app_num_args(context, app))]
+        parts = [
+            z3.Z3_get_app_arg(context, app, index)
+            for index in range(z3.Z3_get_app_num_args(context, app))
+        ]
         if z3.Z3_get_decl_kind(context, z3.Z3_get_app_decl(context, app)) == z3.Z3_OP_UNINTERPRETED:
             constant = z3.BitVecRef(part)
             name = constant.decl().name()
-            require(_constants.setdefault(name, constant).sort() == constant.sort(), f"two constants {name}")
-            _names[number] = name,
+            require(
+                _constants.setdefault(name, constant).sort() == constant.sort(),
+                f"two constants {name}",
+            )
+            _names[number] = (name,)
         else:
-            _names[number] = tuple(dict.fromkeys(name for each in parts for name in _names_of(each, context)))
+            _names[number] = tuple(
+                dict.fromkeys(name for each in parts for name in _names_of(each, context))
+            )
     return _names[number]
 
 
+def _constant(name, bits, is_public):
+    require(_is_public.setdefault(name, is_public) == is_public, f"{name} is public and secret")
+    return z3.BitVec(name, bits)
+
+
+def public(name, bits):
+    """A constant on which branches and addresses may depend: a length, an address, a number of
+    rounds."""
+    return _constant(name, bits, True)
+
+
+def secret(name, bits):
+    """A constant of which nothing may be visible in time: a byte of the input, or what may be
+    anything."""
+    return _constant(name, bits, False)
+
+
+def is_public_name(name):
+    return _is_public.get(name, False)
+
+
 def is_public(term):
-    """Whether it depends on nothing but lengths, addresses and numbers of rounds, whose names begin so."""
-    return all(name.startswith("p_") for name in names(term))
+    """Whether it depends on public constants alone."""
+    return all(map(is_public_name, names(term)))
 
 
 def conjuncts(term):
@@ -63,7 +94,9 @@ def conjuncts(term):
     if z3.is_not(term) and z3.is_or(term.arg(0)):
         return [part for child in term.arg(0).children() for part in conjuncts(z3.Not(child))]
     if z3.is_eq(term) and z3.is_bv_value(term.arg(1)):
-        if z3.is_app_of(term.arg(0), z3.Z3_OP_ITE) and all(map(z3.is_bv_value, term.arg(0).children()[1:])):
+        if z3.is_app_of(term.arg(0), z3.Z3_OP_ITE) and all(
+            map(z3.is_bv_value, term.arg(0).children()[1:])
+        ):
             choice, one, other = term.arg(0).children()
             if not one.eq(other) and (one.eq(term.arg(1)) or other.eq(term.arg(1))):
                 return conjuncts(choice if one.eq(term.arg(1)) else z3.Not(choice))
@@ -78,7 +111,11 @@ def _zeros(term):
         return [part for child in term.children() for part in _zeros(child)]
     if z3.is_app_of(term, z3.Z3_OP_EXTRACT) and z3.is_app_of(term.arg(0), z3.Z3_OP_BOR):
         high, low = term.params()
-        return [part for child in term.arg(0).children() for part in _zeros(z3.simplify(z3.Extract(high, low, child)))]
+        return [
+            part
+            for child in term.arg(0).children()
+            for part in _zeros(z3.simplify(z3.Extract(high, low, child)))
+        ]
     return [] if z3.is_bv_value(term) and term.as_long() == 0 else [term]
 
 
@@ -94,8 +131,8 @@ def facts_of(condition):
 
 
 def relevant(facts, goal, steps=None):
-    """The facts that share constants with a goal, directly or by others, perhaps in so many steps; in none, those that
-    are about its constants alone. Of a public goal, those that are public."""
+    """The facts that share constants with a goal, directly or by others, perhaps in so many steps;
+    in none, those that are about its constants alone. Of a public goal, those that are public."""
     facts = [fact for fact in facts if fact.is_public] if is_public(goal) else facts
     seen, before = set(names(goal)), None
     if steps == 0:
@@ -108,7 +145,9 @@ def relevant(facts, goal, steps=None):
 
 def _renamed(facts):
     """The facts with constants that are named in the order in which they occur."""
-    olds = [_constants[name] for name in dict.fromkeys(name for fact in facts for name in names(fact))]
+    olds = [
+        _constants[name] for name in dict.fromkeys(name for fact in facts for name in names(fact))
+    ]
     new = [(old, z3.Const(f"x{number}", old.sort())) for number, old in enumerate(olds)]
     return [z3.simplify(z3.substitute(fact, *new)) for fact in facts]
 
@@ -131,7 +170,8 @@ def is_impossible_in_integers(conditions):
 
 
 def _once(question):
-    """A question that is asked once of the same facts. These are kept, so that their numbers are not used again."""
+    """A question that is asked once of the same facts. These are kept, so that their numbers are
+    not used again."""
     answers = {}
 
     def asked(facts, *rest):
@@ -145,9 +185,12 @@ def _once(question):
 
 @_once
 def _in_integers(facts):
-    """Facts in integers, or None if not all are linear. Most questions are about facts that were translated before."""
+    """Facts in integers, or None if not all are linear. Most questions are about facts that were
+    translated before."""
     known = _in_integers(facts[:-1]) if facts else None
-    return known and known.and_also(facts[-1]) if facts else integers.Facts(is_impossible_in_integers)
+    return (
+        known and known.and_also(facts[-1]) if facts else integers.Facts(is_impossible_in_integers)
+    )
 
 
 @_once
@@ -158,8 +201,8 @@ def is_impossible(facts):
 
 @_once
 def _is_impossible(facts, are_public):
-    """The same of facts with new names, so that what differs by names alone is asked once. Sums of many bits are hard
-    in bits and easy in integers, masks are the other way round."""
+    """The same of facts with new names, so that what differs by names alone is asked once. Sums of
+    many bits are hard in bits and easy in integers, masks are the other way round."""
     known = _in_integers(facts) if are_public else None
     if known and known.models:
         return False  # What holds for some values is possible.
@@ -172,20 +215,28 @@ def _is_impossible(facts, are_public):
     return answer == z3.unsat
 
 
-def holds(facts, goal, steps=None):
-    """Whether a goal follows from facts; perhaps from those alone that are so many steps from it, or nearer."""
+def is_valid(facts, goal, steps=None):
+    """Whether a goal follows from facts; perhaps from those alone that are so many steps from it,
+    or nearer."""
     limits = (0, steps) if steps else (None,)
-    return all(any(is_impossible([*relevant(facts, part, limit), z3.Not(part)]) for limit in limits)
-               for part in conjuncts(goal))
+    return all(
+        any(is_impossible([*relevant(facts, part, limit), z3.Not(part)]) for limit in limits)
+        for part in conjuncts(goal)
+    )
 
 
 def values(facts, term, most):
     """All values that a term has where the facts hold, of which there are at most so many."""
     known = []
-    while not holds(facts, z3.Or(*[term == value for value in known])):
+    while not is_valid(facts, z3.Or(*[term == value for value in known])):
         require(len(known) < most, "an offset that may have too many values")
         models = []
-        _answer("QF_BV", [*relevant(facts, term == 0), *[term != value for value in known]], LIMIT, models)
+        _answer(
+            "QF_BV",
+            [*relevant(facts, term == 0), *[term != value for value in known]],
+            LIMIT,
+            models,
+        )
         require(models, "an offset whose values are not known")
         known.append(models[0].eval(term, True).as_long())
     return known

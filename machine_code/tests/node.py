@@ -1,7 +1,9 @@
-"""Runs single instructions for WebAssembly in Node, on random operands, as solver/processor.py does.
+"""Runs single instructions for WebAssembly in Node, on random operands, as solver/processor.py
+does.
 
-Each instruction has a function of its own in a module that is made here: it takes its operands from the first bytes of
-the memory, and its result, if any, goes after them. The memory also has what it loads, and takes what it stores.
+Each instruction has a function of its own in a module that is made here: it takes its operands from
+the first bytes of the memory, and its result, if any, goes after them. The memory also has what it
+loads, and takes what it stores.
 """
 
 import pathlib
@@ -15,17 +17,18 @@ import z3
 
 from execution.code import Code
 from execution.paths import step
-from execution.state import byte, simple, word
+from execution.terms import byte, simple, word
 from meanings import webassembly
 from meanings.webassembly import HANDLERS
-from solver.questions import Refused, require
-from tests.library import MODULE, TOP, assembled_module
+from solver.questions import Rejected, public, require, secret
+from build import MODULE, TOP, linked_module
 
 SIZE, RESULT, SCRATCH = 1024, 64, 256
 EDGES = bytes([0, 1, 0x7F, 0x80, 0xFF, 0x30, 0x39, 0x41, 0x66, 0x0F, 0x10])
 BYTES = [byte(value) for value in range(256)]
-# Bytes that a selection does not know: it becomes a branch, or an unknown number if a byte of the input stands alone.
-UNKNOWN = {200: z3.BitVec("p_choice", 8), 201: z3.BitVec("i_choice", 8)}
+# Bytes that a selection does not know: it becomes a branch, or an unknown number if a byte of the
+# input stands alone.
+UNKNOWN = {200: public("choice", 8), 201: secret("secret_choice", 8)}
 TYPES = {"i": "i32", "n": "i32", "l": "i64", "v": "v128"}
 # These branch, call, or stop. FUNCTIONS has what they do.
 CONTROL = """br br_if br_table call result return unreachable select
@@ -70,31 +73,43 @@ FUNCTIONS = """
 
 def _function(name, text):
     mnemonic = text.split()[0]
-    operands = " ".join(f"i32.const {16 * index} {TYPES[kind]}.load"
-                        for index, kind in enumerate(HANDLERS[mnemonic].takes))
+    operands = " ".join(
+        f"i32.const {16 * index} {TYPES[kind]}.load"
+        for index, kind in enumerate(HANDLERS[mnemonic].takes)
+    )
     if ".store" in mnemonic:
         return f'(func (export "{name}") {operands} {text})'
-    type_ = "i32" if re.search("any_true|wrap_i64|extract_lane", mnemonic) else mnemonic.split(".")[0]
+    type_ = (
+        "i32" if re.search("any_true|wrap_i64|extract_lane", mnemonic) else mnemonic.split(".")[0]
+    )
     result = type_ if type_ in TYPES.values() else "v128"
     return f'(func (export "{name}") i32.const {RESULT} {operands} {text} {result}.store)'
 
 
 def _memory(some, is_access):
-    """Random bytes, often at the edges, mostly zeros, equal operands, or near the middle of 32 bits. An access has its
-    address in the scratch area."""
-    content = some.choice((
-        lambda: some.randbytes(SIZE), lambda: some.randbytes(16) * (SIZE // 16),
-        lambda: bytes(some.choices(EDGES, k=SIZE)), lambda: bytes(some.choices(EDGES, [2000, *range(1, 11)], k=SIZE)),
-        lambda: b"".join(struct.pack("<Q", (1 << 31) + some.randrange(-1, 2)) for _ in range(SIZE // 8))))()
+    """Random bytes, often at the edges, mostly zeros, equal operands, or near the middle of 32
+    bits. An access has its address in the scratch area."""
+    content = some.choice(
+        (
+            lambda: some.randbytes(SIZE),
+            lambda: some.randbytes(16) * (SIZE // 16),
+            lambda: bytes(some.choices(EDGES, k=SIZE)),
+            lambda: bytes(some.choices(EDGES, [2000, *range(1, 11)], k=SIZE)),
+            lambda: b"".join(
+                struct.pack("<Q", (1 << 31) + some.randrange(-1, 2)) for _ in range(SIZE // 8)
+            ),
+        )
+    )()
     return struct.pack("<I", SCRATCH + some.randrange(256)) + content[4:] if is_access else content
 
 
-def refused_or(meaning, *arguments):
-    """What a meaning returns. One that raises anything refuses the code, as it does in execution/proofs.py."""
+def rejected_or(meaning, *arguments):
+    """What a meaning returns. One that raises anything rejects the code, as it does in
+    execution/proofs.py."""
     try:
         return meaning(*arguments)
     except Exception as error:
-        raise Refused(f"{type(error).__name__}: {error}") from error
+        raise Rejected(f"{type(error).__name__}: {error}") from error
 
 
 class Concrete:
@@ -110,12 +125,22 @@ class Concrete:
     def store(self, address, lane, aligned=False):
         address = simple(address).as_long()
         require(len(lane) & len(lane) - 1 == 0, "an access of another size")
-        self.memory[address : address + len(lane)] = bytes(self.known(value).as_long() for value in lane)
+        self.memory[address : address + len(lane)] = bytes(
+            self.known(value).as_long() for value in lane
+        )
 
     def known(self, term):
         term = simple(term)
-        return term if z3.is_bv_value(term) else simple(z3.substitute(
-            term, *[(name, BYTES[self.before[address]]) for address, name in UNKNOWN.items()]))
+        return (
+            term
+            if z3.is_bv_value(term)
+            else simple(
+                z3.substitute(
+                    term,
+                    *[(name, BYTES[self.before[address]]) for address, name in UNKNOWN.items()],
+                )
+            )
+        )
 
     def is_right(self):
         return all(z3.is_true(self.known(fact.term)) for fact in self.facts)
@@ -128,50 +153,63 @@ class Concrete:
 
 
 class Node:
-    """The functions for the instructions of the module that run alone, each by its text, and those of FUNCTIONS; they
-    run in Node, and by the meanings."""
+    """The functions for the instructions of the module that run alone, each by its text, and those
+    of FUNCTIONS; they run in Node, and by the meanings."""
 
     def __init__(self):
         code = Code(pathlib.Path(MODULE).read_bytes(), {None: webassembly}, "const_hex_encode", {})
-        texts = sorted({i.text for function in code.object.functions
-                        for i in webassembly.instructions(code, function, None).values() if i.mnemonic not in CONTROL})
+        texts = sorted(
+            {
+                i.text
+                for function in code.object.functions
+                for i in webassembly.instructions(code, function, None).values()
+                if i.mnemonic not in CONTROL
+            }
+        )
         self.names = {text: f"f{number}" for number, text in enumerate(texts)}
         functions = " ".join(_function(name, text) for text, name in self.names.items())
         self.names |= {name: name for name in re.findall(r'export "(\w+)"', FUNCTIONS)}
         text = f'(module (memory 1 1) (global (mut i32) (i32.const {SIZE})) (export "memory" (memory 0))'
-        content = assembled_module(f"{text} {FUNCTIONS} {functions})")
-        self.content, self.meanings = content, webassembly
-        self.code = self.read(webassembly)
-        self.process = subprocess.Popen(["node", TOP / "machine_code" / "tests" / "run.mjs"], stdin=subprocess.PIPE,
-                                        stdout=subprocess.PIPE)
+        content = linked_module(f"{text} {FUNCTIONS} {functions})")
+        self.code = Code(content, {None: webassembly}, "call", {})
+        self.process = subprocess.Popen(
+            ["node", TOP / "machine_code" / "tests" / "run.mjs"],
+            stdin=subprocess.PIPE,
+            stdout=subprocess.PIPE,
+        )
         self.process.stdin.write(struct.pack("<Q", len(content)) + content)
-
-    def read(self, meanings):
-        """The code as these meanings read it."""
-        return Code(self.content, {None: meanings}, "call", {})
 
     def close(self):
         self.process.communicate()
 
     def difference(self, text, seed):
-        """What differs between Node and the meaning after a run of a function on a random memory."""
+        """What differs between Node and the meaning after a run of a function on a random
+        memory."""
         before = _memory(random.Random(seed), re.search(r"\.(load|store)", text))
         name = self.names[text]
         self.process.stdin.write(struct.pack("<Q", len(name)) + name.encode() + before)
         self.process.stdin.flush()
-        return "memory" if self.process.stdout.read(SIZE) != self._by_the_meanings(name, before) else None
+        return (
+            "memory"
+            if self.process.stdout.read(SIZE) != self._by_the_meanings(name, before)
+            else None
+        )
 
     def _by_the_meanings(self, name, before):
-        state = type("State", (Concrete, self.meanings.State), {})()
-        contract = types.SimpleNamespace(returns=lambda _: None, is_alone=lambda _, offset: offset == 201, passed=())
+        state = type("State", (Concrete, webassembly.State), {})()
+        contract = types.SimpleNamespace(
+            returns=lambda _: None, is_alone=lambda _, offset: offset == 201, passed=()
+        )
         state.code, state.contract, state.calls, state.steps = self.code, contract, {}, 0
-        state.before, state.input = before, {offset: (offset, name) for offset, name in UNKNOWN.items()}
-        state.memory, state.vectors, state.facts, state.may_leak = [*before], {}, [], False
+        state.before, state.input = before, {
+            offset: (offset, name) for offset, name in UNKNOWN.items()
+        }
+        state.memory, state.vectors, state.facts, state.is_declassified = [*before], {}, [], False
         state.general = {"global 0": word(self.code.object.globals[0])}
         state.address = self.code.object.symbols[name]
-        state.begin(self.code.object.code_at(state.address), [], z3.BitVec("p_return", 64))
-        while after := [way for way in refused_or(step, self.code, state) if way.is_right()]:
+        state.begin(self.code.object.code_at(state.address), [], public("return", 64))
+        while after := [path for path in rejected_or(step, self.code, state) if path.is_right()]:
             require(len(after) == 1, "several ways")
-            state, = after
+            (state,) = after
         require(state.general["global 0"].eq(word(SIZE)), "another global")
         return bytes(state.memory)

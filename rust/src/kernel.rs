@@ -25,6 +25,7 @@ compiled! {
         mod native;
         // Few processors run it, so it has less data.
         use crate::proved::Compact as Portable;
+        use machine_code::secret as constant_time;
         use machine_code as unchecked;
         pub use native::Native;
     } else {
@@ -38,13 +39,17 @@ compiled! {
                 pub use Portable as Native;
             }
         }
+        use arithmetic as constant_time;
         use portable as unchecked;
     }
 }
+#[allow(dead_code)] // AArch64 has machine code in any case.
+mod arithmetic;
 #[cfg(feature = "alloc")]
 mod owned;
 #[allow(dead_code)] // No target needs all of it.
 mod portable;
+pub mod secret;
 mod space;
 #[cfg(feature = "alloc")]
 pub use owned::*;

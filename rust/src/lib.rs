@@ -15,8 +15,8 @@
 //! assert_eq!(const_hex_proved::const_decode_to_array(b"6b697769"), Ok(KIWI));
 //! ```
 //!
-//! A text may begin with one prefix, `0x` or `0X`, except for [`check_raw`], [`const_check_raw`] and the module
-//! [`strict`]. Errors are checked in this order: an odd length, a length that does not match the output, an invalid
+//! A text may begin with one prefix, `0x` or `0X`, except for [`check_raw`], [`const_check_raw`] and the modules
+//! [`secret`] and [`strict`]. Errors are checked in this order: an odd length, a length that does not match the output, an invalid
 //! character.
 //!
 //! Features: `alloc` adds what returns a `String` or a vector; `std` (by default) adds `alloc`, `DecodeReader`,
@@ -24,7 +24,7 @@
 //! `core::error::Error` without `std`, and needs Rust 1.81; `force-generic` uses no machine code. The feature `c` is
 //! for the library for C, and no part of the interface.
 //!
-//! No function is claimed to be constant-time: of what runs, only the machine code is, and for valid input.
+//! For keys use the module [`secret`]. No other function is claimed to be constant-time.
 #![no_std]
 #![cfg_attr(docsrs, feature(doc_cfg))]
 #![deny(unsafe_code, unsafe_op_in_unsafe_fn)]
@@ -52,6 +52,8 @@ mod kernel;
 #[allow(dead_code, unsafe_code, unused_imports, unused_labels)]
 #[rustfmt::skip]
 mod proved;
+#[allow(unsafe_code)]
+pub mod secret;
 #[cfg(feature = "serde")]
 pub mod serde;
 #[allow(dead_code, unsafe_code, unused_imports)]
@@ -236,7 +238,7 @@ fn drop_and_locate(digits: &[u8], bytes: Vec<u8>) -> (char, usize) {
     drop(bytes);
     match invalid_first(digits) {
         Some(c) => (c, 0),
-        None => locate_invalid(digits),
+        None => locate_invalid::<kernel::Native>(digits),
     }
 }
 
@@ -258,7 +260,7 @@ pub fn decode_append<T: AsRef<[u8]>>(data: T, output: &mut Vec<u8>) -> Result<us
     let digits = strip_even(text)?;
     match kernel::decode_append(digits, output) {
         true => Ok(digits.len() / 2),
-        false => Err(find_invalid_character(text, digits)),
+        false => Err(find_invalid_character::<kernel::Native>(text, digits)),
     }
 }
 
@@ -317,7 +319,7 @@ fn array<B: kernel::Byte, const N: usize>(text: &[u8]) -> Result<[B; N], FromHex
     }
     match kernel::Space::new().bytes(digits) {
         Some(bytes) => Ok(*bytes),
-        None => Err(find_invalid_character(text, digits)),
+        None => Err(find_invalid_character::<kernel::Native>(text, digits)),
     }
 }
 

@@ -3,7 +3,7 @@
 use const_hex_proved::{
     check, check_raw, const_check, const_check_raw, const_decode_to_array, decode_to_front, decode_to_slice,
     encode_to_slice, encode_to_slice_prefixed, encode_to_slice_upper, encode_to_slice_upper_prefixed, encode_to_str,
-    strict, FromHexError,
+    secret, strict, FromHexError,
 };
 
 /// More than four steps of the widest kernel.
@@ -56,6 +56,54 @@ fn each_length() {
     }
 }
 
+/// The module `secret` at each short length, with every byte at each place.
+#[test]
+fn secrets() {
+    for count in 0..=LONGEST {
+        let bytes = bytes_of(count);
+        let lower = text_of(&bytes);
+        let upper = lower.to_uppercase();
+        let mut output = vec![0; 2 * count];
+        secret::encode_to_slice(&bytes, &mut output).unwrap();
+        assert_eq!(output, lower.as_bytes());
+        secret::encode_to_slice_upper(&bytes, &mut output).unwrap();
+        assert_eq!(output, upper.as_bytes());
+        for text in [&lower, &upper] {
+            let mut back = vec![0; count];
+            assert_eq!(secret::decode_to_slice(text, &mut back), Ok(()), "{text}");
+            assert_eq!(back, bytes, "{text}");
+        }
+        #[cfg(feature = "alloc")]
+        assert_eq!([secret::encode(&bytes), secret::encode_upper(&bytes)], [lower, upper]);
+    }
+    assert_eq!(secret::Error::InvalidStringLength.to_string(), "invalid string length");
+    assert_eq!(secret::Error::InvalidHexCharacter.to_string(), "invalid character");
+}
+
+/// Each pair of characters, in a short text and in a long one, beside the function that rejects a prefix.
+#[test]
+fn each_pair_of_a_secret() {
+    for pair in (0..=u16::MAX).map(u16::to_le_bytes) {
+        let texts = (pair, [*b"7f", pair, *b"A0"].concat(), [pair; 20].concat());
+        same_of_secret::<1>(&texts.0);
+        same_of_secret::<3>(&texts.1);
+        same_of_secret::<20>(&texts.2);
+    }
+}
+
+fn same_of_secret<const N: usize>(text: &[u8]) {
+    let wanted = strict::decode_to_array::<_, N>(text).map_err(error_of_secret);
+    assert_eq!(secret::decode_to_array(text), wanted, "{text:?}");
+}
+
+/// What `secret` returns in place of an error.
+fn error_of_secret(error: FromHexError) -> secret::Error {
+    match error {
+        FromHexError::InvalidHexCharacter { .. } => secret::Error::InvalidHexCharacter,
+        _ => secret::Error::InvalidStringLength,
+    }
+}
+
 /// What is appended follows what is there, with and without capacity for it.
 #[cfg(feature = "alloc")]
 #[test]
@@ -98,6 +146,8 @@ fn other_lengths() {
             let encoded = encode_to_slice(bytes_of(count), &mut output);
             assert_eq!(encoded, Err(FromHexError::InvalidStringLength));
             assert!(output.iter().all(|byte| *byte == 0xEE));
+            clears(&output, |output| secret::encode_to_slice(bytes_of(count), output));
+            clears(&output, |output| secret::encode_to_slice_upper(bytes_of(count), output));
             output.extend([0xEE; 2]);
             let encoded = encode_to_slice_prefixed(bytes_of(count), &mut output);
             assert_eq!(encoded, Err(FromHexError::InvalidStringLength));
@@ -112,8 +162,20 @@ fn other_lengths() {
                 assert_eq!(decoded, Err(FromHexError::InvalidStringLength));
             }
             assert!(output.iter().all(|byte| *byte == 0xEE));
+            clears(&output, |output| secret::decode_to_slice(text_of(&bytes_of(count)), output));
+        }
+        for length in [1, 2 * count + 1] {
+            let text = vec![b'0'; length];
+            clears(&vec![0xEE; length / 2], |output| secret::decode_to_slice(&text, output));
         }
     }
+}
+
+/// A function of `secret` returns the error for a length, and clears its output.
+fn clears(output: &[u8], call: impl Fn(&mut [u8]) -> Result<(), secret::Error>) {
+    let mut output = output.to_vec();
+    assert_eq!(call(&mut output), Err(secret::Error::InvalidStringLength));
+    assert!(output.iter().all(|byte| *byte == 0));
 }
 
 #[test]
@@ -141,6 +203,8 @@ fn fails_with(text: &[u8], count: usize, error: FromHexError) {
         let rest = &bytes[(index - prefix) / 2..];
         assert!(rest.iter().all(|byte| *byte == 0xEE), "{error:?}");
         assert!(!check_raw(&text[prefix..]) && !const_check_raw(&text[prefix..]));
+        assert_eq!(secret::decode_to_slice(&text[prefix..], &mut bytes), Err(error_of_secret(error)));
+        assert!(bytes.iter().all(|byte| *byte == 0), "{error:?}");
     }
     assert_eq!(check(text), Err(error));
     assert_eq!(const_check(text), Err(error));

@@ -1,5 +1,5 @@
 -- The names that most clauses and proofs cite, passed on from one place. Declares nothing.
-pub use Rattle.const_hex_arch.specs.Outputs.{ArePieces, HasSpace}
+pub use Rattle.const_hex_arch.specs.Outputs.{HasSpace}
 pub use Rattle.const_hex_arch.specs.Sinks.{Offers, Streams, ReportsCut, reported_after, Cut}
 pub use Rattle.const_hex_arch.specs.Texts.{AllDigits, FirstBad, IsDigit, value_or_nil, hex_value, Spells, hex_digit, Partial, full_text, text_length, prefix_of}
 unfoldable pub use Rattle.const_hex_arch.specs.Texts.{hex_text}

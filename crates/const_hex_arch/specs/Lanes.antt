@@ -18,10 +18,6 @@ IsUnmarked z = bit_at z 7 + bit_at z 6 + bit_at z 4 + bit_at z 3 ≡ 0
 abbrev pub AllUnmarked : List ℕ → Type 0
 AllUnmarked = AllByRecursion IsUnmarked
 
--- 4097 in each of 8 lanes of 16 bits
-abbrev pub bytes_of_4097 : List ℕ
-bytes_of_4097 = concat (replicate 8 (1 ∷ 16 ∷ []))
-
 -- the halves of all bytes, the upper one first
 abbrev pub halves_of : List ℕ → List ℕ
 halves_of [] = []

@@ -1,5 +1,5 @@
 -- What an output takes: pieces of text, the space that they leave, and a write to each kind of output.
-use Rattle.std.specs.Prelude.{◌≡◌, ℕ, ◌-◌, ◌*◌, ◌/◌, nat_lt, if◌then◌else◌, min, ◌≤◌, List, length, Option, Some, None, unwrap_or, ◌+◌, ◌++◌, take, drop, ◌<◌, [], ◌∷◌, ◌⊎◌}
+use Rattle.std.specs.Prelude.{◌≡◌, ℕ, ◌-◌, ◌≤◌, List, length, Option, Some, None, unwrap_or, ◌+◌, ◌++◌, take, drop, ◌<◌, [], ◌∷◌, ◌⊎◌}
 use Rattle.std.specs.List.{FoldsTo, concat, All}
 use Rattle.std.specs.Borrow.{GName}
 use Rattle.const_hex_arch.specs.declared.output.slice.SliceOutput.{SliceOutput}
@@ -18,24 +18,6 @@ less_space None n = None
 -- the length of a kernel's piece: 1 to 64 bytes
 abbrev pub IsKernelPiece : List ℕ → Type 0
 IsKernelPiece piece = (1 ≤ length piece) × (length piece ≤ 64)
-
--- how many bytes a kernel's pieces have, if it names n: 1, or an even number up to 64
-abbrev pub piece_size : ℕ → ℕ
-piece_size n = if nat_lt n 2 then 1 else 2 * min 32 (n / 2)
-
--- each piece has n bytes, except that the last may have fewer, but not none
-abbrev pub ArePieces : ℕ → List (List ℕ) → Type 0
-ArePieces n [] = Unit {0}
-ArePieces n (p ∷ []) = (1 ≤ length p) × (length p ≤ n)
-ArePieces n (p ∷ q ∷ ps) = (length p ≡ n) × ArePieces n (q ∷ ps)
-
--- an output takes steps for pieces of n bytes, which together are the text
-pub record WritesPieces {S : Type 0} (n : ℕ) (step : S → List ℕ → S → Type 0) (old : S) (text : List ℕ) (new : S) : Type
-    0 where
-  pub pieces : List (List ℕ)
-  pub run : FoldsTo step old pieces new
-  pub whole : concat pieces ≡ text
-  pub sizes : ArePieces n pieces
 
 -- an output takes steps for some pieces of 1 to 64 bytes, which together are the text
 pub record Writes {S : Type 0} (step : S → List ℕ → S → Type 0) (old : S) (text : List ℕ) (new : S) : Type 0 where

@@ -1,16 +1,17 @@
 //! Kernels, which encode bytes as digits and decode digits to bytes.
 
-ghost use Rattle.std.specs.Prelude.{◌≡◌, Bool, ℕ, ◌*◌, ◌↔◌, IsTrue, true, false, length};
-ghost use Rattle.const_hex_arch.specs.{HasSpace, WritesPieces, piece_size, hex_text, AllDigits, Spells, Partial};
+ghost use Rattle.std.specs.Prelude.{◌≡◌, Bool, ◌*◌, ◌≤◌, ◌↔◌, IsTrue, true, false, length, take};
+ghost use Rattle.const_hex_arch.specs.{HasSpace, Writes, hex_text, AllDigits, Spells, Partial};
 
+mod by_length;
 pub mod check_first;
 pub mod interleaved;
 mod lanes;
 pub mod lanes16;
 pub mod lanes32;
-mod loops;
+mod long;
 pub mod plain;
-mod small_input;
+mod short;
 mod steps;
 
 use crate::arch::lanes32::Lanes32;
@@ -44,11 +45,9 @@ pub trait Kernel {
     /// their output unchanged.
     const USE_CHECK_FN: bool;
 
-    /// The constant of the same name, for contracts.
-    ghost PIECE: { ℕ };
-
-    /// How many bytes of text each piece of [`encode`](Kernel::encode) has: 1, or an even number up to
-    /// 64. Of another number, the next smaller one of these counts, and 1 for 0.
+    /// How many bytes of text each piece of [`encode`](Kernel::encode) has, except the last: 1, or an even number up to
+    /// 64. Of another number, the next smaller one of these counts, and 1 for 0. A kernel with an `encode` of its own may
+    /// write other pieces.
     const PIECE: usize;
 
     /// Fills the output with two digits for each byte, in order. The output must have exactly the
@@ -63,23 +62,8 @@ pub trait Kernel {
         requires { length output.old ≡ 2 * length input.now }
         ensures { output.new ≡ hex_text upper input.now };
 
-    /// As `fill` in uppercase, by code that may be its own.
-    ///
-    /// ```rust
-    /// let mut text = [0; 8];
-    /// FixedKernel::fill_upper(b"kiwi", &mut text);
-    /// assert_eq!(rt; text, *b"6B697769");
-    /// ```
-    #[inline(always)]
-    fn fill_upper(input: &[u8], output: &mut [u8])
-        requires { length output.old ≡ 2 * length input.now }
-        ensures { output.new ≡ hex_text true input.now }
-    {
-        Self::fill(input, true, output);
-    }
-
-    /// Writes two digits for each byte, in order, in pieces of [`PIECE`](Kernel::PIECE) bytes, of
-    /// which the last may be shorter. The output must have space for the text.
+    /// Writes two digits for each byte, in order, in pieces of 1 to 64 bytes: unless a kernel has an `encode` of its own,
+    /// of [`PIECE`](Kernel::PIECE) bytes, of which the last may be shorter. The output must have space for the text.
     ///
     /// ```rust
     /// let mut text = [0; 8];
@@ -89,16 +73,16 @@ pub trait Kernel {
     #[inline]
     fn encode<O: Output>(input: &[u8], upper: bool, output: &mut O)
         requires { HasSpace (O.space output.old) (2 * length input.now) }
-        ensures { WritesPieces (piece_size PIECE) O.step output.old (hex_text upper input.now)
-            output.new }
+        ensures { Writes O.step output.old (hex_text upper input.now) output.new }
     {
+        let size = Self::PIECE;
         let mut rest = input;
         while rest.len() > 0 {
-            let (bytes, after) = rest.split_at(rest.len().min((Self::PIECE / 2).clamp(1, 32)));
+            let (bytes, after) = rest.split_at(rest.len().min((size / 2).clamp(1, 32)));
             let mut text = [0; 64];
             let piece = &mut text[..2 * bytes.len()];
             Self::fill(bytes, upper, piece);
-            if Self::PIECE < 2 {
+            if size < 2 {
                 output.write_byte(piece[0]);
                 output.write_byte(piece[1]);
             } else {
@@ -116,6 +100,31 @@ pub trait Kernel {
     /// ```
     fn check(input: &[u8]) -> bool
         ensures { IsTrue result ↔ AllDigits input.now };
+
+    /// Where a search for the first byte that is not a digit may begin: all bytes before are digits. While more than 32
+    /// bytes are left, the kernel checks the first half of them. If that has only digits, the other half is left, and
+    /// else the first one.
+    ///
+    /// ```rust
+    /// assert!(rt; FixedKernel::skip_digits(b"6b69z") <= 4);
+    /// ```
+    #[inline(always)]
+    fn skip_digits(text: &[u8]) -> usize
+        ensures digits { AllDigits (take result text.now) }
+        ensures within { result ≤ length text.now }
+    {
+        let mut start = 0;
+        let mut end = text.len();
+        'halves: while end - start > 32 {
+            let middle = start + (end - start) / 2;
+            if Self::check(&text[start..middle]) {
+                start = middle;
+            } else {
+                end = middle;
+            }
+        }
+        start
+    }
 
     /// Decodes the input into the output and returns true. Returns false if some byte is not a
     /// digit. Then some of the pairs before that byte may have been decoded to the front of the

@@ -2,10 +2,9 @@
 //! these functions.
 //!
 //! `c/asm/freeze` writes what `rt` makes of `fill_lower`, `fill_upper`, `check` and `read`: for x86-64-v3 by
-//! `FixedKernel`, for x86-64-v2 by `Lanes16`, and for AArch64 by `Interleaved`, where it changes the stores of
-//! two loops. They require that the lengths fit, which their callers make sure of, and which registers hold
-//! their arguments is left to the compiler: `machine_code` proves their code with the arguments where
-//! `rust/src/kernel/machine_code.rs` passes them.
+//! `FixedKernel`, for x86-64-v2 by `Lanes16`, and for AArch64 by `Interleaved`. They require that the lengths
+//! fit, which their callers make sure of, and which registers hold their arguments is left to the compiler:
+//! `machine_code` proves their code with the arguments where `rust/src/kernel/machine_code.rs` passes them.
 
 ghost use Rattle.std.specs.Prelude.{◌≡◌, ◌*◌, ◌↔◌, IsTrue, true, false, length};
 ghost use Rattle.const_hex.specs.Texts.{hex_text, AllDigits, Spells, Partial};
@@ -20,8 +19,6 @@ impl Kernel for Linked {
     ghost USE_CHECK_FN = { false };
 
     const USE_CHECK_FN: bool = false;
-
-    ghost PIECE = { 64 };
 
     const PIECE: usize = 64;
 
@@ -42,6 +39,13 @@ impl Kernel for Linked {
     #[inline(always)]
     fn decode_checked(input: &[u8], output: &mut [u8]) -> bool {
         read::<FixedKernel>(input, output)
+    }
+
+    // `machine_code` proves loops whose steps are constant, so C has no search by halves.
+    #[inline(always)]
+    fn skip_digits(text: &[u8]) -> usize {
+        let _ = text;
+        0
     }
 
     #[inline]
@@ -65,7 +69,7 @@ fn fill_upper<K: Kernel>(bytes: &[u8], text: &mut [u8])
     requires { length text.old ≡ 2 * length bytes.now }
     ensures { text.new ≡ hex_text true bytes.now }
 {
-    K::fill_upper(bytes, text);
+    K::fill(bytes, true, text);
 }
 
 /// Returns true if every byte of the text is a digit.

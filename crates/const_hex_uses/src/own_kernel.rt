@@ -1,24 +1,23 @@
 //! A kernel of your own, under the codec.
 
 ghost use Rattle.std.specs.Prelude.{◌≡◌, ◌*◌, ◌≤◌, List, ℕ, false, length};
-ghost use Rattle.std.specs.List.{FoldsTo, concat};
-ghost use Rattle.const_hex.specs.Outputs.{ArePieces, HasSpace};
+ghost use Rattle.std.specs.List.{All, FoldsTo, concat};
+ghost use Rattle.const_hex.specs.Outputs.{HasSpace};
 ghost use Rattle.const_hex.specs.Texts.{hex_text};
 
 use const_hex::{Kernel, Lanes32, Output, Plain};
 
-/// Works byte by byte on short inputs, and in steps of 32 lanes on longer ones.
+/// Works byte by byte on short inputs, and in steps of 32 lanes on longer ones. It writes the digits of the first byte as
+/// pieces of their own, and then pieces of 64 bytes.
 ///
-/// The author of a kernel proves the contracts of four functions. Then the codec's functions keep all
-/// their promises with that kernel.
+/// The author of a kernel proves the contracts of four functions, or of five with an `encode` of its own. Then the
+/// codec's functions keep all their promises with that kernel.
 pub struct BySize;
 
 impl Kernel for BySize {
     ghost USE_CHECK_FN = { false };
 
     const USE_CHECK_FN: bool = false;
-
-    ghost PIECE = { 64 };
 
     const PIECE: usize = 64;
 
@@ -28,6 +27,12 @@ impl Kernel for BySize {
         } else {
             Lanes32::fill(input, upper, output);
         }
+    }
+
+    fn encode<O: Output>(input: &[u8], upper: bool, output: &mut O) {
+        let (first, rest) = input.split_at(input.len().min(1));
+        Plain::encode(first, upper, output);
+        Lanes32::encode(rest, upper, output);
     }
 
     fn check(input: &[u8]) -> bool {
@@ -55,12 +60,13 @@ impl Kernel for BySize {
     }
 }
 
-/// Writes the text of bytes to any output, in pieces of 64 bytes, of which the last may be shorter, but
-/// not empty. So an output may give a shorter piece a meaning of its own, such as the end of a message.
+/// Writes the text of bytes to any output, in pieces of at most 64 bytes, none of which is empty. So an output may give
+/// an empty piece a meaning of its own, such as the end of a message.
 pub fn write_pieces<O: Output>(bytes: &[u8], output: &mut O)
     requires { HasSpace (O.space output.old) (2 * length bytes.now) }
     ensures { (pieces : List (List ℕ)) × FoldsTo O.step output.old pieces output.new
-        × (concat pieces ≡ hex_text false bytes.now) × ArePieces 64 pieces }
+        × (concat pieces ≡ hex_text false bytes.now)
+        × All (λ piece. (1 ≤ length piece) × (length piece ≤ 64)) pieces }
 {
     BySize::encode(bytes, false, output);
 }

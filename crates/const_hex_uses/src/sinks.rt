@@ -21,6 +21,13 @@ pub fn packets(alloc: Global, bytes: &[u8]) -> Result<PieceSink, SinkError>
     Ok(sink)
 }
 
+/// Whether a sink that is to fail at once accepts a piece: never.
+pub fn accepts_a_piece(alloc: Global, piece: &str) -> bool
+    ensures { result ≡ false }
+{
+    PieceSink::new(alloc, 1).write_str(piece).is_ok()
+}
+
 /// Sends the text of a JSON string, with `0x`, to a sink that has not failed so far. If the sink reports
 /// its pieces and accepts all, the new ones are together the text.
 pub fn send_json<S: Sink>(bytes: &[u8], sink: &mut S) -> Result<(), SinkError>

@@ -1,58 +1,104 @@
-"""Runs single instructions of an object on a processor, each from a random state, and compares them with their meaning.
+"""Runs single instructions of an object on a processor, each from random states, and compares them
+with their meaning.
 
-The object lies in the memory of a program (run.c in the folder above) as `reading` lays it out. After the instruction
-stands a jump back, and so at its target if it is a jump. The registers are random; those that an address needs point
-into a scratch area.
+The object lies in the memory of a program (run.c in the folder above) as `reading` lays it out.
+After the instruction stands a jump back, and so at its target if it is a jump. The registers are
+random; those that an address needs point into a scratch area.
 """
 
+import collections
 import pathlib
 import random
 import re
 import struct
 import subprocess
 import tempfile
+from typing import NamedTuple
 
+import build
 import z3
-
 from execution.code import Code
 from execution.paths import Branch
 from execution.proofs import PROCESSORS
-from execution.state import simple, word
+from execution.terms import simple, word
 from hints.loops import follows
+from node import BYTES, EDGES, rejected_or
 from reading import library
 from solver.questions import require
-from tests.node import BYTES, EDGES, refused_or
 
 FOLDER = pathlib.Path(__file__).resolve().parents[1]
 # As in run.c.
 SIZE, TEXT, SCRATCH = 1 << 12, 0x4000000, 0x8000000
 MIDDLE = SIZE // 2
 NOT_ALONE = ("ret", "call", "jmp", "nop", "bl", "b", "cpuid", "xgetbv")
-# So many instructions of each form, and states.
-PLACES, STATES = 2, 8
-# In some states all numbers are near one of these, so that some are equal, and some sums and differences are 0.
+# So many instructions of each form, and states of all of them.
+PLACES, STATES = 3, 24
+# In some states all numbers are near one of these, so that some are equal, and some sums and
+# differences are 0.
 NEAR = [None] * 4 + [0, 0, 1 << 31, 1 << 63]
-# By processor: its registers as run.c has them, its compiler and emulator, where flags are, how long a jump is, and
-# what does not count as a form: which registers, numbers of several digits, and addresses.
+
+
+class Kind(NamedTuple):
+    """A processor: its registers as run.c has them, where its flags are, how long a jump is, and what
+    runs a program for it."""
+
+    registers: tuple
+    flags: dict
+    jump: int
+    compiler: tuple
+    emulator: tuple = ()
+
+
 KINDS = {
-    "x86_64": ("rax rcx rdx rbx rsp rbp rsi rdi r8 r9 r10 r11 r12 r13 r14 r15".split(), ["cc"], [],
-               {"c": 0, "z": 6, "s": 7, "o": 11}, 5,
-               r"\b([abcd]|[sd]i|[sb]p)l\b|(?<=\b[re])([abcd]x|[sd]i|[sb]p)\b|(?<=[a-z])(?<!0x)\d+|0x\w{2,}|\[.*\]"),
-    "aarch64": ([f"x{number}" for number in range(31)] + ["sp"], ["aarch64-linux-gnu-gcc", "-static"], ["qemu-aarch64"],
-                {"s": 31, "z": 30, "c": 29, "o": 28}, 4, r"(?<=\b[xwvqdsbh])\d+|(?<=#)-?\d\d+|0x\w{2,}"),
+    "x86_64": Kind(
+        tuple("rax rcx rdx rbx rsp rbp rsi rdi r8 r9 r10 r11 r12 r13 r14 r15".split()),
+        {"c": 0, "z": 6, "s": 7, "o": 11},
+        5,
+        (build.X86_64,),
+    ),
+    "aarch64": Kind(
+        tuple(f"x{number}" for number in range(31)) + ("sp",),
+        {"s": 31, "z": 30, "c": 29, "o": 28},
+        4,
+        (build.AARCH64, "-static"),
+        ("qemu-aarch64",),
+    ),
 }
 
 
 def _random_bytes(some, count):
     """Random bytes; often at the edges, and sometimes all 0."""
     content, kind = some.randbytes(count), some.randrange(8)
-    return bytes(count) if kind == 0 else content if kind < 4 else content.translate((EDGES * 24)[:256])
+    if kind == 0:
+        return bytes(count)
+    return content if kind < 4 else content.translate((EDGES * 24)[:256])
 
 
 def _number(term, bits):
     """The number of so many bits that a term is, or None."""
     term = simple(term)
     return term.as_long() if z3.is_bv_value(term) and term.size() == bits else None
+
+
+class Memory:
+    """What a state does whose memory is known: that of the object, and the scratch area."""
+
+    def load(self, address, count, aligned=False):
+        address = self.known(address).as_long()
+        require(count & count - 1 == 0, "an access of another size")
+        require(not aligned or address % count == 0, "not aligned")
+        data, start = (self.scratch, SCRATCH) if address >= SCRATCH else (self.object, TEXT)
+        return [BYTES[value] for value in data[address - start :][:count]]
+
+    def store(self, address, lane, aligned=False):
+        first = simple(address).as_long() - SCRATCH
+        require(len(lane) & len(lane) - 1 == 0, "an access of another size")
+        self.scratch[first : first + len(lane)] = [simple(value).as_long() for value in lane]
+
+    def known(self, term):
+        """A term in which the base of the object is known."""
+        first = word(TEXT + self.code.object.first)
+        return simple(z3.substitute(simple(term), (self.code.constants.base, first)))
 
 
 class Processor:
@@ -64,143 +110,126 @@ class Processor:
             self.code.instruction(start)  # which is read with those after it
         self.meanings = self.code.processor
         name = self.meanings.__name__.rpartition(".")[2]
-        self.names, compiler, emulator, self.bits, self.jump, self.not_form = KINDS[name]
+        self.kind = KINDS[name]
         self.memory = bytearray(linked.size)
-        for part in linked.segments:
+        for part in linked.parts:
             self.memory[part.address : part.address + len(part.content)] = part.content
         with tempfile.TemporaryDirectory() as folder:
-            sources = [FOLDER / "run.c", FOLDER / f"run_{name}.S"]
-            subprocess.run([*compiler, "-O1", "-no-pie", "-o", f"{folder}/run", *sources], check=True,
-                           capture_output=True)
-            self.process = subprocess.Popen([*emulator, f"{folder}/run"], stdin=subprocess.PIPE, stdout=subprocess.PIPE)
+            sources = [str(FOLDER / "run.c"), str(FOLDER / f"run_{name}.S")]
+            file = build.made(*self.kind.compiler, "-O1", "-no-pie", *sources, folder=folder)
+            command = [*self.kind.emulator, file]
+            pipe = subprocess.PIPE
+            self.process = subprocess.Popen(command, stdin=pipe, stdout=pipe)
             self.process.stdin.write(struct.pack("<Q", len(self.memory)) + self.memory)
-            self.forms = self._forms()
+            self.instructions = [i for i in self.code.instructions.values() if self._is_alone(i)]
             # The program has begun when it answers.
-            self.difference(next(iter(self.forms.values()))[0], "")
+            self.difference(self.instructions[0], "")
 
     def close(self):
         self.process.communicate()
 
-    def _forms(self):
-        """Some instructions of each form that has a meaning."""
-        forms = {}
-        for i in self.code.instructions.values():
-            if i.mnemonic in self.meanings.HANDLERS and i.mnemonic not in NOT_ALONE and not i.refused:
-                target = self._target(i)
-                is_near = i.address - self.jump < target < i.address + i.size + self.jump
-                if not target or not is_near and self.code.object.code_at(target):
-                    operands = "" if target else re.sub(self.not_form, "", i.text.partition(" ")[2])
-                    forms.setdefault(f"{i.mnemonic} {operands}", []).append(i)
-        return {form: those[:: max(1, len(those) // PLACES)][:PLACES] for form, those in forms.items()}
+    def _is_alone(self, i):
+        """Whether an instruction has a meaning, and leads where a jump back has space."""
+        if i.mnemonic not in self.meanings.HANDLERS or i.mnemonic in NOT_ALONE or i.rejected:
+            return False
+        target, jump = self._target(i), self.kind.jump
+        is_near = i.address - jump < target < i.address + i.size + jump
+        return not target or not is_near and bool(self.code.object.code_at(target))
 
     def _target(self, i):
         """Where a jump goes, or 0."""
         return next((to for to in follows(i) if to != i.address + i.size), 0)
 
-    def _start(self, some, memory):
-        """A random state whose memory is that of the program."""
-
-        class Concrete(self.meanings.State):
-            def load(self, address, count, aligned=False):
-                address = simple(address).as_long()
-                require(count & count - 1 == 0, "an access of another size")
-                require(not aligned or address % count == 0, "not aligned")
-                data, start = (memory[0], SCRATCH) if address >= SCRATCH else (memory[1], TEXT)
-                return [BYTES[value] for value in data[address - start :][:count]]
-
-            def store(self, address, lane, aligned=False):
-                first = simple(address).as_long() - SCRATCH
-                require(len(lane) & len(lane) - 1 == 0, "an access of another size")
-                memory[0][first : first + len(lane)] = bytes(simple(value).as_long() for value in lane)
-
-        state = Concrete()
-        state.code, state.calls, state.facts, state.is_legacy = self.code, {}, [], False
-        near = some.choice(NEAR)
-        state.general = {name: int.from_bytes(_random_bytes(some, 8), "little") if near is None else
-                         (near + some.randrange(-1, 2)) % (1 << 64) for name in self.names}
-        state.general[state.TOP] = SCRATCH + MIDDLE
-        raw = {number: _random_bytes(some, state.WIDTH) for number in range(state.VECTORS)}
-        state.vectors = {number: [BYTES[value] for value in lane] for number, lane in raw.items()}
-        return state, raw
-
-    def _known(self, term):
-        """The number of a term of the base of the program."""
-        return simple(z3.substitute(term, (self.code.constants.base, word(TEXT + self.code.object.first))))
-
-    def _point(self, state, i, some):
-        """Lets an address lie in the scratch area, aligned for any access."""
+    def _start(self, i, some):
+        """A random state, in which an address lies in the scratch area, aligned for any access."""
+        state = type("Known", (Memory, self.meanings.State), {})()
+        state.code, state.object, state.is_legacy = self.code, self.memory, False
+        state.scratch = bytearray(_random_bytes(some, SIZE))
+        near, general = some.choice(NEAR), {}
+        for name in self.kind.registers:
+            number = int.from_bytes(_random_bytes(some, 8), "little")
+            general[name] = number if near is None else near + some.randrange(-1, 2)
+        general[state.TOP] = SCRATCH + MIDDLE
         for o in i.operands if i.mnemonic != "lea" else ():
             if o.kind == "memory" and ("rip", 1) not in getattr(o, "terms", ()):
-                terms = getattr(o, "terms", None) or [(o.base, 1)] + ([(o.index, 1)] if o.index else [])
-                rest = o.offset
-                for name, scale in terms[1:]:
-                    state.general[name] = some.randrange(256) & -32
-                    rest += state.general[name] * scale
-                if terms[0][0] != state.TOP:
-                    state.general[terms[0][0]] = SCRATCH + MIDDLE + 64 * some.randrange(16) - rest
-
-    def difference(self, i, seed, meant=None):
-        """What differs between the processor and the meaning for one random state; or that of the instruction as others
-        read it."""
-        some, scratch = random.Random(seed), bytearray(SIZE)
-        scratch[:] = _random_bytes(some, SIZE)
-        before = bytes(scratch)
-        state, raw = self._start(some, (scratch, self.memory))
-        old = state.vectors.copy()
-        self._point(state, i, some)
-        given = {name: value % (1 << 64) for name, value in state.general.items()}
-        state.general = {name: word(value) for name, value in state.general.items()}
-        flags = {name: some.random() < 0.5 for name in self.bits}
-        state.flags = {name: z3.BoolVal(bit) for name, bit in flags.items()}
-        target = self._target(i)
-        request = struct.pack("<QQQ", i.address, i.address + i.size, target)
-        request += b"".join(struct.pack("<Q", given[name]) for name in self.names)
-        request += b"".join(raw.values())
-        request += struct.pack("<QQ", sum(bit << self.bits[name] for name, bit in flags.items()), 0) + before
-        self.process.stdin.write(request)
-        self.process.stdin.flush()
-        after = self.process.stdout.read(len(request) - 24)
-        # An address in the program is a constant's: the base of its region and an offset.
-        load = state.load
-        state.load = lambda address, count, aligned=False: load(self._known(simple(address)), count, aligned)
+                base, *others = self._terms(o)
+                for name, _ in others:
+                    general[name] = some.randrange(256) & -32
+                rest = o.offset + sum(general[name] * scale for name, scale in others)
+                if base[0] != state.TOP:
+                    general[base[0]] = SCRATCH + MIDDLE + 64 * some.randrange(16) - rest
+        state.general = {name: word(value) for name, value in general.items()}
+        state.flags = {name: z3.BoolVal(some.random() < 0.5) for name in self.kind.flags}
+        state.raw = {n: _random_bytes(some, state.WIDTH) for n in range(state.VECTORS)}
+        state.vectors = {n: [BYTES[value] for value in lane] for n, lane in state.raw.items()}
         state.next = i.address + i.size
-        to = refused_or(self.meanings.HANDLERS[i.mnemonic], state, meant or i)
-        lanes = {number: [*raw[number]] if lane is old[number] else [_number(part, 8) for part in lane]
-                 for number, lane in state.vectors.items()}
-        return ", ".join(self._compared(state, raw, lanes, after, scratch, target, to))
+        return state
 
-    def _compared(self, state, raw, lanes, after, scratch, target, to):
-        offset = 0
-        for name in self.names:
-            if struct.unpack_from("<Q", after, offset)[0] != _number(self._known(state.general[name]), 64):
+    def _terms(self, o):
+        """The registers of an address, with what they are multiplied by."""
+        if hasattr(o, "terms"):
+            return o.terms
+        return [(name, 1) for name in (o.base, o.index) if name]
+
+    def _packed(self, state):
+        """A state as run.c has it."""
+        bits = self.kind.flags.items()
+        flags = sum(1 << bit for name, bit in bits if z3.is_true(simple(state.flags[name])))
+        numbers = [state.general[name].as_long() for name in self.kind.registers]
+        content = struct.pack(f"<{len(numbers)}Q", *numbers) + b"".join(state.raw.values())
+        return content + struct.pack("<QQ", flags, 0) + state.scratch
+
+    def difference(self, i, seed):
+        """What differs between the processor and the meaning for one random state."""
+        state = self._start(i, random.Random(seed))
+        target, request, old = self._target(i), self._packed(state), state.vectors.copy()
+        addresses = struct.pack("<QQQ", i.address, i.address + i.size, target)
+        self.process.stdin.write(addresses + request)
+        self.process.stdin.flush()
+        after = self.process.stdout.read(len(request))
+        to = rejected_or(self.meanings.HANDLERS[i.mnemonic], state, i)
+        return ", ".join(self._compared(state, old, after, target, to))
+
+    def _compared(self, state, old, after, target, to):
+        count = len(self.kind.registers)
+        numbers = struct.unpack_from(f"<{count}Q", after)
+        for name, number in zip(self.kind.registers, numbers):
+            if _number(state.known(state.general[name]), 64) != number:
                 yield name
-            offset += 8
-        for name, lane in lanes.items():
-            if [*after[offset : offset + state.WIDTH]] != lane:
+        offset = 8 * count
+        for name, lane in state.vectors.items():
+            raw, now = state.raw[name], after[offset : offset + state.WIDTH]
+            if [*now] != ([*raw] if lane is old[name] else [_number(part, 8) for part in lane]):
                 yield f"vector {name}"
-            above = after[offset + 16 : offset + state.WIDTH]
-            if state.is_clean and above not in (raw[name][16:], bytes(state.WIDTH - 16)):
+            if state.is_clean and now[16:] not in (raw[16:], bytes(len(raw) - 16)):
                 yield f"what lies above in vector {name}"
             offset += state.WIDTH
         if state.is_legacy:
             yield "what the next instruction is"
         flags, is_taken = struct.unpack_from("<QQ", after, offset)
-        if after[offset + 16 :] != scratch:
+        if after[offset + 16 :] != state.scratch:
             yield "memory"
         for name, flag in (state.flags or {}).items():
-            if flag is not None and z3.is_true(simple(flag)) != bool(flags >> self.bits[name] & 1):
+            bit = bool(flags >> self.kind.flags[name] & 1)
+            if flag is not None and z3.is_true(simple(flag)) != bit:
                 yield f"flag {name}"
-        if target and (not isinstance(to, Branch) or z3.is_true(simple(to.choice)) != bool(is_taken)):
+        if target and (
+            not isinstance(to, Branch) or z3.is_true(simple(to.choice)) != bool(is_taken)
+        ):
             yield "the jump"
 
-    def differences(self, mnemonics=None, states=STATES):
-        """What differs of each form, as far as it is one of some mnemonics."""
-        for form, instructions in self.forms.items():
-            for i in instructions if not mnemonics or form.split()[0] in mnemonics else ():
-                for seed in range(states):
-                    try:
-                        what = self.difference(i, f"{form} {seed}")
-                    except Exception as error:
-                        what = f"{type(error).__name__}: {error}"
-                    if what:
-                        yield f"{form}: {i.text}: {what}"
+    def differences(self):
+        """What differs of some instructions of each form: a mnemonic with kinds of operands."""
+        forms = collections.defaultdict(list)
+        for i in self.instructions:
+            kinds = [(o.kind, getattr(o, "size", None)) for o in i.operands]
+            forms[i.mnemonic, *kinds].append(i)
+        some = [those[:: len(those) // PLACES or 1][:PLACES] for those in forms.values()]
+        for i, count in [(i, STATES // len(those)) for those in some for i in those]:
+            for seed in range(count):
+                try:
+                    what = self.difference(i, f"{i.text} {seed}")
+                except Exception as error:
+                    what = f"{type(error).__name__}: {error}"
+                if what:
+                    yield f"{i.text}: {what}"

@@ -1,4 +1,5 @@
-"""Small kernels, each a loop over single bytes, which are changed to be wrong; and the objects that they make."""
+"""Small kernels, each a loop over single bytes, which are changed to be wrong; and the objects that
+they make."""
 
 import functools
 import re
@@ -10,11 +11,11 @@ from contracts.library import FUNCTIONS
 from contracts.messages import MESSAGES
 from execution import proofs
 from reading import library
-from solver.questions import require
-from tests.library import ASM, MODULE, RUST, assembled_module, linked as assembled
+from build import ASM, MODULE, RUST, linked, linked_module
 
 COMPILERS = {"v2": "cc", "v3": "cc", "aarch64": "aarch64-linux-gnu-gcc"}
-# Where it begins, a character in eax, whether it is a digit, what is done in a round, and where it returns.
+# Where it begins, a character in eax, whether it is a digit, what is done in a round, and where it
+# returns.
 CHECK = """
     {start}
     1: test rsi, rsi; je 2f
@@ -74,21 +75,32 @@ AFTER = """
 PROGRAMS = {"check": CHECK, "fill_lower": FILL, "read": READ}
 # What is committed: the files of each build, and the contracts of its functions.
 COMMITTED = {
-    **{level: ([RUST / f"{part}.s" for part in ("elf", name, "end")], KERNELS) for level, name in (
-        ("v2", "x86_64_v2"), ("v3", "x86_64_v3"), ("aarch64", "aarch64"))},
+    **{
+        level: ([RUST / f"{part}.s" for part in ("elf", name, "end")], KERNELS)
+        for level, name in (("v2", "x86_64_v2"), ("v3", "x86_64_v3"), ("aarch64", "aarch64"))
+    },
     "dispatch": ([RUST / "elf.s", RUST / "dispatch.s", RUST / "end.s"], CHOICES),
     "dispatch for AArch64": ([ASM / "dispatch.S"], OR_NULL),
-    **{build: ([ASM / f"{build}.S"], (*FUNCTIONS, *MESSAGES)) for build in ("functions_x86_64", "functions_aarch64")}}
-WASM = "wasm"
+    **{
+        build: ([ASM / f"{build}.S"], (*FUNCTIONS, *MESSAGES))
+        for build in ("functions_x86_64", "functions_aarch64")
+    },
+}
+WASM, SEARCH = "wasm", "i32.store8 offset=5"
 
 
 def program(level, call, **changes):
     """The object of a small kernel with what stands at its places."""
     body = ((ON_AARCH64 if level == "aarch64" else PROGRAMS[call]) + AFTER).format_map(
-        dict.fromkeys(("start", "character", "round", "end", "helper"), "") | {"store": "mov [rsi], al"} | changes)
+        dict.fromkeys(("start", "character", "round", "end", "helper"), "")
+        | {"store": "mov [rsi], al"}
+        | changes
+    )
     syntax = "" if level == "aarch64" else ".intel_syntax noprefix\n"
     name = f"const_hex_1_0_0_{call}" + (f"_{level}" if level != "aarch64" else "")
-    return assembled(f'{syntax}.section .text.{name}, "ax"\n.globl {name}\n{name}:\n{body}', COMPILERS[level])
+    return linked(
+        f'{syntax}.section .text.{name}, "ax"\n.globl {name}\n{name}:\n{body}', COMPILERS[level]
+    )
 
 
 @functools.cache
@@ -103,41 +115,60 @@ def text_of(build):
 
 
 def parts_of(build, function):
-    """Where functions, constants or macros of a build with such a name begin and end; in the module, where a function
-    does that is exported, or has such a text."""
+    """Where functions, constants or macros of a build with such a name begin and end; in the
+    module, where a function does that is exported, or has such a text."""
     text = text_of(build)
     if build == WASM:
         bodies = list(re.finditer(r"^\(func .*\n(?:\(local.*\n)?((?:(?!\().*\n)*)", text, re.M))
         exported = re.search(rf'export "const_hex_{function}" \(func (\d+)\)', text)
-        bodies = [bodies[int(exported[1])]] if exported else [body for body in bodies if function in body[1]]
-        return [body.span(1) for body in bodies]
+        # What searches in a chunk has no name, but an instruction of its own.
+        chosen = bodies[int(exported[1])] if exported else next(b for b in bodies if SEARCH in b[1])
+        return [chosen.span(1)]
     name = rf"(const_hex_([\d_]+_|body_|message_|kernel_)?)?{function}(_nonnull)?(_v\d)?"
     starts = re.finditer(rf"^(function|constant|\.macro) (SYMBOL\()?{name}\b.*\n", text, re.M)
     return [(start.end(), text.index("\n\n", start.end())) for start in starts]
 
 
+def pattern(lines):
+    """The pattern of some lines, in which {a} stands for anything without a comma, a space or a
+    bracket."""
+    seen = set()
+
+    def group(match):
+        name = match[1]
+        again = name in seen
+        seen.add(name)
+        return f"(?P={name})" if again else rf"(?P<{name}>[^\s,;\[\]+*]+)"
+
+    return re.sub(r"\\\{(\w)\\\}", group, re.escape(lines.replace("; ", "\n")))
+
+
 def edited(build, function, old, new):
-    """The committed object or module, where in a function, a constant or a macro `new` stands in the place of the first
-    `old`, or at the start if that is empty. Lines end in `; `. After ` | ` others follow in both, each after the one
-    before."""
-    text = text_of(build)
-    olds, news = [lines.replace("; ", "\n").split(" | ") for lines in (old, new)]
-    first = next(place for start, end in parts_of(build, function) if (place := text.find(olds[0], start, end)) >= 0)
-    for before, after in zip(olds, news):
-        first = text.index(before, first)
-        text = text[:first] + after + ("" if before else "\n") + text[first + len(before) :]
-        first += len(after)
+    """The committed object or module in which lines of a function, a constant or a macro are
+    others."""
+    text, found = text_of(build), None
+    for start, end in parts_of(build, function):
+        found = re.compile(pattern(old)).search(text, start, end)
+        if found:
+            break
+    assert found, f"{function} has no {old}"
+    lines = new.replace("; ", "\n") + ("" if old else "\n")
+    for name, value in found.groupdict().items():
+        lines = lines.replace(f"{{{name}}}", value)
+    text = text[: found.start()] + lines + text[found.end() :]
     if build == WASM:
-        return assembled_module(text)
-    return assembled(text, COMPILERS["aarch64" if build.lower().endswith("aarch64") else "v3"])
+        return linked_module(text)
+    return linked(text, COMPILERS["aarch64" if build.lower().endswith("aarch64") else "v3"])
 
 
-def prove(content, call, contracts=KERNELS, name=None, which=slice(None)):
-    """Proves the first contract of a call, or that of a name, from all starts or from some."""
-    contract = next(contract for contract in contracts
-                    if contract.function == call and contract.name == (name or contract.name))
-    symbols = [symbol for symbol in library.read(content).symbols
-               if re.fullmatch(contract.symbol if not content.startswith(library.MODULE) else
-                             contract.symbol.removesuffix("_nonnull"), symbol)]
-    require(len(symbols) == 1, f"{len(symbols)} functions {contract.symbol}")
-    return proofs.prove(content, symbols[0], contract, which)
+def prove(content, call, contracts=KERNELS, name=None):
+    """Proves the first contract of a call, or that of a name."""
+    chosen = [
+        each for each in contracts if each.function == call and (not name or each.name == name)
+    ]
+    contract = chosen[0]
+    # A module exports a function by the name in the header.
+    end = "_nonnull" if content.startswith(library.MODULE) else ""
+    symbols = library.read(content).symbols
+    [symbol] = [each for each in symbols if re.fullmatch(contract.symbol.removesuffix(end), each)]
+    return proofs.prove(content, symbol, contract)

@@ -1,18 +1,19 @@
-"""The meanings of instructions are compared with the processor, or with QEMU for AArch64: each form that occurs in the
-kernels and in the functions for C, and each other instruction that has a meaning. Changes of meanings are noticed."""
+"""The meanings of instructions are compared with the processor, or with QEMU for AArch64: each form
+that occurs in the kernels and in the functions for C, and each other instruction that has a
+meaning."""
 
-import random
-import unittest
+import contextlib
 
-from processor import NOT_ALONE, STATES, Processor  # noqa: F401
+import pytest
+from build import linked
+from processor import NOT_ALONE, Processor
 from programs import COMPILERS, edited, text_of
-from tests.library import linked as assembled
 
 FUNCTION = r"const_hex_(.*_check(_v[23])?|version)"
 # Instructions with a meaning that are not in each kernel of today.
 MORE = {
     "x86_64_v2": """.intel_syntax noprefix
-        inc rax; dec ecx; cmovb rax, rcx; cmovne eax, ecx; paddb xmm0, xmm1; por xmm0, xmm1; punpckldq xmm0, xmm1
+        inc rax; dec ecx; cmovb rax, rcx; cmovne eax, ecx; paddb xmm0, xmm1; por xmm0, xmm1; pxor xmm0, xmm1; pmullw xmm0, xmm1; punpckldq xmm0, xmm1
         shr eax, 3; not rax; not cl; movabs rax, 0x123456789abcdef0; movsxd rax, ecx; movsxd rax, dword ptr [rcx]
         xorps xmm0, xmm1; movaps xmm0, xmm1; movups xmm0, [rax]; movups [rax], xmm0; mul rcx; mul rax
         setb al; setae al; sete al; setne al; setbe al; seta al; sets al; pinsrb xmm0, eax, 3
@@ -21,7 +22,7 @@ MORE = {
     "x86_64_v3": """.intel_syntax noprefix
         vpbroadcastq ymm0, xmm1; vpbroadcastd ymm0, xmm1; vpbroadcastb ymm0, xmm1; vpunpckldq ymm0, ymm1, ymm2
         vpunpcklqdq ymm0, ymm1, ymm2; vpermq ymm0, ymm1, 0x8d; vpxor ymm0, ymm1, ymm2; vinserti128 ymm0, ymm1, xmm2, 1
-        vpinsrb xmm0, xmm1, eax, 3
+        vpinsrb xmm0, xmm1, eax, 3; vpmullw ymm0, ymm1, ymm2
         vinserti128 ymm0, ymm1, xmm2, 0; vextracti128 xmm0, ymm1, 0; vextracti128 [rax], ymm1, 0
         vpinsrd xmm0, xmm1, eax, 2; vxorps ymm0, ymm1, ymm2; vmovaps ymm0, ymm1; vmovups ymm0, [rax]""",
     "aarch64": """
@@ -37,8 +38,8 @@ MORE = {
         movi v0.8h, #49; movi v0.4s, #49; movi v0.8b, #49; xtn v0.4h, v1.4s; sli v0.8h, v1.8h, #3; dup v0.2d, x1
         uzp1 v0.8h, v1.8h, v2.8h; uzp2 v0.8h, v1.8h, v2.8h; zip1 v0.8h, v1.8h, v2.8h; zip2 v0.8h, v1.8h, v2.8h
         st2 {v0.8h, v1.8h}, [x1]; st2 {v0.8b, v1.8b}, [x1], #16; ld1 {v0.8b, v1.8b}, [x1]
-        st1 {v0.s}[1], [x1]; st1 {v0.h}[0], [x1]
-        adrp x0, more + 16; add x0, x0, :lo12:more + 16; ldr q0, [x0, :lo12:more + 16]
+        st1 {v0.s}[1], [x1]; st1 {v0.h}[0], [x1]; ld1r {v0.16b}, [x1]; ld1r {v0.4s}, [x1]
+        adr x0, more + 16; adrp x0, more + 16; add x0, x0, :lo12:more + 16; ldr q0, [x0, :lo12:more + 16]
         .section .rodata.more, "a"; .balign 16; more: .skip 16; .ascii "0123456789abcdef" """,
 }
 
@@ -49,30 +50,19 @@ def processor(name):
         return Processor(edited(name, "version", "", ""), FUNCTION)
     level = name.removeprefix("x86_64_")
     text = f'{text_of(level)}\n.section .text.more, "ax"\n{MORE[name]}\n'
-    return Processor(assembled(text, COMPILERS[level]), FUNCTION)
+    return Processor(linked(text, COMPILERS[level]), FUNCTION)
 
 
-class TestMeanings(unittest.TestCase):
-    def compare(self, *names):
-        compared = set()
-        for name in names:
-            runner = processor(name)
-            self.addCleanup(runner.close)
-            self.assertEqual(list(runner.differences()), [])
-            compared |= {form.split()[0] for form in runner.forms}
-        missing = runner.meanings.HANDLERS.keys() - compared - set(NOT_ALONE)
-        # by a condition, which all share
-        self.assertEqual([name for name in missing if not name.startswith(("j", "set", "cmov", "b."))], [])
+NAMES = ["x86_64_v2", "x86_64_v3", "functions_x86_64"], ["aarch64", "functions_aarch64"]
 
-    def test_x86_64(self):
-        self.compare("x86_64_v2", "x86_64_v3", "functions_x86_64")
 
-    def test_aarch64(self):
-        self.compare("aarch64", "functions_aarch64")
-
-    def test_changes_are_noticed(self):
-        """Some of all, which a release tries."""
-        import turned_meanings  # which takes what is above
-
-        some = random.Random("some").sample(list(turned_meanings.changes()), 100)
-        self.assertEqual([what for what, is_right in map(turned_meanings.task, some) if not is_right], [])
+@pytest.mark.parametrize("names", NAMES, ids=("x86-64", "AArch64"))
+def test_meanings(names):
+    compared = set()
+    for name in names:
+        with contextlib.closing(processor(name)) as runner:
+            assert list(runner.differences()) == []
+            compared |= {i.mnemonic for i in runner.instructions}
+    missing = runner.meanings.HANDLERS.keys() - compared - {*NOT_ALONE}
+    # by a condition, which all share
+    assert [name for name in missing if not name.startswith(("j", "set", "cmov", "b."))] == []

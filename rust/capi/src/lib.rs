@@ -1,12 +1,9 @@
-//! The functions of `const_hex.h`, for the library for C on platforms without verified machine code, and for the
-//! WebAssembly module of the package for JavaScript. The header documents them.
+//! Three functions of `const_hex.h`, for the WebAssembly module of the package for JavaScript. The header documents
+//! them.
 //!
-//! Each makes slices of the pointers and lengths that C passes, and calls the proved function of the same name.
+//! Each makes slices of the pointers and lengths that it gets, and calls the proved function of the same name.
 //! One whose error may be NULL calls the function that ends in `_nonnull`, with an error of its own then. Nothing
 //! here allocates, or panics in a release build.
-//!
-//! `cmake` in the folder `c` builds this crate and makes both libraries of it. For the target
-//! `wasm32-unknown-unknown` it becomes the module, which exports three functions alone.
 #![no_std]
 #![deny(unsafe_op_in_unsafe_fn)]
 #![allow(clippy::missing_safety_doc)] // The header says what each function requires.
@@ -52,24 +49,6 @@ exports! {
         c::const_hex_decoder_finish_nonnull(decoder, error.unwrap_or(&mut no_error()));
 }
 
-// The module for JavaScript does not need these.
-#[cfg(not(all(target_arch = "wasm32", target_os = "unknown")))]
-exports! {
-    fn const_hex_encoded_size() [] [] (bytes_length: usize, flags: u32) -> usize =
-        c::const_hex_encoded_size(bytes_length, flags);
-    fn const_hex_decode() [text text_length] [bytes bytes_size]
-        (written: &mut usize, error: Option<&mut HexError>) -> bool =
-        c::const_hex_decode_nonnull(text, bytes, written, error.unwrap_or(&mut no_error()));
-    fn const_hex_decode_exact() [text text_length] [bytes bytes_length] (error: Option<&mut HexError>) -> bool =
-        c::const_hex_decode_exact_nonnull(text, bytes, error.unwrap_or(&mut no_error()));
-    fn const_hex_check() [text text_length] [] (error: Option<&mut HexError>) -> bool =
-        c::const_hex_check_nonnull(text, error.unwrap_or(&mut no_error()));
-    fn const_hex_check_raw() [text text_length] [] () -> bool = c::const_hex_check_raw(text);
-    fn const_hex_error_message(error: &HexError) [] [message message_size] () -> usize =
-        c::const_hex_error_message(error, message);
-    fn const_hex_version() [] [] () -> u32 = c::const_hex_version();
-}
-
 /// What takes the reason of a failure if the caller passes NULL.
 fn no_error() -> HexError {
     let (kind, byte, index) = (0, 0, 0);
@@ -83,7 +62,7 @@ unsafe fn slice<'a>(start: *const u8, length: usize) -> &'a [u8] {
     match length {
         0 => &[],
         // SAFETY: the caller promises this.
-        _ => unsafe { from_raw_parts(start, at_most(length)) },
+        _ => unsafe { from_raw_parts(start, length) },
     }
 }
 
@@ -94,22 +73,12 @@ unsafe fn slice_mut<'a>(start: *mut u8, length: usize) -> &'a mut [u8] {
     match length {
         0 => &mut [],
         // SAFETY: the caller promises this.
-        _ => unsafe { from_raw_parts_mut(start, at_most(length)) },
+        _ => unsafe { from_raw_parts_mut(start, length) },
     }
 }
 
-/// The length, or the greatest one of a slice that is odd or even as well. No buffer is larger, so such a length is an
-/// error in every function, and the same one. The package for JavaScript passes none.
-fn at_most(length: usize) -> usize {
-    let most = (isize::MAX as usize - 1) | (length & 1);
-    length.min(if cfg!(all(target_arch = "wasm32", target_os = "unknown")) { length } else { most })
-}
-
-/// In a release build no function panics. In another one a failed check ends here, in an endless loop.
+/// In a release build no function panics.
 #[panic_handler]
 fn panic(_: &core::panic::PanicInfo<'_>) -> ! {
-    #[cfg(target_arch = "wasm32")]
-    core::arch::wasm32::unreachable();
-    #[cfg(not(target_arch = "wasm32"))]
-    loop {}
+    core::arch::wasm32::unreachable()
 }

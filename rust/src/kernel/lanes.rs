@@ -22,6 +22,12 @@ impl Kernel for Native {
         Portable::check(input)
     }
 
+    // `machine_code` proves loops whose steps are constant, so the module has no search by halves.
+    #[inline(always)]
+    fn skip_digits(_: &[u8]) -> usize {
+        0
+    }
+
     #[inline(always)]
     fn decode_checked(input: &[u8], output: &mut [u8]) -> bool {
         assert!(input.len() == output.len() << 1);
@@ -40,5 +46,5 @@ impl Kernel for Native {
 #[inline(never)]
 unsafe fn read(text: *const u8, bytes: *mut u8, length: usize) -> bool {
     // SAFETY: the caller promises that.
-    unsafe { Portable::decode_checked(from_raw_parts(text, 2 * length), from_raw_parts_mut(bytes, length)) }
+    unsafe { Portable::decode_all(from_raw_parts(text, 2 * length), from_raw_parts_mut(bytes, length)) }
 }

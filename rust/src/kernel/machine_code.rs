@@ -54,9 +54,9 @@ const IS_V3: bool = cfg!(all(
 
 /// Defines functions that call the machine code. They have no `#[inline]`: another crate may be part of another shared
 /// library, where that code has no name. Link-time optimization inlines them, which saves a jump. The ABI says that
-/// none unwinds, so that a caller need not be ready for it.
+/// none unwinds, so that a caller need not be ready for it. The module has the functions in portable code.
 macro_rules! functions {
-    ($(
+    ($module:ident: $(
         $(#[$comment:meta])*
         $name:ident($($argument:ident: $type:ty),*) $(-> $result:ty)?, $for_cpu:ident, $v3:ident;
     )*) => {$(
@@ -76,14 +76,14 @@ macro_rules! functions {
             #[cfg(target_arch = "x86_64")]
             unsafe extern "sysv64" fn portable($($argument: $type),*) $(-> $result)? {
                 // SAFETY: the caller promises what the function requires.
-                unsafe { super::portable::$name($($argument),*) }
+                unsafe { crate::kernel::$module::$name($($argument),*) }
             }
             // SAFETY: the same.
             unsafe {
                 #[cfg(target_arch = "aarch64")]
                 return $for_cpu($($argument),*);
                 #[cfg(target_arch = "x86_64")]
-                if IS_V3 {
+                if crate::kernel::machine_code::IS_V3 {
                     $v3($($argument),*)
                 } else {
                     $for_cpu($($argument,)* portable)
@@ -94,6 +94,7 @@ macro_rules! functions {
 }
 
 functions! {
+    portable:
     /// Fills the text with the lowercase digits of the bytes.
     ///
     /// Safety: there are so many bytes, and `text` may be written for two bytes for each byte. These need not be
@@ -113,4 +114,19 @@ functions! {
     /// Safety: `bytes` may be written for so many bytes, and the text has two bytes for each of them. What is written
     /// need not be initialized, and is afterwards if the result is true.
     read(text: *const u8, bytes: *mut u8, length: usize) -> bool, const_hex_1_0_0_read, const_hex_1_0_0_read_v3;
+}
+
+/// The same for secrets: where there is no machine code for the CPU, by arithmetic, and not by a table.
+pub mod secret {
+    functions! {
+        arithmetic:
+        /// Safety: as for the function of this name above, and all bytes are initialized.
+        fill_lower(bytes: *const u8, length: usize, text: *mut u8),
+            const_hex_1_0_0_fill_lower, const_hex_1_0_0_fill_lower_v3;
+        /// Safety: the same.
+        fill_upper(bytes: *const u8, length: usize, text: *mut u8),
+            const_hex_1_0_0_fill_upper, const_hex_1_0_0_fill_upper_v3;
+        /// Safety: the same.
+        read(text: *const u8, bytes: *mut u8, length: usize) -> bool, const_hex_1_0_0_read, const_hex_1_0_0_read_v3;
+    }
 }

@@ -3,16 +3,18 @@
 
 use crate::std_shim::prelude::*;
 
+#[cfg(all(target_arch = "wasm32", target_feature = "simd128"))]
+mod by_length;
 pub mod check_first;
 #[cfg(all(target_arch = "wasm32", target_feature = "simd128"))]
 mod lanes;
 #[cfg(all(target_arch = "wasm32", target_feature = "simd128"))]
 pub mod lanes16;
 #[cfg(all(target_arch = "wasm32", target_feature = "simd128"))]
-mod loops;
+mod long;
 pub mod plain;
 #[cfg(all(target_arch = "wasm32", target_feature = "simd128"))]
-mod small_input;
+mod short;
 #[cfg(all(target_arch = "wasm32", target_feature = "simd128"))]
 mod steps;
 
@@ -28,22 +30,35 @@ pub trait Kernel {
     /// their output unchanged.
     const USE_CHECK_FN: bool;
 
-    /// How many bytes of text each piece of `encode` in Rattle has: 1, or an even number up to
-    /// 64. Of another number, the next smaller one of these counts, and 1 for 0.
+    /// How many bytes of text each piece of `encode` in Rattle has, except the last: 1, or an even number up to
+    /// 64. Of another number, the next smaller one of these counts, and 1 for 0. A kernel with an `encode` of its own may
+    /// write other pieces.
     const PIECE: usize;
 
     /// Fills the output with two digits for each byte, in order. The output must have exactly the
     /// length of that text.
     fn fill(input: &[u8], upper: bool, output: &mut [u8]);
 
-    /// As `fill` in uppercase, by code that may be its own.
-    #[inline(always)]
-    fn fill_upper(input: &[u8], output: &mut [u8]) {
-        Self::fill(input, true, output);
-    }
-
     /// Whether every byte is a digit.
     fn check(input: &[u8]) -> bool;
+
+    /// Where a search for the first byte that is not a digit may begin: all bytes before are digits. While more than 32
+    /// bytes are left, the kernel checks the first half of them. If that has only digits, the other half is left, and
+    /// else the first one.
+    #[inline(always)]
+    fn skip_digits(text: &[u8]) -> usize {
+        let mut start = 0;
+        let mut end = text.len();
+        'halves: while end - start > 32 {
+            let middle = start + (end - start) / 2;
+            if Self::check(&text[start..middle]) {
+                start = middle;
+            } else {
+                end = middle;
+            }
+        }
+        start
+    }
 
     /// Decodes the input into the output and returns true. Returns false if some byte is not a
     /// digit. Then some of the pairs before that byte may have been decoded to the front of the

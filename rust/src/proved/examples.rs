@@ -48,16 +48,14 @@ fn arch_fill() {
 }
 
 #[test]
-fn arch_fill_upper() {
-    let mut text = [0; 8];
-    FixedKernel::fill_upper(b"kiwi", &mut text);
-    assert_eq!(text, *b"6B697769");
-}
-
-#[test]
 fn arch_check() {
     assert!(FixedKernel::check(b"6B6"));
     assert!(!FixedKernel::check(b"0x6b"));
+}
+
+#[test]
+fn arch_skip_digits() {
+    assert!(FixedKernel::skip_digits(b"6b69z") <= 4);
 }
 
 #[test]

@@ -29,7 +29,7 @@ pub use self::error::*;
 //    1  Rust's errors are not copied
 //    2  a formatter has a lifetime in place of its writer's type
 //   10  a function for C takes slices, which capi makes of pointers and lengths, and is compiled there alone
-//   65  all crates are one module
+//   67  all crates are one module
 //    3  an allocation never fails: without memory the program ends
 //   78  an assertion names no runtime
 //    2  an example names a kernel that each target has
@@ -37,13 +37,13 @@ pub use self::error::*;
 //    2  and a constant converts by a cast
 //    1  and an error is borrowed
 //    5  and is a module of const_hex
-//    5  and kernels over vectors are there for WebAssembly alone
+//    6  and kernels over vectors are there for WebAssembly alone
 //   13  and panics instead of returning an error
 //    1  and the crate's decoder is cloned
 //    2  before it reads a part, or ends
 //   47  deleted: attribute
-//  539  deleted: clause
-//   99  deleted: ghost item
+//  504  deleted: clause
+//   97  deleted: ghost item
 //    3  deleted: model
 //    5  deleted: output
 //    1  each value may be dropped

@@ -119,7 +119,7 @@ impl Decoder {
             return Err(FromHexError::InvalidStringLength);
         }
         if !decode_next::<K>(waiting, digits, &mut output[..count]) {
-            return Err(self.fail(chunk.len() - digits.len(), digits));
+            return Err(self.fail::<K>(chunk.len() - digits.len(), digits));
         }
         self.advance(chunk.len(), left_over(waiting, digits, count));
         Ok(count)
@@ -146,7 +146,7 @@ impl Decoder {
         }
         let (waiting, digits) = self.next_digits(chunk);
         if !FixedKernel::check(digits) {
-            return Err(self.fail(chunk.len() - digits.len(), digits));
+            return Err(self.fail::<FixedKernel>(chunk.len() - digits.len(), digits));
         }
         let pairs = count_pairs(waiting, digits);
         self.advance(chunk.len(), left_over(waiting, digits, pairs));
@@ -260,14 +260,14 @@ impl Decoder {
     /// Ends with the first invalid character of these digits, which stand so many bytes after what was
     /// read.
     #[cold]
-    fn fail(&mut self, skipped: usize, digits: &[u8]) -> FromHexError
+    fn fail<K: Kernel>(&mut self, skipped: usize, digits: &[u8]) -> FromHexError
         ensures names { (AllDigits digits.now → ⊥) → (p : ℕ) × FirstBad digits.now p
             × (result ≡ InvalidHexCharacter (slice_index digits.now p)
             (counted (position_of self.old + skipped + p))) }
         ensures ended { error_of self.new ≡ Some result }
         ensures length { result ≢ InvalidStringLength }
     {
-        let (byte, index) = find_first_bad(digits);
+        let (byte, index) = find_first_bad::<K>(digits);
         let index = self.index.saturating_add(skipped).saturating_add(index);
         *self = Decoder {
             index,

@@ -1,5 +1,5 @@
 -- Texts and pieces by their first and their last bytes.
-use Rattle.std.proofs.Common.{◌≡◌, ℕ, ◌+◌, ◌-◌, ◌*◌, ◌/◌, ◌%◌, ◌<◌, ◌≤◌, ◌↔◌, Bool, List, [], ◌∷◌, ◌++◌, length, take, drop, get_or, refl, sym, ap, ◌∙◌, arith, take-append-drop, take-add, length-take, length-drop}
+use Rattle.std.proofs.Common.{◌≡◌, ℕ, ◌+◌, ◌-◌, ◌*◌, ◌/◌, ◌%◌, ◌<◌, ◌≤◌, ◌↔◌, Bool, List, [], ◌∷◌, ◌++◌, length, take, drop, get_or, refl, sym, ap, ◌∙◌, arith, append-nil, drop-drop, take-append-drop, take-add, length-take, length-drop}
 use Rattle.std.proofs.lemmas.Grind.{common_steps}
 use Rattle.std.proofs.lemmas.List.{take_all, take_at, take_rest, take-take, drop_at, drop-take}
 use Rattle.std.proofs.lemmas.List.Elements.{All-take, All-drop}
@@ -13,7 +13,7 @@ use Rattle.const_hex_arch.proofs.lemmas.Texts.{Spells-append, Spells-parts, hex_
 use Rattle.const_hex_arch.proofs.lemmas.Steps.{digits_last}
 
 -- the text of the first k bytes, and of the others
-hex_text-parts : (up : Bool) (k : ℕ) (bs : List ℕ) → k ≤ length bs
+pub hex_text-parts : (up : Bool) (k : ℕ) (bs : List ℕ) → k ≤ length bs
     → (take (2 * k) (hex_text up bs) ≡ hex_text up (take k bs))
     × (drop (2 * k) (hex_text up bs) ≡ hex_text up (drop k bs))
 hex_text-parts up k bs h =
@@ -22,24 +22,6 @@ hex_text-parts up k bs h =
     let whole : hex_text up bs ≡ hex_text up (take k bs) ++ hex_text up (drop k bs) =
     rw (← hex_text-append, take-append-drop) in
     rw whole (take_at _ _ _ long, drop_at _ _ _ long)
-
--- the digits of the first h and of the last h bytes, where both share a step, are those of all
-pub ends_text : (up : Bool) (h d : ℕ) (bs ends text : List ℕ) → d ≡ 2 * h → h ≤ length bs → length bs ≤ 2 * h
-    → take (2 * h) ends ≡ take h bs ++ drop (length bs - h) bs → text ≡ hex_text up ends
-    → take (2 * length bs - d) (take d text) ++ take d (drop d text) ≡ hex_text up bs
-ends_text up h d bs ends text two least most e t =
-    let k = length bs - h in
-    let size : length (take h bs) ≡ h = omega (arith, length-take h bs) in
-    let twice : h + h ≡ 2 * h = omega arith in
-    let first : take h ends ≡ take h bs = rw (← take-take h (2 * h) ends (omega arith), e) (take_at _ _ h size) in
-    let last : take h (drop h ends) ≡ drop k bs = rw (← drop-take h h ends, twice, e) (drop_at _ _ h size) in
-    let long : 2 * h ≤ length ends = grind (arith, common_steps, ap length e) in
-    let parts = hex_text-parts up h ends (omega arith) in
-    let rest = hex_text-parts up h (drop h ends) (omega (arith, length-drop h ends)) in
-    let kept = hex_text-parts up k (take h bs) (omega arith) in
-    let less : 2 * length bs - 2 * h ≡ 2 * k = omega arith in
-    rw (t, two, parts.0, parts.1, rest.0, first, last, less, kept.0, take-take k h bs (omega arith))
-    (rw (← hex_text-append, take-append-drop))
 
 -- ---- digits
 
@@ -56,18 +38,6 @@ digits_ends n u step h k e rest =
           (digits_last u n start (omega arith) both.0).0 (rw (take_rest u start) both.1),
       λ d. all.1 (rw e (pair.1 (All-take IsDigit n u d, All-drop IsDigit start u d)), rest),
     )
-
--- a store of the first h bytes, and then of the last
-pub put_ends : (h start : ℕ) (old first last : List ℕ) → length first ≡ h → length last ≡ h → start + h ≡ length old
-    → length old ≤ 2 * h
-    → put_chunk start (put_chunk 0 old first) last ≡ take start first ++ last
-put_ends h start old first last p q whole most =
-    let mid = put_chunk 0 old first in
-    let long = length-put_chunk 0 old first in
-    let all = length-put_chunk start mid last in
-    let front : take h mid ≡ first = take_more_put_chunk 0 old first h (omega arith) (omega arith) in
-    let whole = take_more_put_chunk start mid last (length old) (omega arith) (omega arith) in
-    grind (arith, common_steps)
 
 -- what the first d and the last d digits decode to, put into place
 pub spells_ends : (h d n : ℕ) (u step bytes : List ℕ) → d ≡ 2 * h → length u ≡ 2 * n → h ≤ n → n ≤ 2 * h
@@ -126,6 +96,21 @@ filled_less {up} {u} {new} {i} e d h = record {
 -- all of the text
 pub filled_whole : {up : Bool} {u new : List ℕ} {i : ℕ} → IsFilled up u new i → length u ≤ i → new ≡ hex_text up u
 filled_whole {up} {u} {new} {i} d h = rw (← take_all (2 * i) new (omega arith), d.front, take_all i u h)
+
+-- the text of the last bytes, and then that of the first h
+pub ends_filled : (up : Bool) (h start m : ℕ) (u old first last : List ℕ) → length old ≡ 2 * length u → h ≤ length u
+    → start ≤ h → m ≡ length old - 2 * start → last ≡ hex_text up (drop start u) → first ≡ hex_text up (take h u)
+    → put_mid 0 (2 * h) (put_mid (2 * start) m old last) first ≡ hex_text up u
+ends_filled up h start m u old first last size least most e l f =
+    let begin : length (take (2 * start) old) ≡ 2 * start = omega (arith, length-take (2 * start) old) in
+    let text = (hex_text-parts up (h - start) (drop start u) (omega (arith, length-drop start u))).1 in
+    let rest : drop (h - start) (drop start u) ≡ drop h u = grind (arith, common_steps) in
+    let last_long : length last ≡ 2 * length u - 2 * start = omega (arith, ap length l, length-hex_text up (drop start u), length-drop start u) in
+    let mid : put_mid (2 * start) m old last ≡ take (2 * start) old ++ last = grind (arith, common_steps, append-nil, last_long) in
+    let sum : 2 * start + 2 * (h - start) ≡ 2 * h = omega arith in
+    let behind : drop (2 * h) (put_mid (2 * start) m old last) ≡ drop (2 * (h - start)) last =
+    rw (mid, ← sum, ← drop-drop (2 * (h - start)) (2 * start) (take (2 * start) old ++ last), drop_at _ _ _ begin) refl in
+    rw (behind, f, l, text, rest) (rw (← hex_text-append, take-append-drop) refl)
 
 -- the rest of the text
 pub filled_rest : {up : Bool} {u new : List ℕ} {i : ℕ} (r : List ℕ) → IsFilled up u new i

@@ -1,12 +1,14 @@
 -- The first invalid character of a text, and what an output holds after the text was rejected.
-use Rattle.std.proofs.Common.{◌≡◌, ℕ, zero, suc, ◌+◌, ◌%◌, ◌<◌, ◌≤◌, List, [], ◌∷◌, length, take, drop, slice_index, ◌⊎◌, inl, inr, refl, arith, take-add, length-take, get_or-take, get_or-drop, is_some, ◌*◌, get_or, bit_or, sym, ◌∙◌, drop-drop}
+use Rattle.std.proofs.Common.{◌≡◌, ℕ, zero, suc, ◌+◌, ◌-◌, ◌%◌, ◌<◌, ◌≤◌, List, [], ◌∷◌, length, take, drop, slice_index, ◌⊎◌, inl, inr, refl, arith, take-add, length-take, get_or-take, get_or-drop, is_some, ◌*◌, get_or, bit_or, sym, ◌∙◌, drop-drop, subst, eq-zero-or-pos, true, false, Bool}
+use Rattle.std.specs.Bool.{IsTrue}
+use Rattle.std.proofs.lemmas.List.{drop-take}
 use Rattle.std.proofs.lemmas.Grind.{common_steps}
 use Rattle.std.proofs.lemmas.List.Elements.{All-nil, All-cons, All-head, All-tail, All-get_or}
 use Rattle.std.proofs.lemmas.Bool.{cases_Bool}
 use Rattle.std.proofs.lemmas.Nat.{or_lt}
 use Rattle.const_hex_arch.specs.{hex_value, IsDigit, Spells, AllDigits, FirstBad, value_or_nil, Partial}
 use Rattle.const_hex_arch.proofs.lemmas.Digits.{digits_append, digit_found, no_value, digit_small, digits_parts}
-use Rattle.const_hex_arch.proofs.lemmas.Texts.{IsPair-of, Spells-append, Spells-digits, Spells-length}
+use Rattle.const_hex_arch.proofs.lemmas.Texts.{IsPair-of, Spells-append, Spells-parts, Spells-digits, Spells-length}
 
 -- no text of digits has an invalid character
 pub digits_no_bad : (u : List ℕ) (p : ℕ) → AllDigits u → FirstBad u p → ⊥
@@ -84,6 +86,55 @@ Partial-after old u new k m e h l b s p =
           rw (q, take-add m (2 * p.done) u, take-add k p.done new) (Spells-append _ _ _ _ s p.front);
       rest = sym (drop-drop p.done k new) ∙ p.rest ∙ drop-drop p.done k old;
     }
+
+-- what two lists share from a position on, they share from a later one on
+drop_further : (a b : List ℕ) (i j : ℕ) → i ≤ j → drop i a ≡ drop i b → drop j a ≡ drop j b
+drop_further a b i j h e =
+    let q : i + (j - i) ≡ j = omega arith in
+    rw (← q, ← drop-drop (j - i) i a, ← drop-drop (j - i) i b, e) refl
+
+-- the first bytes of an output, of which the first i are written anew, and n more are as before
+front_kept : (i n : ℕ) (u mid new : List ℕ) → Spells (take (2 * i) u) (take i new) → drop i new ≡ drop i mid
+    → Spells (take (2 * (i + n)) u) (take (i + n) mid) → Spells (take (2 * (i + n)) u) (take (i + n) new)
+front_kept i n u mid new s e t =
+    let m : 2 * (i + n) ≡ 2 * i + 2 * n = omega arith in
+    let later : Spells (take (2 * n) (drop (2 * i) u)) (take n (drop i mid)) =
+    rw (drop-take (2 * i) (2 * n) u, drop-take i n mid) at (Spells-parts _ _ i (2 * i) refl (rw m at t)).1 in
+    rw (m, take-add (2 * i) (2 * n) u, take-add i n new, e) (Spells-append _ _ _ _ s later)
+
+-- a text that is rejected a second time
+pub again : {old u mid new : List ℕ} → Partial old u mid → Partial mid u new → Partial old u new
+again {old} {u} {mid} {new} p q =
+    elim (eq-zero-or-pos (p.done - q.done)) [
+      | inl z ↦ record {
+        bad = q.bad;
+        done = q.done;
+        first_bad = q.first_bad;
+        not_past = q.not_past;
+        same_length = q.same_length ∙ p.same_length;
+        front = q.front;
+        rest = q.rest ∙ drop_further mid old p.done q.done (omega arith) p.rest;
+      }
+      | inr more ↦ record {
+        bad = p.bad;
+        done = p.done;
+        first_bad = p.first_bad;
+        not_past = p.not_past;
+        same_length = q.same_length ∙ p.same_length;
+        front =
+            let n = p.done - q.done in
+            let sum : q.done + n ≡ p.done = omega arith in
+            subst (λ j. Spells (take (2 * j) u) (take j mid) → Spells (take (2 * j) u) (take j new)) sum
+            (front_kept q.done n u mid new q.front q.rest) p.front;
+        rest = drop_further new mid q.done p.done (omega arith) q.rest ∙ p.rest;
+      }
+    ]
+
+-- a text of digits is not rejected
+pub digits_accepted : {old u new : List ℕ} (r : Bool) → (IsTrue r → Spells u new) → (r ≡ false → Partial old u new)
+    → AllDigits u → Spells u new
+digits_accepted true s p a = s refl
+digits_accepted false s p a = absurd (digits_no_bad _ _ a (p refl).first_bad)
 
 -- two bytes, after i pairs, whose values, or NIL, have a bit that no value has
 pub refused_joint : (old u new : List ℕ) (i high low : ℕ) → Spells (take (2 * i) u) (take i new)

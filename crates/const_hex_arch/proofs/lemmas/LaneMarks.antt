@@ -102,14 +102,6 @@ unmarked_are_digits (b ∷ v) (n ∷ ns) z =
     grind (arith, All-head IsDigit b v, All-tail IsDigit b v, All-cons IsDigit b v, unmarked_are_digits v ns z.1)
 unmarked_are_digits _ _ z = absurd z
 
--- the marks of the first lanes
-pub first_marks : (n : ℕ) (v zs : List ℕ) → AllZip IsMarkOf v zs → AllUnmarked (take n zs) ↔ AllDigits (take n v)
-first_marks zero v zs z = (λ _. All-nil IsDigit, λ _. tt)
-first_marks (suc n) [] [] z = (λ _. All-nil IsDigit, λ _. tt)
-first_marks (suc n) (b ∷ v) (m ∷ zs) z =
-    grind (arith, All-head IsDigit b (take n v), All-tail IsDigit b (take n v), All-cons IsDigit b (take n v), first_marks n v zs z.1)
-first_marks (suc n) _ _ z = absurd z
-
 -- the mark of each lane
 pub marks_of_parts : (v ns : List ℕ) → AllZip IsPartOf v ns
     → AllZip IsMarkOf v (zip2 sub8 (minus_48_l (length v) v) ns)
@@ -184,23 +176,6 @@ is_pair_unmarked (x0 ∷ x1 ∷ xs) f =
     let here : ((marked x0 + 256 * (marked x1 + 256 * rest)) % 65536 ≡ 0) ↔ ((marked x0 + marked x1) ≡ 0) = omega arith in
     grind (arith, nat_tests, here, at0, at1)
 is_pair_unmarked _ f = absurd (omega (arith, f.0))
-
--- the first eight lanes as one number of 64 bits
-pub is_half_unmarked : (xs : List ℕ) → (length xs ≡ 16) × Each1 (Fits w8) xs
-    → IsTrue (eqb (number_l 256 (zip2 bit_and xs (replicate 16 216)) % 18446744073709551616) 0) ↔ AllUnmarked (take 8 xs)
-is_half_unmarked (x0 ∷ x1 ∷ x2 ∷ x3 ∷ x4 ∷ x5 ∷ x6 ∷ x7 ∷ xs) f =
-    let at0 = at_lane x0 f.1.0 in
-    let at1 = at_lane x1 f.1.1.0 in
-    let at2 = at_lane x2 f.1.1.1.0 in
-    let at3 = at_lane x3 f.1.1.1.1.0 in
-    let at4 = at_lane x4 f.1.1.1.1.1.0 in
-    let at5 = at_lane x5 f.1.1.1.1.1.1.0 in
-    let at6 = at_lane x6 f.1.1.1.1.1.1.1.0 in
-    let at7 = at_lane x7 f.1.1.1.1.1.1.1.1.0 in
-    let number = number_l 256 (zip2 bit_and (x0 ∷ x1 ∷ x2 ∷ x3 ∷ x4 ∷ x5 ∷ x6 ∷ x7 ∷ xs) (replicate 16 216)) in
-    let here : (number % 18446744073709551616 ≡ 0) ↔ ((marked x0 + marked x1 + marked x2 + marked x3 + marked x4 + marked x5 + marked x6 + marked x7) ≡ 0) = omega arith in
-    grind (arith, nat_tests, here, at0, at1, at2, at3, at4, at5, at6, at7)
-is_half_unmarked _ f = absurd (omega (arith, f.0))
 
 -- a relation of the lanes of two vectors, for two characters in the first lanes
 first_two : (R : ℕ → ℕ → Type 0) (c d : ℕ) (v zs : List ℕ) → take 2 v ≡ c ∷ d ∷ [] → AllZip R v zs

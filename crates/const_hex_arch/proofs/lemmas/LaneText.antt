@@ -77,8 +77,8 @@ spread_halves (x ∷ v) f =
     let behind : (x * 4097 % 65536 / 16 + 65536 * n) / 256 / 256 ≡ n = rw here (omega arith) in
     rw (first, second, behind, spread_halves v f.1)
 
-pub of_16 : (v : List ℕ) → (length v ≡ 16) × Each1 (Fits w8) v → digits_l 256 32 (spread 16 v) ≡ halves_of v
-of_16 v f = subst (λ n. digits_l 256 (doubled n) (spread n v) ≡ halves_of v) f.0 (spread_halves v f.1)
+pub of_lanes : (n : ℕ) (v : List ℕ) → (length v ≡ n) × Each1 (Fits w8) v → digits_l 256 (doubled n) (spread n v) ≡ halves_of v
+of_lanes n v f = subst (λ n. digits_l 256 (doubled n) (spread n v) ≡ halves_of v) f.0 (spread_halves v f.1)
 
 length-halves_of : (v : List ℕ) → length (halves_of v) ≡ 2 * length v
 length-halves_of [] = refl
@@ -88,9 +88,15 @@ halves_below : (v : List ℕ) → Each1 (Fits w8) v → Each1 (λ j. j < 16) (ha
 halves_below [] f = tt
 halves_below (x ∷ v) f = (omega (arith, f.0.fits), (omega arith, halves_below v f.1))
 
-pub halves_ok : (v : List ℕ) → (length v ≡ 16) × Each1 (Fits w8) v → SwzOk w8 16 32 0 (halves_of v)
-halves_ok v f =
-    SwzOk-from_below w8 16 2 32 0 (halves_of v) refl (omega (arith, length-halves_of v, f.0)) (halves_below v f.1)
+-- the text of n lanes has b blocks
+pub halves_ok : (b n : ℕ) (v : List ℕ) → (length v ≡ n) × Each1 (Fits w8) v → 2 * n ≡ b * 16
+    → SwzOk w8 16 (2 * n) 0 (halves_of v)
+halves_ok b n v f e =
+    SwzOk-from_below w8 16 b (2 * n) 0 (halves_of v) e (omega (arith, length-halves_of v, f.0)) (halves_below v f.1)
+
+-- the first half of 16 lanes
+pub first_half : (v : List ℕ) → (length v ≡ 16) × Each1 (Fits w8) v → (length (take 8 v) ≡ 8) × Each1 (Fits w8) (take 8 v)
+first_half v f = (grind (arith, f.0, common_steps), Each1-chunk (Fits w8) 0 8 v f.1)
 
 -- ---- their digits
 
@@ -113,10 +119,10 @@ unfolding hex_text
 digits_of_halves up [] = refl
 digits_of_halves up (x ∷ v) = cc (digits_of_halves up v)
 
-pub halves_text : (up : Bool) (t v : List ℕ) → (length v ≡ 16) × Each1 (Fits w8) v → T (is_table up t 32)
+pub halves_text : (up : Bool) (n : ℕ) (t v : List ℕ) → (length v ≡ n) × Each1 (Fits w8) v → T (is_table up t (2 * n))
     → swz_l w8 16 t 0 (halves_of v) ≡ hex_text up v
-halves_text up t v f table =
-    looked_up up t (halves_of v) 32 (omega (arith, length-halves_of v, f.0)) (halves_below v f.1) table
+halves_text up n t v f table =
+    looked_up up t (halves_of v) (2 * n) (omega (arith, length-halves_of v, f.0)) (halves_below v f.1) table
     ∙ digits_of_halves up v
 
 -- the digits of a row, twice, and once
@@ -191,65 +197,6 @@ woven_text up v f =
     let low = looked_up up t (map (λ x. x % 16) v) 16 (omega (arith, length-map v (λ x. x % 16), f.0)) (low_below v) (row_is_table up).1 in
     subst (λ n. pick_l 0 (swz_l w8 16 t 0 (zip2 (λ a b. a / 2 ^ b) v (replicate n 4)) ++ swz_l w8 16 t 0 (zip2 bit_and v (replicate n 15))) positions ≡ hex_text up v) f.0
     (rw (high_is v, low_is v f.1, high, low) (woven (hex_digit up) v f.0 ∙ digits_of_halves up v))
-
--- ---- the digits of a single byte, whose halves are the first of 16 lanes
-
--- the first two of the lanes that are looked up, as one number
-abbrev digits_number : Bool → ℕ → ℕ
-digits_number up x =
-    let halves = x / 16 + bit_and x 15 * 256 in
-    let lanes = digits_l 256 16 (number_l (2 ^ 64) (halves ∷ 0 ∷ [])) in
-    number_l 256 (swz_l w8 16 (map (hex_digit up) (range_with_len 0 16)) 0 lanes) % 65536
-
--- the test of both digits
-abbrev are_digits_of : Bool → ℕ → Bool
-are_digits_of up x =
-    eqb (digits_number up x % 256) (hex_digit up (x / 16)) && eqb (digits_number up x / 256 % 256) (hex_digit up (x % 16))
-
-digits_are : (up : Bool) → T (holds_below (are_digits_of up) 256)
-digits_are true = tt
-digits_are false = tt
-
-pub byte_text : (up : Bool) (x n : ℕ) → x < 256 → n ≡ digits_number up x
-    → n % 256 ∷ n / 256 % 256 ∷ [] ≡ hex_text up (x ∷ [])
-unfolding hex_text
-byte_text up x n h e =
-    let both = every_below (are_digits_of up) 256 (digits_are up) x h in
-    let first : digits_number up x % 256 ≡ hex_digit up (x / 16) = eqb→eq _ _ (and_l _ _ both) in
-    let second : digits_number up x / 256 % 256 ≡ hex_digit up (x % 16) = eqb→eq _ _ (and_r _ _ both) in
-    rw (e, first, second) refl
-
--- ---- bytes of a vector, read as one number and written again
-
-get_or_below : (u : List ℕ) (i : ℕ) → Each1 (Fits w8) u → get_or u i 0 < 256
-get_or_below [] i f = omega arith
-get_or_below (x ∷ u) zero f = f.0.fits
-get_or_below (x ∷ u) (suc i) f = get_or_below u i f.1
-
--- number j of those of k bytes
-number_is : (k m j : ℕ) (v : List ℕ) → j < m → Each1 (Fits w8) v
-    → get_or (digits_l (256 ^ k) m (number_l 256 v)) j 0 ≡ number_l 256 (take k (drop (k * j) v))
-number_is k m j v less f = get_or_wider 256 k (256 ^ k) m v j refl (below_from_Fits w8 v f) less
-
-two_are : (u : List ℕ) → length u ≡ 2 → number_l 256 u ≡ from_le_bytes w16 u
-two_are (a ∷ b ∷ []) e = omega arith
-two_are _ e = absurd (omega arith)
-
-four_are : (u : List ℕ) → length u ≡ 4 → number_l 256 u ≡ from_le_bytes w32 u
-four_are (a ∷ b ∷ c ∷ d ∷ []) e = omega arith
-four_are _ e = absurd (omega arith)
-
-pub two_bytes_again : (j : ℕ) (v : List ℕ) → j < 8 → 2 * j + 2 ≤ length v → Each1 (Fits w8) v
-    → to_le_bytes w16 (get_or (digits_l (2 ^ 16) 8 (number_l 256 v)) j 0) ≡ take 2 (drop (2 * j) v)
-two_bytes_again j v less long f =
-    let size = length-chunk (2 * j) 2 v long in
-    le_bytes_2 _ _ size (λ i. get_or_below _ i (Each1-chunk (Fits w8) (2 * j) 2 v f)) (number_is 2 8 j v less f ∙ two_are _ size)
-
-pub four_bytes_again : (j : ℕ) (v : List ℕ) → j < 4 → 4 * j + 4 ≤ length v → Each1 (Fits w8) v
-    → to_le_bytes w32 (get_or (digits_l (2 ^ 32) 4 (number_l 256 v)) j 0) ≡ take 4 (drop (4 * j) v)
-four_bytes_again j v less long f =
-    let size = length-chunk (4 * j) 4 v long in
-    le_bytes_4 _ _ size (λ i. get_or_below _ i (Each1-chunk (Fits w8) (4 * j) 4 v f)) (number_is 4 4 j v less f ∙ four_are _ size)
 
 -- ---- the values of a text, by pairs
 

@@ -5,8 +5,8 @@ use Rattle.std.proofs.lemmas.List.{append-nil, take_at, drop_at, take_rest}
 use Rattle.std.proofs.lemmas.List.Elements.{All-take, All-drop}
 use Rattle.std.proofs.lemmas.Slice.{take-put_mid, drop-put_mid}
 use borrow.Rule.Slice.PartMut.{put_mid}
-use Rattle.const_hex_arch.specs.{IsDigit, AllDigits, Spells, Partial, HasSpace, less_space, WritesPieces}
-use Rattle.const_hex_arch.proofs.lemmas.Runs.{HasSpace-less, one_piece}
+use Rattle.const_hex_arch.specs.{IsDigit, AllDigits, Spells, Partial, HasSpace, less_space, Writes}
+use Rattle.const_hex_arch.proofs.lemmas.Runs.{HasSpace-less, one_written, Writes-append}
 use Rattle.const_hex_arch.proofs.lemmas.Digits.{digits_append, digits_parts}
 use Rattle.const_hex_arch.proofs.lemmas.FirstInvalid.{none_decoded, Partial-after}
 use Rattle.const_hex_arch.proofs.lemmas.Texts.{Spells-append, Spells-parts, Spells-digits}
@@ -52,23 +52,24 @@ part_ascii u front rest part after e p h k =
     let at : slice_index (front ++ (part ++ after)) (length front + k) < 128 = rw (p, e) (h (length front + k)) in
     grind (arith, common_steps, at)
 
--- ---- a text is written but for the rest: with the rest in pieces of n bytes it is, and there is space for the rest
-pub record IsWritten {S : Type 0} (n : ℕ) (step : S → List ℕ → S → Type 0) (space : S → Option ℕ) (text : List ℕ)
-    (old new : S) (rest : List ℕ) : Type 0 where
-  pub onward : (t : S) → WritesPieces n step new rest t → WritesPieces n step old text t
+-- ---- a text is written but for the rest: with the rest it is, and there is space for the rest
+pub record IsWritten {S : Type 0} (step : S → List ℕ → S → Type 0) (space : S → Option ℕ) (text : List ℕ) (old new : S)
+    (rest : List ℕ) : Type 0 where
+  pub onward : (t : S) → Writes step new rest t → Writes step old text t
   pub has_space : HasSpace (space new) (length rest)
   pub ascii : IsAscii rest
 
 -- a piece that begins the rest is written
-pub piece_written : {S : Type 0} {n : ℕ} {step : S → List ℕ → S → Type 0} {space : S → Option ℕ} {text all : List ℕ}
+pub piece_written : {S : Type 0} {step : S → List ℕ → S → Type 0} {space : S → Option ℕ} {text all : List ℕ}
     {old mid new : S} (piece rest : List ℕ)
     → ((s : S) (p : List ℕ) (t : S) → step s p t → space t ≡ less_space (space s) (length p))
-    → IsWritten n step space text old mid all → piece ++ rest ≡ all → step mid piece new
-    → 1 ≤ n → 1 ≤ length piece → length piece ≤ n → (length piece < n → rest ≡ [])
-    → IsWritten n step space text old new rest
-piece_written {S} {n} {step} {space} {text} {all} {old} {mid} {new} piece rest shrinks d e h some long short last =
-    let needed : length all ≡ length piece + length rest = rw (← e) (length-append piece rest) in record {
-      onward = λ t w. d.onward t (rw e at (one_piece step n mid piece new rest t h some long short last w));
+    → IsWritten step space text old mid all → piece ++ rest ≡ all → step mid piece new
+    → 1 ≤ length piece → length piece ≤ 64
+    → IsWritten step space text old new rest
+piece_written {S} {step} {space} {text} {all} {old} {mid} {new} piece rest shrinks d e h long short =
+    let needed : length all ≡ length piece + length rest = rw (← e) (length-append piece rest) in
+    let piece_is = one_written step mid piece new h (long, short) in record {
+      onward = λ t w. d.onward t (rw e at (Writes-append step mid piece new rest t piece_is w));
       has_space = rw (shrinks mid piece new h) (HasSpace-less (space mid) (length piece) (length rest) (rw needed at d.has_space));
       ascii = part_ascii all piece rest rest [] e (append-nil rest) d.ascii;
     }

@@ -25,8 +25,6 @@ impl<K: Kernel> Kernel for CheckFirst<K> {
 
     const USE_CHECK_FN: bool = true;
 
-    ghost PIECE = { K.PIECE };
-
     const PIECE: usize = K::PIECE;
 
     #[inline(always)]

@@ -2,18 +2,17 @@
 //! the digit of a value, and the test whether all lanes are digits. docs/DESIGN.md works through an
 //! example.
 
-ghost use Rattle.std.specs.Prelude.{◌≡◌, ◌*◌, ◌++◌, ◌≤◌, ◌↔◌, [], ◌∷◌, length, take, map, IsTrue};
+ghost use Rattle.std.specs.Prelude.{◌≡◌, ◌*◌, ◌/◌, ◌++◌, ◌≤◌, ◌↔◌, length, map, IsTrue};
 ghost use Rattle.std.specs.List.{AllZip, concat};
 ghost use Rattle.const_hex_arch.specs.{hex_value, hex_text, AllDigits, Spells, AllNibbles, AllUnmarked, byte_pairs, as_value, IsValueOf, IsPartOf, IsLimitOf, IsMarkOf};
 
 use std::simd::prelude::*;
 
 /// The operations that depend on the number of lanes `N`. Everything else in a kernel is written once,
-/// over this trait. The argument `second_row` never changes a result: it selects one of two equal rows, as
-/// [`lanes16::factors_row`](super::lanes16::factors_row) explains.
+/// over this trait.
 pub(crate) trait LaneOps<const N: usize> {
     /// Fills the output with two digits for each lane, in order.
-    fn write_digits(v: Simd<u8, N>, upper: bool, second_row: bool, output: &mut [u8])
+    fn write_digits(v: Simd<u8, N>, upper: bool, output: &mut [u8])
         requires { length output.old ≡ 2 * N }
         ensures { output.new ≡ hex_text upper v.entry };
 
@@ -22,7 +21,7 @@ pub(crate) trait LaneOps<const N: usize> {
         ensures { AllZip IsLimitOf v.entry result };
 
     /// One byte for each two values, the higher half first.
-    fn merge(first: Simd<u8, N>, second: Simd<u8, N>, second_row: bool) -> Simd<u8, N>
+    fn merge(first: Simd<u8, N>, second: Simd<u8, N>) -> Simd<u8, N>
         ensures { AllNibbles (first.entry ++ second.entry)
             → result ≡ byte_pairs (first.entry ++ second.entry) };
 
@@ -30,16 +29,9 @@ pub(crate) trait LaneOps<const N: usize> {
     fn are_unmarked(marks: Simd<u8, N>) -> bool
         ensures { IsTrue result ↔ AllUnmarked marks.entry };
 
-    /// A step has at least one byte, so that a loop ends. It has at most 32, so that two steps of 16
-    /// lanes, which may overlap, encode or decode what is shorter than a step.
-    ghost sizes: { (1 ≤ N) × (N ≤ 32) };
-}
-
-/// How two bytes come into a vector, which depends on the processor.
-pub(crate) trait PairOps {
-    /// Both bytes in the first two lanes, and anything in the others.
-    fn from_pair(first: u8, second: u8) -> u8x16
-        ensures { take 2 result ≡ first ∷ second ∷ [] };
+    /// A step has at least one byte, so that a loop ends, at most 32, so that shorter inputs have at most 32, and an
+    /// even number, so that it has two halves.
+    ghost sizes: { (1 ≤ N) × (N ≤ 32) × (2 * (N / 2) ≡ N) };
 }
 
 /// The value of each lane that is a digit, and more than 15 for every other lane.
@@ -119,11 +111,10 @@ pub(crate) fn joint_marks<const N: usize, V: LaneOps<N>>(
 pub(crate) fn decode<const N: usize, V: LaneOps<N>>(
     first: Simd<u8, N>,
     second: Simd<u8, N>,
-    second_row: bool,
 ) -> Simd<u8, N>
     ensures { AllDigits (first.entry ++ second.entry) → Spells (first.entry ++ second.entry) result }
 {
-    V::merge(values::<N, V>(first), values::<N, V>(second), second_row)
+    V::merge(values::<N, V>(first), values::<N, V>(second))
 }
 
 /// As [`decode`], by [`unhex`], which looks up no limits, for lanes that were tested before.
@@ -132,9 +123,8 @@ pub(crate) fn decode<const N: usize, V: LaneOps<N>>(
 pub(crate) fn decode_digits<const N: usize, V: LaneOps<N>>(
     first: Simd<u8, N>,
     second: Simd<u8, N>,
-    second_row: bool,
 ) -> Simd<u8, N>
     ensures { AllDigits (first.entry ++ second.entry) → Spells (first.entry ++ second.entry) result }
 {
-    V::merge(unhex(first), unhex(second), second_row)
+    V::merge(unhex(first), unhex(second))
 }

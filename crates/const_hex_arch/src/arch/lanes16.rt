@@ -3,12 +3,12 @@
 //! Each of these calls has a contract for every vector: [`encode_chunk`], [`check_chunk`],
 //! [`decode_chunk`], [`nibbles`] and [`unhex`].
 
-ghost use Rattle.std.specs.Prelude.{◌≡◌, ◌↔◌, [], ◌∷◌, ◌++◌, length, take, map, IsTrue, false, IsNone, IfSome};
+ghost use Rattle.std.specs.Prelude.{◌≡◌, ◌↔◌, [], ◌∷◌, ◌++◌, length, take, map, replicate, IsTrue, false, IsNone, IfSome};
 ghost use Rattle.std.specs.List.{AllZip, concat, range_with_len};
-ghost use Rattle.const_hex_arch.specs.{hex_digit, hex_value, hex_text, AllDigits, Spells, AllNibbles, AllUnmarked, byte_pairs, bytes_of_4097, halves_of, as_value, IsValueOf, IsLimitOf};
+ghost use Rattle.const_hex_arch.specs.{hex_digit, hex_value, hex_text, AllDigits, Spells, AllNibbles, AllUnmarked, byte_pairs, halves_of, as_value, IsValueOf, IsLimitOf};
 
-use crate::arch::lanes::{self, LaneOps, PairOps};
-use crate::arch::{Kernel, loops, small_input};
+use crate::arch::lanes::{self, LaneOps};
+use crate::arch::{Kernel, by_length};
 use std::simd::prelude::*;
 
 /// For each low half of a byte the limit: no digit with this low half has a greater value.
@@ -20,53 +20,23 @@ use std::simd::prelude::*;
 // the value itself, `P`, `W`, `X` and `Y` would leave the mark 32, and pass as digits.
 const LIMITS: [u8; 16] = [1, 10, 11, 12, 13, 14, 15, 8, 9, 10, 0, 0, 0, 0, 0, 0];
 
-/// Two equal rows of the 16 digits in lowercase, and two in uppercase.
-// Why two: digits that LLVM knows it would load again in each turn of a loop. A row that is chosen at run
-// time stays in a register.
-// Rattle has no `*HEX_CHARS_LOWER` in a constant yet.
-const DIGITS: &[[u8; 16]; 4] = &[
-    *b"0123456789abcdef",
-    *b"0123456789abcdef",
-    *b"0123456789ABCDEF",
-    *b"0123456789ABCDEF",
-];
+/// The digits in lowercase, and in uppercase.
+const DIGITS: &[[u8; 16]; 2] = &[*b"0123456789abcdef", *b"0123456789ABCDEF"];
 
-/// Two equal rows of the factor 4097 in each lane of 16 bits.
-// Why two: a compiler that knows a factor of 4097 multiplies by a shift and a sum (LLVM 22, for x86-64),
-// which costs more instructions. In Rattle's build these are 2361 in place of 1823 to encode 2047 bytes,
-// and 3645 in place of 3347 to decode to 2048; by rustc 1.95 with AVX2, 1919 in place of 1827 to decode.
-// So `fill_in_steps`, and the loops of the decoders that take most of a long text, choose a row by a bit
-// that is known only at run time. A short input takes the row of its case, and all else the first one:
-// the choice would cost up to 4 instructions a call.
-const FACTORS: &[[u8; 16]; 2] = &[
-    [1, 16, 1, 16, 1, 16, 1, 16, 1, 16, 1, 16, 1, 16, 1, 16],
-    [1, 16, 1, 16, 1, 16, 1, 16, 1, 16, 1, 16, 1, 16, 1, 16],
-];
-
-/// The digits of a case, from its first row or its second. Both are equal, so no result depends on
-/// `second_row`.
+/// The digit of each value, in each lane.
 #[inline(always)]
-pub(crate) fn digits_row(upper: bool, second_row: bool) -> [u8; 16]
+pub(crate) fn digits_row(upper: bool) -> [u8; 16]
     ensures { result ≡ map (hex_digit upper) (range_with_len 0 16) }
 {
-    DIGITS[2 * usize::from(upper) + usize::from(second_row)]
+    DIGITS[usize::from(upper)]
 }
 
-/// The factors, from the first row of them or the second. Both are equal, so no result depends on
-/// `second_row`. The comment at [`FACTORS`] says why there are two.
+/// Both bytes in the first two lanes, and zeros in the others.
 #[inline(always)]
-pub(crate) fn factors_row(second_row: bool) -> [u8; 16]
-    ensures { result ≡ bytes_of_4097 }
+pub(crate) fn from_pair(first: u8, second: u8) -> u8x16
+    ensures { result ≡ first ∷ second ∷ replicate 14 0 }
 {
-    FACTORS[usize::from(second_row)]
-}
-
-/// The row of factors, and of digits, for a loop over so many bytes. Any bit that is known only at run time
-/// would do.
-// Bit 4 is the offset of the second row.
-#[inline(always)]
-pub(crate) fn second_row_for(length: usize) -> bool {
-    length / 16 % 2 == 1
+    u64x2::from_array([u64::from(u16::from_le_bytes([first, second])), 0]).to_le_bytes()
 }
 
 /// Whether the first two marks have the bits 7, 6, 4 and 3 clear.
@@ -75,14 +45,6 @@ pub(crate) fn is_pair_unmarked(marks: u8x16) -> bool
     ensures { IsTrue result ↔ AllUnmarked (take 2 marks) }
 {
     u16x8::from_le_bytes(marks & u8x16::splat(0xD8)).to_array()[0] == 0
-}
-
-/// As `is_pair_unmarked`, for the first eight marks.
-#[inline(always)]
-pub(crate) fn is_half_unmarked(marks: u8x16) -> bool
-    ensures { IsTrue result ↔ AllUnmarked (take 8 marks) }
-{
-    u64x2::from_le_bytes(marks & u8x16::splat(0xD8)).to_array()[0] == 0
 }
 
 /// Half of a row, in both halves of a vector.
@@ -105,7 +67,7 @@ pub fn encode_chunk<const UPPER: bool>(v: u8x16) -> [u8x16; 2]
     ensures text { concat result ≡ hex_text UPPER v }
     ensures lanes { map length result ≡ 16 ∷ 16 ∷ [] }
 {
-    in_two(encode_lanes(v, UPPER, false))
+    in_two(encode_lanes(v, UPPER))
 }
 
 /// Whether every lane is a digit.
@@ -183,64 +145,44 @@ impl Kernel for Lanes16 {
 
     const USE_CHECK_FN: bool = false;
 
-    ghost PIECE = { 32 };
-
     const PIECE: usize = 32;
 
     #[inline(always)]
     fn fill(input: &[u8], upper: bool, output: &mut [u8]) {
-        loops::fill_in_steps::<16, false, Lanes16, Lanes16>(input, upper, output);
-    }
-
-    #[inline(always)]
-    fn fill_upper(input: &[u8], output: &mut [u8]) {
-        loops::fill_in_steps::<16, true, Lanes16, Lanes16>(input, true, output);
+        by_length::fill::<16, Lanes16, Lanes16>(input, upper, output);
     }
 
     // Not `always`: `decode_body` calls `CheckFirst::<K>` in a branch that is never taken for this
     // kernel. With all of `check` in that branch, the decoders would be too large to be inlined.
     #[inline]
     fn check(input: &[u8]) -> bool {
-        if input.len() < 16 {
-            return small_input::check::<Lanes16>(input);
-        }
-        loops::check_in_steps::<16, Lanes16>(input)
+        by_length::check::<16, Lanes16, Lanes16>(input)
     }
 
     #[inline(always)]
     fn decode_checked(input: &[u8], output: &mut [u8]) -> bool {
-        loops::decode_in_steps::<16, true, Lanes16, Lanes16>(input, output)
+        by_length::decode_checked::<16, Lanes16, Lanes16>(input, output)
     }
 
     #[inline(always)]
     fn decode_all(input: &[u8], output: &mut [u8]) -> bool {
-        loops::decode_in_steps::<16, false, Lanes16, Lanes16>(input, output)
+        by_length::decode::<16, Lanes16, Lanes16>(input, output)
     }
 
     #[inline(always)]
     fn decode_unchecked(input: &[u8], output: &mut [u8]) {
-        loops::decode_digits_in_steps::<16, Lanes16, Lanes16>(input, output);
-    }
-}
-
-impl PairOps for Lanes16 {
-    // In a number of 64 bits, for which x86-64 takes two instructions.
-    #[inline(always)]
-    fn from_pair(first: u8, second: u8) -> u8x16
-        ensures { take 2 result ≡ first ∷ second ∷ [] }
-    {
-        u64x2::from_array([u64::from(u16::from_le_bytes([first, second])), 0]).to_le_bytes()
+        by_length::decode_digits::<16, Lanes16, Lanes16>(input, output);
     }
 }
 
 impl LaneOps<16> for Lanes16 {
     #[inline(always)]
     #[tactic(auto, using(std::proofs::lemmas::Simd::put_chunk_whole))]
-    fn write_digits(v: u8x16, upper: bool, second_row: bool, output: &mut [u8])
+    fn write_digits(v: u8x16, upper: bool, output: &mut [u8])
         requires { length output.old ≡ 32 }
         ensures { output.new ≡ hex_text upper v }
     {
-        encode_lanes(v, upper, second_row).copy_to_slice(output);
+        encode_lanes(v, upper).copy_to_slice(output);
     }
 
     // Constant time: this is a shuffle within a register, so no byte selects a memory address.
@@ -255,10 +197,10 @@ impl LaneOps<16> for Lanes16 {
     }
 
     #[inline(always)]
-    fn merge(first: u8x16, second: u8x16, second_row: bool) -> u8x16
+    fn merge(first: u8x16, second: u8x16) -> u8x16
         ensures { AllNibbles (first ++ second) → result ≡ byte_pairs (first ++ second) }
     {
-        pack(join(first, second), second_row)
+        pack(join(first, second))
     }
 
     // In lanes of 64 bits: for AArch64, LLVM joins those of 8 bits by five instructions more.
@@ -271,7 +213,7 @@ impl LaneOps<16> for Lanes16 {
 
     ghost use Rattle.std.proofs.Common.{arith};
 
-    ghost sizes = { (Prim.omega arith, Prim.omega arith) };
+    ghost sizes = { (Prim.omega arith, Prim.omega arith, Prim.omega arith) };
 }
 
 /// A vector in its halves.
@@ -285,11 +227,35 @@ pub(crate) fn in_two(v: u8x32) -> [u8x16; 2]
 
 /// Two digits for each lane, in order.
 #[inline(always)]
-pub(crate) fn encode_lanes(v: u8x16, upper: bool, second_row: bool) -> u8x32
+pub(crate) fn encode_lanes(v: u8x16, upper: bool) -> u8x32
     ensures { result ≡ hex_text upper v }
 {
-    let halves = split_lanes(v, factors_row(second_row));
-    in_both_halves(digits_row(upper, second_row)).swizzle_dyn_within::<16>(halves)
+    in_both_halves(digits_row(upper)).swizzle_dyn_within::<16>(split_lanes(v))
+}
+
+/// Two digits for each of the first 8 lanes, in order.
+#[inline(always)]
+pub(crate) fn encode_half(v: u8x16, upper: bool) -> u8x16
+    ensures { result ≡ hex_text upper (take 8 v) }
+{
+    u8x16::from_array(digits_row(upper)).swizzle_dyn(split_half(first_half(v)))
+}
+
+/// The first 8 lanes.
+#[inline(always)]
+fn first_half(v: u8x16) -> u8x8
+    ensures { result ≡ take 8 v }
+{
+    v.extract::<0, 8>()
+}
+
+/// As `split_lanes`, for 8 lanes.
+#[inline(always)]
+fn split_half(v: u8x8) -> u8x16
+    ensures { result ≡ halves_of v }
+{
+    let wide: u16x8 = v.cast();
+    ((wide * u16x8::splat(4097)) >> u16x8::splat(4)).to_le_bytes()
 }
 
 /// Both halves of each lane, the upper one first.
@@ -297,13 +263,11 @@ pub(crate) fn encode_lanes(v: u8x16, upper: bool, second_row: bool) -> u8x32
 // of which only the lower half fits: 0x00B4 becomes 0x40B4. Shifted right by 4 it is 0x040B, in
 // memory the bytes 0x0B and 0x04: the upper half first.
 #[inline(always)]
-pub(crate) fn split_lanes(v: u8x16, factors: [u8; 16]) -> u8x32
-    requires { factors ≡ bytes_of_4097 }
+pub(crate) fn split_lanes(v: u8x16) -> u8x32
     ensures { result ≡ halves_of v }
 {
     let wide: u16x16 = v.cast();
-    let halves = (wide * u16x16::from_le_bytes(in_both_halves(factors))) >> u16x16::splat(4);
-    halves.to_le_bytes()
+    ((wide * u16x16::splat(4097)) >> u16x16::splat(4)).to_le_bytes()
 }
 
 /// Decodes the lanes of a text, and says whether each of these lanes is a digit. If one is not, the
@@ -316,7 +280,7 @@ fn decode_flagged(text: [u8x16; 2]) -> (u8x16, bool)
     ensures spells { IsTrue result.1 → Spells (concat text) result.0 }
 {
     let marks = lanes::joint_marks::<16, Lanes16>(text[0], text[1]);
-    let bytes = lanes::decode::<16, Lanes16>(text[0], text[1], false);
+    let bytes = lanes::decode::<16, Lanes16>(text[0], text[1]);
     (bytes, Lanes16::are_unmarked(marks))
 }
 
@@ -339,10 +303,9 @@ pub(crate) fn join(first: u8x16, second: u8x16) -> u8x32
 // by 4097 = 0x1001, its upper byte is 16 * high + low: 0x040B becomes 0xB40B. The shift leaves
 // 0xB4.
 #[inline(always)]
-fn pack(nibbles: u8x32, second_row: bool) -> u8x16
+fn pack(nibbles: u8x32) -> u8x16
     ensures { AllNibbles nibbles → result ≡ byte_pairs nibbles }
 {
     let pairs = u16x16::from_le_bytes(nibbles);
-    let factors = u16x16::from_le_bytes(in_both_halves(factors_row(second_row)));
-    ((pairs * factors) >> u16x16::splat(8)).cast()
+    ((pairs * u16x16::splat(4097)) >> u16x16::splat(8)).cast()
 }

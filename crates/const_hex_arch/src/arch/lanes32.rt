@@ -9,7 +9,7 @@ ghost use Rattle.const_hex_arch.specs.{hex_value, hex_text, AllDigits, Spells, A
 
 use crate::arch::lanes::{self, LaneOps};
 use crate::arch::lanes16::{self, Lanes16};
-use crate::arch::{Kernel, loops, small_input};
+use crate::arch::{Kernel, by_length};
 use std::simd::prelude::*;
 
 /// Two digits for each lane, in order: the text of the first 16 lanes, and the text of the last 16.
@@ -23,11 +23,9 @@ pub fn encode_chunk<const UPPER: bool>(v: u8x32) -> [u8x32; 2]
     ensures text { concat result ≡ hex_text UPPER v }
     ensures lanes { map length result ≡ 32 ∷ 32 ∷ [] }
 {
-    let first = lanes16::encode_lanes(v.extract::<0, 16>(), UPPER, false);
-    [
-        first,
-        lanes16::encode_lanes(v.extract::<16, 16>(), UPPER, false),
-    ]
+    let first = lanes16::encode_lanes(v.extract::<0, 16>(), UPPER);
+    let second = lanes16::encode_lanes(v.extract::<16, 16>(), UPPER);
+    [first, second]
 }
 
 /// Whether every lane is a digit.
@@ -105,69 +103,45 @@ impl Kernel for Lanes32 {
 
     const USE_CHECK_FN: bool = false;
 
-    ghost PIECE = { 64 };
-
     const PIECE: usize = 64;
 
     #[inline(always)]
     fn fill(input: &[u8], upper: bool, output: &mut [u8]) {
-        loops::fill_in_steps::<32, false, Lanes32, Lanes16>(input, upper, output);
-    }
-
-    #[inline(always)]
-    fn fill_upper(input: &[u8], output: &mut [u8]) {
-        loops::fill_in_steps::<32, true, Lanes32, Lanes16>(input, true, output);
+        by_length::fill::<32, Lanes32, Lanes16>(input, upper, output);
     }
 
     // Not `always`: `decode_body` calls `CheckFirst::<K>` in a branch that is never taken for this
     // kernel. With all of `check` in that branch, the decoders would be too large to be inlined.
     #[inline]
     fn check(input: &[u8]) -> bool {
-        if input.len() < 16 {
-            small_input::check::<Lanes16>(input)
-        } else if input.len() < 32 {
-            small_input::check_overlapping::<16, Lanes16>(input)
-        } else {
-            loops::check_in_steps::<32, Lanes32>(input)
-        }
+        by_length::check::<32, Lanes32, Lanes16>(input)
     }
 
     #[inline(always)]
     fn decode_checked(input: &[u8], output: &mut [u8]) -> bool {
-        loops::decode_in_steps::<32, true, Lanes32, Lanes16>(input, output)
+        by_length::decode_checked::<32, Lanes32, Lanes16>(input, output)
     }
 
-    // 17 to 32 bytes are a step of the first and of the last 32 characters, and up to 64 bytes the first and the last
-    // step.
     #[inline(always)]
-    #[tactic(auto, using(crate::proofs::lemmas::FirstInvalid::none_decoded))]
     fn decode_all(input: &[u8], output: &mut [u8]) -> bool {
-        if output.len() <= 16 {
-            small_input::decode_short::<Lanes16>(input, output)
-        } else if output.len() <= 32 {
-            small_input::decode_ends::<16, 32, 32, 64, Lanes32>(input, output)
-        } else if output.len() <= 64 {
-            small_input::decode_overlapping::<32, Lanes32>(input, output)
-        } else {
-            loops::decode_long::<32, false, false, Lanes32, Lanes16>(input, output)
-        }
+        by_length::decode::<32, Lanes32, Lanes16>(input, output)
     }
 
     #[inline(always)]
     fn decode_unchecked(input: &[u8], output: &mut [u8]) {
-        loops::decode_digits_in_steps::<32, Lanes32, Lanes16>(input, output);
+        by_length::decode_digits::<32, Lanes32, Lanes16>(input, output);
     }
 }
 
 impl LaneOps<32> for Lanes32 {
     #[inline(always)]
-    fn write_digits(v: u8x32, upper: bool, second_row: bool, output: &mut [u8])
+    fn write_digits(v: u8x32, upper: bool, output: &mut [u8])
         requires { length output.old ≡ 64 }
         ensures { output.new ≡ hex_text upper v }
     {
         let (front, back) = output.split_at_mut(32);
-        Lanes16::write_digits(v.extract::<0, 16>(), upper, second_row, front);
-        Lanes16::write_digits(v.extract::<16, 16>(), upper, second_row, back);
+        Lanes16::write_digits(v.extract::<0, 16>(), upper, front);
+        Lanes16::write_digits(v.extract::<16, 16>(), upper, back);
     }
 
     // In halves of 16 lanes, for which the mask costs nothing. With AVX2 the compiler makes one shuffle
@@ -182,10 +156,10 @@ impl LaneOps<32> for Lanes32 {
     }
 
     #[inline(always)]
-    fn merge(first: u8x32, second: u8x32, second_row: bool) -> u8x32
+    fn merge(first: u8x32, second: u8x32) -> u8x32
         ensures { AllNibbles (first ++ second) → result ≡ byte_pairs (first ++ second) }
     {
-        pack(join(first, second), second_row)
+        pack(join(first, second))
     }
 
     // In lanes of 64 bits: for AArch64, LLVM joins those of 8 bits by five instructions more.
@@ -198,7 +172,7 @@ impl LaneOps<32> for Lanes32 {
 
     ghost use Rattle.std.proofs.Common.{arith};
 
-    ghost sizes = { (Prim.omega arith, Prim.omega arith) };
+    ghost sizes = { (Prim.omega arith, Prim.omega arith, Prim.omega arith) };
 }
 
 /// Decodes the lanes of a text, and says whether each of these lanes is a digit. If one is not, the
@@ -211,7 +185,7 @@ fn decode_flagged(text: [u8x32; 2]) -> (u8x32, bool)
     ensures spells { IsTrue result.1 → Spells (concat text) result.0 }
 {
     let marks = lanes::joint_marks::<32, Lanes32>(text[0], text[1]);
-    let bytes = lanes::decode::<32, Lanes32>(text[0], text[1], false);
+    let bytes = lanes::decode::<32, Lanes32>(text[0], text[1]);
     (bytes, Lanes32::are_unmarked(marks))
 }
 
@@ -235,11 +209,9 @@ fn join(first: u8x32, second: u8x32) -> u8x64
 // by 4097 = 0x1001, its upper byte is 16 * high + low: 0x040B becomes 0xB40B. The shift leaves
 // 0xB4.
 #[inline(always)]
-fn pack(nibbles: u8x64, second_row: bool) -> u8x32
+fn pack(nibbles: u8x64) -> u8x32
     ensures { AllNibbles nibbles → result ≡ byte_pairs nibbles }
 {
     let pairs = u16x32::from_le_bytes(nibbles);
-    let half = lanes16::in_both_halves(lanes16::factors_row(second_row));
-    let factors = u16x32::from_le_bytes(join(half, half));
-    ((pairs * factors) >> u16x32::splat(8)).cast()
+    ((pairs * u16x32::splat(4097)) >> u16x32::splat(8)).cast()
 }

@@ -33,8 +33,6 @@ impl<const PAIRS: bool> Kernel for ByteByByte<PAIRS> {
 
     const USE_CHECK_FN: bool = false;
 
-    ghost PIECE = { 1 };
-
     const PIECE: usize = 1;
 
     #[inline(always)]

@@ -7,26 +7,19 @@ use crate::std_shim::prelude::*;
 use crate::std_shim::simd::prelude::*;
 
 /// The operations that depend on the number of lanes `N`. Everything else in a kernel is written once,
-/// over this trait. The argument `second_row` never changes a result: it selects one of two equal rows, as
-/// [`lanes16::factors_row`](super::lanes16::factors_row) explains.
+/// over this trait.
 pub(crate) trait LaneOps<const N: usize> {
     /// Fills the output with two digits for each lane, in order.
-    fn write_digits(v: Simd<u8, N>, upper: bool, second_row: bool, output: &mut [u8]);
+    fn write_digits(v: Simd<u8, N>, upper: bool, output: &mut [u8]);
 
     /// The limit of each lane. If the lane is a digit, its value is at most the limit.
     fn look_up_limits(v: Simd<u8, N>) -> Simd<u8, N>;
 
     /// One byte for each two values, the higher half first.
-    fn merge(first: Simd<u8, N>, second: Simd<u8, N>, second_row: bool) -> Simd<u8, N>;
+    fn merge(first: Simd<u8, N>, second: Simd<u8, N>) -> Simd<u8, N>;
 
     /// Whether every mark has the bits 7, 6, 4 and 3 clear.
     fn are_unmarked(marks: Simd<u8, N>) -> bool;
-}
-
-/// How two bytes come into a vector, which depends on the processor.
-pub(crate) trait PairOps {
-    /// Both bytes in the first two lanes, and anything in the others.
-    fn from_pair(first: u8, second: u8) -> u8x16;
 }
 
 /// The value of each lane that is a digit, and more than 15 for every other lane.
@@ -88,9 +81,8 @@ pub(crate) fn joint_marks<const N: usize, V: LaneOps<N>>(
 pub(crate) fn decode<const N: usize, V: LaneOps<N>>(
     first: Simd<u8, N>,
     second: Simd<u8, N>,
-    second_row: bool,
 ) -> Simd<u8, N> {
-    V::merge(values::<N, V>(first), values::<N, V>(second), second_row)
+    V::merge(values::<N, V>(first), values::<N, V>(second))
 }
 
 /// As [`decode`], by [`unhex`], which looks up no limits, for lanes that were tested before.
@@ -98,7 +90,6 @@ pub(crate) fn decode<const N: usize, V: LaneOps<N>>(
 pub(crate) fn decode_digits<const N: usize, V: LaneOps<N>>(
     first: Simd<u8, N>,
     second: Simd<u8, N>,
-    second_row: bool,
 ) -> Simd<u8, N> {
-    V::merge(unhex(first), unhex(second), second_row)
+    V::merge(unhex(first), unhex(second))
 }

@@ -9,39 +9,8 @@ use crate::std_shim::simd::prelude::*;
 
 /// Fills the output with two digits for each byte of a step.
 #[inline(always)]
-pub(crate) fn fill_step<const N: usize, V: LaneOps<N>>(
-    bytes: &[u8],
-    upper: bool,
-    second_row: bool,
-    output: &mut [u8],
-) {
-    V::write_digits(Simd::from_slice(bytes), upper, second_row, output);
-}
-
-/// As `fill_step`, for the bytes of two steps.
-#[inline(always)]
-pub(crate) fn fill_two_steps<const N: usize, V: LaneOps<N>>(
-    bytes: &[u8],
-    upper: bool,
-    second_row: bool,
-    output: &mut [u8],
-) {
-    let (first, second) = bytes.split_at(N);
-    let (front, back) = output.split_at_mut(2 * N);
-    fill_step::<N, V>(first, upper, second_row, front);
-    fill_step::<N, V>(second, upper, second_row, back);
-}
-
-/// Packs the first `H` bytes and the last `H` bytes into an array of `N` bytes, and puts `fill`
-/// after them. Of `H` to `2 * H` bytes this has every one, some of them twice. So a short input
-/// takes one vector operation and no loop.
-#[inline(always)]
-pub(crate) fn load_ends<const H: usize, const N: usize>(bytes: &[u8], fill: u8) -> [u8; N] {
-    let mut step = [fill; N];
-    let lanes = &mut step[..];
-    lanes[..H].copy_from_slice(&bytes[..H]);
-    lanes[H..2 * H].copy_from_slice(&bytes[bytes.len() - H..]);
-    step
+pub(crate) fn fill_step<const N: usize, V: LaneOps<N>>(bytes: &[u8], upper: bool, output: &mut [u8]) {
+    V::write_digits(Simd::from_slice(bytes), upper, output);
 }
 
 /// Whether every byte of a step is a digit.
@@ -64,24 +33,11 @@ pub(crate) fn check_two_steps<const N: usize, V: LaneOps<N>>(text: &[u8]) -> boo
     V::are_unmarked(marks_of_two_steps::<N, V>(text))
 }
 
-/// As `check_step`, for the text of two steps and one more that need not follow them, by one test.
-#[inline(always)]
-pub(crate) fn check_three_steps<const N: usize, V: LaneOps<N>>(front: &[u8], last: &[u8]) -> bool {
-    let marks = lanes::marks::<N, V>(Simd::from_slice(last));
-    V::are_unmarked(marks_of_two_steps::<N, V>(front) | marks)
-}
-
-/// As `check_step`, for two texts of two steps that need not follow one another, by one test.
-#[inline(always)]
-pub(crate) fn check_two_pairs<const N: usize, V: LaneOps<N>>(front: &[u8], back: &[u8]) -> bool {
-    V::are_unmarked(marks_of_two_steps::<N, V>(front) | marks_of_two_steps::<N, V>(back))
-}
-
 /// As `check_step`, for the text of four steps, by one test.
 #[inline(always)]
 pub(crate) fn check_four_steps<const N: usize, V: LaneOps<N>>(text: &[u8]) -> bool {
     let (front, back) = text.split_at(2 * N);
-    check_two_pairs::<N, V>(front, back)
+    V::are_unmarked(marks_of_two_steps::<N, V>(front) | marks_of_two_steps::<N, V>(back))
 }
 
 /// Joined marks of the text of two steps. They are clear if and only if each byte is a digit.
@@ -93,14 +49,10 @@ fn marks_of_two_steps<const N: usize, V: LaneOps<N>>(text: &[u8]) -> Simd<u8, N>
 /// Decodes the text of a step into the output and returns true. If some byte is not a digit,
 /// returns false, and the output is unchanged.
 #[inline(always)]
-pub(crate) fn decode_step<const N: usize, V: LaneOps<N>>(
-    text: &[u8],
-    second_row: bool,
-    output: &mut [u8],
-) -> bool {
+pub(crate) fn decode_step<const N: usize, V: LaneOps<N>>(text: &[u8], output: &mut [u8]) -> bool {
     let are_digits = check_two_steps::<N, V>(text);
     if are_digits {
-        decode_vector::<N, V>(text, second_row).copy_to_slice(output);
+        decode_vector::<N, V>(text).copy_to_slice(output);
     }
     are_digits
 }
@@ -109,14 +61,13 @@ pub(crate) fn decode_step<const N: usize, V: LaneOps<N>>(
 #[inline(always)]
 pub(crate) fn decode_two_steps<const N: usize, V: LaneOps<N>>(
     text: &[u8],
-    second_row: bool,
     output: &mut [u8],
 ) -> bool {
     let are_digits = check_four_steps::<N, V>(text);
     if are_digits {
         let (text, next) = text.split_at(2 * N);
-        let first = decode_vector::<N, V>(text, second_row);
-        let second = decode_vector::<N, V>(next, second_row);
+        let first = decode_vector::<N, V>(text);
+        let second = decode_vector::<N, V>(next);
         let (front, back) = output.split_at_mut(N);
         first.copy_to_slice(front);
         second.copy_to_slice(back);
@@ -127,26 +78,13 @@ pub(crate) fn decode_two_steps<const N: usize, V: LaneOps<N>>(
 /// Decodes the digits of a step.
 // The test has already computed these values for the marks. The compiler merges both computations.
 #[inline(always)]
-pub(crate) fn decode_vector<const N: usize, V: LaneOps<N>>(
-    text: &[u8],
-    second_row: bool,
-) -> Simd<u8, N> {
-    lanes::decode::<N, V>(
-        Simd::from_slice(text),
-        Simd::from_slice(&text[N..]),
-        second_row,
-    )
+pub(crate) fn decode_vector<const N: usize, V: LaneOps<N>>(text: &[u8]) -> Simd<u8, N> {
+    lanes::decode::<N, V>(Simd::from_slice(text), Simd::from_slice(&text[N..]))
 }
 
 /// Decodes the digits of a step into the output.
 #[inline(always)]
-pub(crate) fn decode_digits_step<const N: usize, V: LaneOps<N>>(
-    text: &[u8],
-    second_row: bool,
-    output: &mut [u8],
-) {
+pub(crate) fn decode_digits_step<const N: usize, V: LaneOps<N>>(text: &[u8], output: &mut [u8]) {
     let first = Simd::from_slice(text);
-    lanes::decode_digits::<N, V>(first, Simd::from_slice(&text[N..]), second_row).copy_to_slice(
-        output,
-    );
+    lanes::decode_digits::<N, V>(first, Simd::from_slice(&text[N..])).copy_to_slice(output);
 }

@@ -44,12 +44,12 @@ pub(crate) const fn are_digits(first: u8, second: u8) -> bool {
 /// The error that names the first byte of a text's body that is not a digit, and its position in the
 /// whole text. The text must have an even length.
 #[inline(always)]
-pub(crate) fn find_invalid_character(text: &[u8], body: &[u8]) -> FromHexError {
+pub(crate) fn find_invalid_character<K: Kernel>(text: &[u8], body: &[u8]) -> FromHexError {
     let prefix = text.len() - body.len();
     if let Some(c) = invalid_first(body) {
         return FromHexError::InvalidHexCharacter { c, index: prefix };
     }
-    let (c, index) = locate_invalid(body);
+    let (c, index) = locate_invalid::<K>(body);
     FromHexError::InvalidHexCharacter {
         c,
         index: index + prefix,
@@ -69,8 +69,8 @@ pub(crate) fn invalid_first(text: &[u8]) -> Option<char> {
 // Not inlined: so the search stands once, and the public decoders stay small.
 #[cold]
 #[inline(never)]
-pub(crate) fn locate_invalid(text: &[u8]) -> (char, usize) {
-    let (byte, index) = find_first_bad(text);
+pub(crate) fn locate_invalid<K: Kernel>(text: &[u8]) -> (char, usize) {
+    let (byte, index) = find_first_bad::<K>(text);
     (byte as char, index)
 }
 
@@ -98,8 +98,8 @@ pub(crate) const fn invalid_character(byte: u8, index: usize) -> FromHexError {
 // A caller that has already seen an invalid character may get the latter, if another process has
 // removed it from shared memory in between. Nothing is read out of bounds then.
 #[inline(always)]
-pub(crate) fn find_first_bad(text: &[u8]) -> (u8, usize) {
-    let mut index = skip_digits(text);
+pub(crate) fn find_first_bad<K: Kernel>(text: &[u8]) -> (u8, usize) {
+    let mut index = skip_pairs(text, K::skip_digits(text));
     'digits: while index < text.len() {
         let byte = text[index];
         if value_at(byte) == NIL {
@@ -110,12 +110,12 @@ pub(crate) fn find_first_bad(text: &[u8]) -> (u8, usize) {
     (0, index)
 }
 
-/// Skips digits, two pairs per iteration while four bytes are left, and stops before the first pair
+/// Skips digits after the first ones, two pairs per iteration while four bytes are left, and stops before the first pair
 /// that has another byte. Returns the index there.
 // With the last index at which four bytes are left, LLVM needs no test of an index in Rust either.
 #[inline(always)]
-fn skip_digits(text: &[u8]) -> usize {
-    let mut index = 0;
+fn skip_pairs(text: &[u8], start: usize) -> usize {
+    let mut index = start;
     if text.len() >= 4 {
         let last = text.len() - 4;
         'fours: while index <= last {

@@ -25,7 +25,7 @@ pub fn check_with<K: Kernel>(input: &[u8]) -> Result<(), FromHexError> {
     if K::check(body) {
         Ok(())
     } else {
-        Err(find_invalid_character(input, body))
+        Err(find_invalid_character::<K>(input, body))
     }
 }
 

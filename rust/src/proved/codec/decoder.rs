@@ -84,7 +84,7 @@ impl Decoder {
             return Err(FromHexError::InvalidStringLength);
         }
         if !decode_next::<K>(waiting, digits, &mut output[..count]) {
-            return Err(self.fail(chunk.len() - digits.len(), digits));
+            return Err(self.fail::<K>(chunk.len() - digits.len(), digits));
         }
         self.advance(chunk.len(), left_over(waiting, digits, count));
         Ok(count)
@@ -101,7 +101,7 @@ impl Decoder {
         }
         let (waiting, digits) = self.next_digits(chunk);
         if !FixedKernel::check(digits) {
-            return Err(self.fail(chunk.len() - digits.len(), digits));
+            return Err(self.fail::<FixedKernel>(chunk.len() - digits.len(), digits));
         }
         let pairs = count_pairs(waiting, digits);
         self.advance(chunk.len(), left_over(waiting, digits, pairs));
@@ -180,8 +180,8 @@ impl Decoder {
     /// read.
     #[cold]
     #[inline]
-    fn fail(&mut self, skipped: usize, digits: &[u8]) -> FromHexError {
-        let (byte, index) = find_first_bad(digits);
+    fn fail<K: Kernel>(&mut self, skipped: usize, digits: &[u8]) -> FromHexError {
+        let (byte, index) = find_first_bad::<K>(digits);
         let index = self.index.saturating_add(skipped).saturating_add(index);
         *self = Decoder {
             index,

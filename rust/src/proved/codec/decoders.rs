@@ -22,17 +22,7 @@ use crate::proved::{FixedKernel, Kernel, value_at};
 /// Does not allocate.
 #[inline]
 pub fn decode_to_slice(input: &[u8], output: &mut [u8]) -> Result<(), FromHexError> {
-    let body = strip_even(input)?;
-    // As `decode_to_slice_with`, but for this test: `Plain` slices the input at the same product, so
-    // LLVM needs no other test of a length in Rust. The other function is called from C, too, where
-    // a caller may pass a length whose double overflows.
-    if body.len() != 2 * output.len() {
-        return Err(FromHexError::InvalidStringLength);
-    }
-    if !decode_body::<FixedKernel>(body, output) {
-        return Err(find_invalid_character(input, body));
-    }
-    Ok(())
+    decode_to_slice_with::<FixedKernel>(input, output)
 }
 
 /// As [`decode_to_slice`], by a kernel of the caller's choice. If the kernel checks a text before
@@ -44,7 +34,7 @@ pub fn decode_to_slice_with<K: Kernel>(input: &[u8], output: &mut [u8]) -> Resul
         return Err(FromHexError::InvalidStringLength);
     }
     if !decode_body::<K>(body, output) {
-        return Err(find_invalid_character(input, body));
+        return Err(find_invalid_character::<K>(input, body));
     }
     Ok(())
 }
@@ -82,7 +72,7 @@ pub fn decode_to_front_with<K: Kernel>(
         return Err(FromHexError::InvalidStringLength);
     }
     if !decode_body::<K>(body, &mut output[..count]) {
-        return Err(find_invalid_character(input, body));
+        return Err(find_invalid_character::<K>(input, body));
     }
     Ok(count)
 }

@@ -1,6 +1,6 @@
 use Rattle.std.proofs.Common.{◌*◌, length, rules}
 use Rattle.const_hex_arch.specs.{prefix_of}
-use Rattle.const_hex_arch.proofs.lemmas.Runs.{Writes-append, Writes_space, kernel_pieces}
+use Rattle.const_hex_arch.proofs.lemmas.Runs.{Writes-append, Writes_space}
 use Rattle.const_hex_arch.proofs.lemmas.Texts.{length-full_text}
 use Rattle.const_hex_arch.proofs.text.encode_full.Goals as goal
 
@@ -11,4 +11,4 @@ encode-requires g c =
     (2 * length c.args.input.now) c.write_prefix.ensures (rw sized at c.requires)
 
 pub returns : goal.returns
-returns g c = search (rules, Writes-append, kernel_pieces)
+returns g c = search (rules, Writes-append)

@@ -1,7 +1,7 @@
 use Rattle.std.proofs.Common.{◌≡◌, ℕ, Bool, List, [], ◌∷◌, ◌++◌, length, take, drop, sym, ap, ◌∙◌, refl, arith, IsAscii, Option}
 use Rattle.std.proofs.lemmas.List.{nil_from_length}
-use Rattle.const_hex_arch.specs.{less_space, piece_size, hex_text}
-use Rattle.const_hex_arch.proofs.lemmas.Runs.{HasSpace-fewer, no_pieces}
+use Rattle.const_hex_arch.specs.{less_space, hex_text}
+use Rattle.const_hex_arch.proofs.lemmas.Runs.{HasSpace-fewer, none_written}
 use Rattle.const_hex_arch.proofs.lemmas.Steps.{IsWritten, part_ascii, piece_written, two_bytes, parts}
 use Rattle.const_hex_arch.proofs.lemmas.Texts.{IsAscii-hex_text, hex_text-append, hex_text-nil, length-hex_text}
 use Rattle.const_hex_arch.proofs.arch.Kernel.encode.Goals as goal
@@ -29,8 +29,8 @@ write_byte-requires-clause-ascii g c =
     let halves = c.split_at.ensures in
     rw c.fill.ensures (front_ascii _ _ _ _ _ halves.front halves.back c.loop-rest.invariant.ascii 0)
 
-pub write_byte-requires-then-PIECE-lt2-clause-ascii : goal.write_byte-requires-then-PIECE-lt2-clause-ascii
-write_byte-requires-then-PIECE-lt2-clause-ascii g c =
+pub write_byte-requires-then-size-lt2-clause-ascii : goal.write_byte-requires-then-size-lt2-clause-ascii
+write_byte-requires-then-size-lt2-clause-ascii g c =
     let halves = c.split_at.ensures in
     rw c.fill.ensures (front_ascii _ _ _ _ _ halves.front halves.back c.loop-rest.invariant.ascii 1)
 
@@ -41,44 +41,39 @@ pub write_byte-requires-clause-fits : goal.write_byte-requires-clause-fits
 write_byte-requires-clause-fits g c = grind (arith, HasSpace-fewer, length-hex_text)
 
 -- the first of two digits is written
-first_digit : {S : Type 0} {n : ℕ} {step : S → List ℕ → S → Type 0} {space : S → Option ℕ} {text all pair : List ℕ}
+first_digit : {S : Type 0} {step : S → List ℕ → S → Type 0} {space : S → Option ℕ} {text all pair : List ℕ}
     {old mid new : S} (a b : ℕ) (rest : List ℕ)
     → ((s : S) (p : List ℕ) (t : S) → step s p t → space t ≡ less_space (space s) (length p))
-    → IsWritten n step space text old mid all → pair ++ rest ≡ all → pair ≡ a ∷ b ∷ [] → step mid (a ∷ []) new
-    → n ≡ 1 → IsWritten n step space text old new (b ∷ rest)
-first_digit a b rest shrinks d whole two h one =
-    piece_written (a ∷ []) (b ∷ rest) shrinks d (rw two at whole) h (omega (arith, one)) (omega arith) (omega (arith, one))
-    (λ less. absurd (omega (arith, one, less)))
+    → IsWritten step space text old mid all → pair ++ rest ≡ all → pair ≡ a ∷ b ∷ [] → step mid (a ∷ []) new
+    → IsWritten step space text old new (b ∷ rest)
+first_digit a b rest shrinks d whole two h =
+    piece_written (a ∷ []) (b ∷ rest) shrinks d (rw two at whole) h (omega arith) (omega arith)
 
-pub write_byte-requires-then-PIECE-lt2-clause-fits : goal.write_byte-requires-then-PIECE-lt2-clause-fits
-write_byte-requires-then-PIECE-lt2-clause-fits g c =
+pub write_byte-requires-then-size-lt2-clause-fits : goal.write_byte-requires-then-size-lt2-clause-fits
+write_byte-requires-then-size-lt2-clause-fits g c =
     grind (arith, length-hex_text, two_bytes, first_digit, cut, HasSpace-fewer)
 
-pub loop-rest-preserved-then-PIECE-lt2 : goal.loop-rest-preserved-then-PIECE-lt2
-loop-rest-preserved-then-PIECE-lt2 g c =
+pub loop-rest-preserved-then-size-lt2 : goal.loop-rest-preserved-then-size-lt2
+loop-rest-preserved-then-size-lt2 g c =
     let up = c.args.upper in
     let halves = c.split_at.ensures in
-    let small = rw c.PIECE-in-loop-rest.ensures at c.if-PIECE-lt2.true in
-    let most = rw c.PIECE.ensures at c.clamp.ensures in
+    let small = c.if-size-lt2.true in
+    let most = c.clamp.ensures in
     let part = ap length c.fill.ensures ∙ length-hex_text up c.split_at.result.0.now in
     let two = two_bytes c.fill.new.output (grind (arith, part, most, small)) in
-    let one : piece_size g.Self.Kernel.PIECE ≡ 1 = grind (arith, small) in
     let first = first_digit _ _ _ g.met.O.Output.shrinks c.loop-rest.invariant
-    (cut up _ _ _ _ halves.front halves.back) (sym c.fill.ensures ∙ two) c.write_byte.ensures one in
-    piece_written _ _ g.met.O.Output.shrinks first refl c.write_byte-then-PIECE-lt2.ensures (omega (arith, one))
-    (omega arith) (omega (arith, one)) (λ less. absurd (omega (arith, one, less)))
+    (cut up _ _ _ _ halves.front halves.back) (sym c.fill.ensures ∙ two) c.write_byte.ensures in
+    piece_written _ _ g.met.O.Output.shrinks first refl c.write_byte-then-size-lt2.ensures (omega arith) (omega arith)
 
 pub loop-rest-preserved : goal.loop-rest-preserved
 loop-rest-preserved g c =
     let up = c.args.upper in
     let halves = c.split_at.ensures in
     let part = length-hex_text up c.split_at.result.0.now in
-    let most = rw c.PIECE.ensures at c.clamp.ensures in
-    let long = rw c.PIECE-in-loop-rest.ensures at c.if-PIECE-lt2.false in
+    let most = c.clamp.ensures in
     piece_written (hex_text up c.split_at.result.0.now) _ g.met.O.Output.shrinks c.loop-rest.invariant
-    (cut up _ _ _ _ halves.front halves.back) (rw c.fill.ensures at c.write.ensures) (grind (arith, long))
-    (omega (arith, part, most)) (grind (arith, part, most, long))
-    (λ less. let none = nil_from_length c.split_at.result.1.now (grind (arith, part, most, long)) in rw (none, hex_text-nil) refl)
+    (cut up _ _ _ _ halves.front halves.back) (rw c.fill.ensures at c.write.ensures) (grind (arith, part, most))
+    (omega (arith, part, most))
 
 pub returns : goal.returns
-returns g c = grind (arith, nil_from_length, hex_text-nil, no_pieces)
+returns g c = grind (arith, nil_from_length, hex_text-nil, none_written)

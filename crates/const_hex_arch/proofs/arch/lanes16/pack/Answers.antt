@@ -2,4 +2,4 @@ use Rattle.const_hex_arch.proofs.lemmas.LaneValues.{merge_all}
 use Rattle.const_hex_arch.proofs.arch.lanes16.pack.Goals as goal
 
 pub returns : goal.returns
-returns c = rw (c.in_both_halves-factors.ensures, c.factors_row.ensures) (merge_all 16 c.args.nibbles c.fits-nibbles.0)
+returns c = merge_all 16 c.args.nibbles c.fits-nibbles.0

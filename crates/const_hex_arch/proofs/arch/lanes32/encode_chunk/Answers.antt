@@ -4,4 +4,4 @@ use Rattle.const_hex_arch.proofs.arch.lanes32.encode_chunk.Goals as goal
 
 pub returns-clause-text : goal.returns-clause-text
 returns-clause-text g c =
-    rw append-nil (text_of_halves 16 _ c.args.v _ _ c.fits-v.0 c.encode_lanes-first.ensures c.encode_lanes.ensures)
+    rw append-nil (text_of_halves 16 _ c.args.v _ _ c.fits-v.0 c.encode_lanes-first.ensures c.encode_lanes-second.ensures)

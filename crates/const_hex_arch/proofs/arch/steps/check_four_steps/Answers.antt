@@ -1,5 +1,10 @@
+use Rattle.std.proofs.Common.{arith}
+use Rattle.const_hex_arch.proofs.lemmas.LaneMarks.{joint_test}
+use Rattle.const_hex_arch.proofs.lemmas.Standard.{through}
 use Rattle.const_hex_arch.proofs.lemmas.Steps.{parts}
 use Rattle.const_hex_arch.proofs.arch.steps.check_four_steps.Goals as goal
 
 pub returns : goal.returns
-returns g c = rw (parts _ c.split_at.ensures.front c.split_at.ensures.back) at c.check_two_pairs.ensures
+returns g c =
+    let test = joint_test _ _ _ _ (omega arith) c.marks_of_two_steps.ensures c.marks_of_two_steps-2.ensures in
+    rw (parts _ c.split_at.ensures.front c.split_at.ensures.back) at (through c.are_unmarked.ensures test)

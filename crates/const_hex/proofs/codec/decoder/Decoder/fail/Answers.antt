@@ -3,7 +3,7 @@ use Rattle.const_hex.specs.Prelude.{counted, position_of}
 use Rattle.const_hex.proofs.codec.decoder.Decoder.fail.Goals as goal
 
 pub returns-clause-names : goal.returns-clause-names
-returns-clause-names c = λ n.
+returns-clause-names g c = λ n.
     let h = c.find_first_bad-byte.ensures in
     let p = c.find_first_bad-byte.result.1 in
     let index : c.saturating_add-index.result ≡ counted (position_of c.args.self.now + c.args.skipped + p) =

@@ -1,0 +1,77 @@
+# Tests of portable.c.
+set(PORTABLE ${PROJECT_SOURCE_DIR}/portable.c)
+# With what finds a read or a write outside, and what C does not define.
+set(SANITIZE -fsanitize=address,undefined -fno-sanitize-recover=all)
+foreach(name check table)
+  program(sanitized_${name} ${name}.c ${SANITIZE})
+  target_sources(sanitized_${name} PRIVATE ${PORTABLE})
+  target_compile_options(sanitized_${name} PRIVATE ${SANITIZE})
+  tests_of(sanitized.${name} sanitized_${name} 16)
+endforeach()
+# Each compiler takes it without a warning, for a system or for none.
+foreach(row cc clang x86_64-w64-mingw32-gcc "arm-none-eabi-gcc -mcpu=cortex-m0 -ffreestanding")
+  separate_arguments(row)
+  list(GET row 0 compiler)
+  test(compiled_by.${compiler} NEEDS ${compiler} COMMAND ${row} -std=c99 ${WARNINGS} -Wconversion -c ${PORTABLE}
+    -o ${compiler}.o)
+endforeach()
+
+# portable.c with another text in place of one, as a file of this name.
+function(mutant name from to)
+  file(READ ${PORTABLE} code)
+  string(REPLACE "${from}" "${to}" wrong "${code}")
+  if(wrong STREQUAL code)
+    message(FATAL_ERROR "portable.c does not have: ${from}")
+  endif()
+  file(WRITE ${HERE}/${name}.c "${wrong}")
+endfunction()
+
+# No branch and no address depends on a secret byte or digit.
+find_path(MEMCHECK valgrind/memcheck.h)
+function(constant_time name source)
+  if(NOT MEMCHECK)
+    test(constant_time.${name} NEEDS valgrind/memcheck.h)
+    return()
+  endif()
+  program(constant_time_${name} constant_time.c)
+  target_compile_definitions(constant_time_${name} PRIVATE PORTABLE="${source}")
+  target_compile_options(constant_time_${name} PRIVATE -gdwarf-4)
+  test(constant_time.${name} NEEDS valgrind COMMAND valgrind -q --expensive-definedness-checks=yes --error-exitcode=9
+    $<TARGET_FILE:constant_time_${name}> PROPERTIES ${ARGN})
+endfunction()
+constant_time(portable ${PORTABLE})
+set(NAMED PASS_REGULAR_EXPRESSION "depends on uninitialised|Use of uninitialised")
+mutant(table "unsigned is_letter =" "return \"0123456789abcdef0123456789ABCDEF\"[value + 16 * upper];\n  unsigned is_letter =")
+mutant(branch "unsigned decimal =" "if (byte <= '9') return byte - '0';\n  unsigned decimal =")
+mutant(prefix "unsigned pair =" "if (first != '0') return false;\n  unsigned pair =")
+foreach(name table branch prefix)
+  constant_time(${name} ${HERE}/${name}.c ${NAMED})
+endforeach()
+
+# Frama-C proves each function, with pointers of 64 and of 32 bits, and not a mutant. It takes gcc's preprocessor.
+if(NOT CMAKE_C_COMPILER_ID STREQUAL GNU)
+  return()
+endif()
+function(proof name result source machine)
+  list(JOIN ARGN " " options)
+  test(proof.${name} NEEDS frama-c why3 cvc4 z3 COMMAND bash -ec "export WHY3CONFIG=$PWD/proof.${name}.conf
+    why3 config detect > proof.${name}.txt
+    frama-c -machdep ${machine} -cpp-extra-args='-I${PROJECT_SOURCE_DIR}' -wp -wp-rte -warn-unsigned-overflow \
+      -wp-model Typed+Cast -wp-prover cvc4,z3 ${options} ${source} | grep -v ' : Valid' | tee proof.${name}.txt
+    if grep -qE 'Proved goals: +([0-9]+) / \\1$' proof.${name}.txt; then echo 'All are proved.'
+    elif grep -q 'Proved goals:' proof.${name}.txt; then echo 'Some are not proved.'; fi"
+    PROPERTIES TIMEOUT 1800 PASS_REGULAR_EXPRESSION "${result} proved")
+endfunction()
+proof(64_bits "All are" ${PORTABLE} gcc_x86_64 -wp-timeout 60)
+proof(32_bits "All are" ${PORTABLE} gcc_x86_32 -wp-timeout 60)
+function(unproved function from to)
+  mutant(${function} "${from}" "${to}")
+  proof(mutant_${function} "Some are not" ${HERE}/${function}.c gcc_x86_64 -wp-fct ${function} -wp-timeout 3)
+endfunction()
+unproved(digit "39 * is_letter" "38 * is_letter")
+unproved(value_of_byte "'f' + 1" "'g' + 1")
+unproved(is_prefix " || PUBLIC(pair == 256u * '0' + 'X')" "")
+unproved(fill "/ 16u" "% 16u")
+unproved(read_pairs "high > 15 ? position : position + 1" "position")
+unproved(const_hex_decode_exact "text_length % 2 == 1" "text_length % 2 == 2")
+unproved(write_ended "count < size - 1" "count < size")

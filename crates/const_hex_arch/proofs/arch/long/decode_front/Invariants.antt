@@ -1,0 +1,15 @@
+use Rattle.std.proofs.Common.{◌-◌, length}
+use Rattle.const_hex_arch.proofs.lemmas.Steps.{IsDecoded}
+use Rattle.const_hex_arch.proofs.arch.long.decode_front.Given as goal
+
+abbrev pub invariant-loop-output : goal.invariant-loop-output
+invariant-loop-output g l = IsDecoded l.text l.fn.output l.output l.at
+
+abbrev pub decreases-loop-output : goal.decreases-loop-output
+decreases-loop-output g l = length l.output - l.at
+
+abbrev pub invariant-loop-output-2 : goal.invariant-loop-output-2
+invariant-loop-output-2 g l = IsDecoded l.text l.fn.output l.output l.at
+
+abbrev pub decreases-loop-output-2 : goal.decreases-loop-output-2
+decreases-loop-output-2 g l = length l.output - l.at

@@ -1,9 +1,0 @@
-use Rattle.std.proofs.Common.{◌-◌, length}
-use Rattle.const_hex_arch.proofs.lemmas.Steps.{IsDecoded}
-use Rattle.const_hex_arch.proofs.arch.loops.decode_digits_in_steps.Given as goal
-
-abbrev pub invariant-loop-output : goal.invariant-loop-output
-invariant-loop-output g l = IsDecoded l.input l.initial.output l.output l.at
-
-abbrev pub decreases-loop-output : goal.decreases-loop-output
-decreases-loop-output g l = length l.output - l.at

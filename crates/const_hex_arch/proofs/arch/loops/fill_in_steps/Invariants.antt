@@ -1,9 +1,0 @@
-use Rattle.std.proofs.Common.{◌-◌, length}
-use Rattle.const_hex_arch.proofs.lemmas.Ends.{IsFilled}
-use Rattle.const_hex_arch.proofs.arch.loops.fill_in_steps.Given as goal
-
-abbrev pub invariant-loop-at : goal.invariant-loop-at
-invariant-loop-at g l = IsFilled l.upper l.input l.output l.at
-
-abbrev pub decreases-loop-at : goal.decreases-loop-at
-decreases-loop-at g l = length l.input - l.at

@@ -1,0 +1,11 @@
+use Rattle.std.proofs.Common.{◌-◌, ◌*◌, length, arith}
+use Rattle.const_hex_arch.proofs.lemmas.Ends.{IsFilled, none_filled, filled_step, filled_less, filled_rest}
+use Rattle.const_hex_arch.proofs.arch.short.fill_ends.Goals as goal
+
+pub returns : goal.returns
+returns g c =
+    let n = g.row.H in
+    let first : IsFilled c.args.upper c.args.bytes.now _ n =
+    filled_step _ n (2 * n) (none_filled c.requires.size) (omega arith) (omega arith) (omega arith)
+    c.fill_end.ensures in
+    filled_rest _ (filled_less (length c.args.bytes.now - n) first (omega arith)) c.fill_end-2.ensures

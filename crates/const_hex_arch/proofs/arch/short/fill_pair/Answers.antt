@@ -1,0 +1,10 @@
+use Rattle.std.proofs.Common.{◌-◌, length, refl, arith}
+use Rattle.std.proofs.lemmas.List.{take_rest}
+use Rattle.const_hex_arch.proofs.lemmas.Ends.{ends_filled}
+use Rattle.const_hex_arch.proofs.arch.short.fill_pair.Goals as goal
+
+pub returns : goal.returns
+returns g c =
+    let start = length c.args.bytes.now - g.row.N in
+    ends_filled c.args.upper g.row.N start _ c.args.bytes.now _ _ _ c.requires.size c.requires.least (omega arith) refl
+    (rw take_rest at c.fill_step.ensures) c.fill_step-2.ensures

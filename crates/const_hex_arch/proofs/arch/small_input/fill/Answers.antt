@@ -1,7 +1,0 @@
-use Rattle.std.proofs.Common.{arith}
-use Rattle.std.proofs.lemmas.List.{nil_from_length}
-use Rattle.const_hex_arch.proofs.lemmas.Texts.{hex_text-nil}
-use Rattle.const_hex_arch.proofs.arch.small_input.fill.Goals as goal
-
-pub returns-else-bytes-ge2 : goal.returns-else-bytes-ge2
-returns-else-bytes-ge2 g c = grind (arith, nil_from_length, hex_text-nil)

@@ -1,0 +1,165 @@
+"""Files that ordinary tools make of honest builds are read, and what such a build gets wrong is
+rejected, by a message that says what to do."""
+
+import pathlib
+
+import build
+import pytest
+from build import (
+    AARCH64,
+    CLANG,
+    X86_64,
+    for_macos,
+    for_windows,
+    for_windows_on_aarch64,
+    made,
+    objects,
+    run,
+    shared,
+)
+from contracts.names import FUNCTIONS
+from execution import proofs
+from reading import library
+
+VERSIONS = "V1 { global: const_hex_*; local: *; };"
+UNSHARED = "V1 { global: const_hex_*; local: const_hex_check_raw; };"
+OLD_VERSION = ".globl other; .symver other, const_hex_check@V0; other: ret"
+TEXT_RELOCATION = ".data; value: .quad 0; .text; .quad value"
+
+
+def so(*options, **how):
+    return lambda folder: shared(folder, *options, **how)
+
+
+def program(*options, **how):
+    return lambda folder: build.program(folder, *options, **how)
+
+
+def with_source(text, *options, script=""):
+    """The library with more of a source, and a script of versions."""
+
+    def make(folder):
+        pathlib.Path(folder, "more.s").write_text(text.replace("; ", "\n") + "\n")
+        pathlib.Path(folder, "version.map").write_text(script)
+        scripts = ["-Wl,--version-script=version.map"] if script else []
+        return shared(folder, "more.s", *scripts, *options)
+
+    return make
+
+
+def after(*command, of=so()):
+    """A file that a command has changed, which takes its name last."""
+
+    def make(folder):
+        file = of(folder)
+        run(*command, file)
+        return file
+
+    return make
+
+
+def archive(folder):
+    run("ar", "rc", "made", *objects(X86_64)[1], folder=folder)
+    return pathlib.Path(folder, "made")
+
+
+def importer(folder):
+    """A program that takes the library from another file."""
+    shared(folder, "-Wl,-soname,libconst_hex.so.1").rename(folder / "libconst_hex.so")
+    (folder / "main.c").write_bytes(build.PROGRAM)
+    return made(X86_64, "main.c", "libconst_hex.so", folder=folder)
+
+
+RUNPATH = "patchelf", "--set-rpath", "/a/path/that/is/longer/than/any/space/that/a/linker/leaves"
+ARM_SO = so(compiler=AARCH64)
+HONEST = {
+    "a library": so(),
+    **{f"a library by {linker}": so(f"-fuse-ld={linker}") for linker in ("gold", "lld", "mold")},
+    "a library with packed relocations": so("-Wl,-z,pack-relative-relocs"),
+    "a library with unique symbols": so("-Wl,-z,unique-symbol"),
+    "a library that dlopen refuses": so("-Wl,-z,nodlopen,-z,initfirst,-z,interpose"),
+    "symbol versions": with_source("", script=VERSIONS),
+    "default symbol versions": so("-Wl,--default-symver"),
+    "patchelf": after(*RUNPATH),
+    "a program": program(),
+    "a program without PIE": program("-no-pie"),
+    "a static program with PIE": program("-static-pie"),
+    "a program by lld": program("-fuse-ld=lld", "-Wl,--icf=all"),
+    "a program by mold": program("-fuse-ld=mold", "-Wl,-z,lazy"),
+    "AArch64": ARM_SO,
+    "AArch64 and patchelf": after(*RUNPATH, of=ARM_SO),
+    "a program for AArch64 by lld": program("-fuse-ld=lld", command=CLANG, compiler=AARCH64),
+    "a program for AArch64 by mold": program("-fuse-ld=mold", command=CLANG, compiler=AARCH64),
+    "macOS on x86-64": lambda folder: for_macos(folder, "x86_64"),
+    "macOS on AArch64": lambda folder: for_macos(folder, "arm64"),
+    "Windows on AArch64": for_windows_on_aarch64,
+}
+STRIPPED = "it is stripped: .* Use neither strip nor strip -x"
+MISTAKES = {
+    "strip": (after("strip"), STRIPPED),
+    "strip -x": (after("strip", "-x"), STRIPPED),
+    "strip -x of a program": (after("strip", "-x", of=program()), STRIPPED),
+    "strip of a program": (after("strip", of=program()), "keep its symbol table"),
+    "a file of debug information": (
+        after("objcopy", "--only-keep-debug"),
+        "a file of debug information: prove the file that runs",
+    ),
+    "code that can be written": (so("-Wl,-N"), "code that can be written: link without -N"),
+    "text relocations": (with_source(TEXT_RELOCATION, "-Wl,-z,notext"), "compile .* with -fPIC"),
+    "IBT": (so("-Wl,-z,ibt"), "link without -z ibt"),
+    "BTI": (so("-Wl,-z,force-bti", compiler=AARCH64), "link without .* -z force-bti"),
+    "pages of 4 KB": (
+        so("-Wl,-z,max-page-size=4096", compiler=AARCH64),
+        "link with -z max-page-size=65536",
+    ),
+    "a function that is not exported": (
+        with_source("", script=UNSHARED),
+        "the loader does not find const_hex_check_raw: export",
+    ),
+    "two versions of a function": (
+        with_source(OLD_VERSION, script=VERSIONS + "V0 {};"),
+        "const_hex_check has two addresses: link one version",
+    ),
+    "IFUNC": (
+        with_source(
+            ".globl const_hex_x; .type const_hex_x, %gnu_indirect_function; const_hex_x: ret"
+        ),
+        r"const_hex_x is chosen by the loader \(IFUNC\)",
+    ),
+    "an absolute symbol": (
+        with_source(".globl const_hex_x; const_hex_x = 65536"),
+        r"const_hex_x is .* absolute \(SHN_ABS\)",
+    ),
+    "a program that takes the library from another file": (
+        importer,
+        "it calls const_hex_.* prove the shared library, such as libconst_hex.so",
+    ),
+    "functions for C on Windows": (for_windows, "by another ABI, which is not proved"),
+    "an archive": (archive, "an archive has to be linked"),
+    "an object": (lambda folder: pathlib.Path(objects(X86_64)[1][0]), "an object has to be linked"),
+    "a program without the library": (
+        lambda folder: pathlib.Path("/bin/true"),
+        "it has no function of",
+    ),
+}
+
+
+@pytest.mark.parametrize("make", HONEST.values(), ids=HONEST)
+def test_honest_builds_are_read(make, tmp_path):
+    file, contracts = proofs.functions_of(make(tmp_path).read_bytes())
+    assert {f"const_hex_{name}" for name in FUNCTIONS} <= file.symbols.keys()
+    assert len(contracts) == (44 if file.machine == 62 else 36)
+    assert all(file.code_at(file.symbols[name]) for name, _ in contracts)
+    assert [file.is_kept(address) for address in file.choices] == [True] * (file.machine == 62)
+
+
+def test_a_dll_is_read(tmp_path):
+    file, contracts = proofs.functions_of(build.kernels_for_windows(tmp_path).read_bytes())
+    assert len(contracts) == 12
+    assert all(map(file.is_kept, file.choices)) and len(file.choices) == 1
+
+
+@pytest.mark.parametrize("make, message", MISTAKES.values(), ids=MISTAKES)
+def test_mistakes_are_rejected(make, message, tmp_path):
+    with pytest.raises(ValueError, match=message):
+        proofs.functions_of(make(tmp_path).read_bytes())
