@@ -3,7 +3,7 @@
 ghost use Rattle.std.specs.Prelude.{◌≡◌, Bool, ◌*◌, ◌≤◌, ◌↔◌, IsTrue, true, false, length, take};
 ghost use Rattle.const_hex_arch.specs.{HasSpace, Writes, hex_text, AllDigits, Spells, Partial};
 
-mod by_length;
+pub mod by_length;
 pub mod check_first;
 pub mod interleaved;
 mod lanes;

@@ -4,10 +4,9 @@ ghost use Rattle.std.specs.Prelude.{◌≡◌, ◌↔◌, [], ◌∷◌, ◌*◌
 ghost use Rattle.std.specs.List.{AllZip, concat};
 ghost use Rattle.const_hex_arch.specs.{hex_text, AllNibbles, AllUnmarked, byte_pairs, IsLimitOf};
 
-use crate::arch::lanes::LaneOps;
-use crate::arch::lanes16::{self, Lanes16};
-use crate::arch::lanes32::Lanes32;
-use crate::arch::{Kernel, by_length};
+use crate::arch::by_length::ByLength;
+use crate::arch::lanes::{LaneOps, Multiplying};
+use crate::arch::lanes16;
 use std::simd::prelude::*;
 
 /// As [`Lanes32`], for a processor that interleaves the lanes of two vectors by one instruction.
@@ -17,44 +16,13 @@ use std::simd::prelude::*;
 /// assert!(rt; Interleaved::decode_checked(b"6b697769", &mut bytes));
 /// assert_eq!(rt; bytes, *b"kiwi");
 /// ```
+pub type Interleaved = ByLength<32, Interleaving>;
+
+/// The operations on vectors, by instructions that interleave lanes.
 #[derive(Drop)]
-pub struct Interleaved;
+pub struct Interleaving;
 
-impl Kernel for Interleaved {
-    ghost USE_CHECK_FN = { false };
-
-    const USE_CHECK_FN: bool = false;
-
-    const PIECE: usize = 64;
-
-    #[inline(always)]
-    fn fill(input: &[u8], upper: bool, output: &mut [u8]) {
-        by_length::fill::<32, Interleaved, Interleaved>(input, upper, output);
-    }
-
-    // Not `always`, as in `Lanes32`.
-    #[inline]
-    fn check(input: &[u8]) -> bool {
-        by_length::check::<32, Interleaved, Interleaved>(input)
-    }
-
-    #[inline(always)]
-    fn decode_checked(input: &[u8], output: &mut [u8]) -> bool {
-        by_length::decode_checked::<32, Interleaved, Interleaved>(input, output)
-    }
-
-    #[inline(always)]
-    fn decode_all(input: &[u8], output: &mut [u8]) -> bool {
-        by_length::decode::<32, Interleaved, Interleaved>(input, output)
-    }
-
-    #[inline(always)]
-    fn decode_unchecked(input: &[u8], output: &mut [u8]) {
-        by_length::decode_digits::<32, Interleaved, Interleaved>(input, output);
-    }
-}
-
-impl LaneOps<16> for Interleaved {
+impl LaneOps<16> for Interleaving {
     #[inline(always)]
     fn write_digits(v: u8x16, upper: bool, output: &mut [u8])
         requires { length output.old ≡ 32 }
@@ -71,7 +39,7 @@ impl LaneOps<16> for Interleaved {
     fn look_up_limits(v: u8x16) -> u8x16
         ensures { AllZip IsLimitOf v result }
     {
-        Lanes16::look_up_limits(v)
+        <Multiplying as LaneOps<16>>::look_up_limits(v)
     }
 
     #[inline(always)]
@@ -87,7 +55,7 @@ impl LaneOps<16> for Interleaved {
     fn are_unmarked(marks: u8x16) -> bool
         ensures { IsTrue result ↔ AllUnmarked marks }
     {
-        Lanes16::are_unmarked(marks)
+        <Multiplying as LaneOps<16>>::are_unmarked(marks)
     }
 
     ghost use Rattle.std.proofs.Common.{arith};
@@ -95,22 +63,22 @@ impl LaneOps<16> for Interleaved {
     ghost sizes = { (Prim.omega arith, Prim.omega arith, Prim.omega arith) };
 }
 
-impl LaneOps<32> for Interleaved {
+impl LaneOps<32> for Interleaving {
     #[inline(always)]
     fn write_digits(v: u8x32, upper: bool, output: &mut [u8])
         requires { length output.old ≡ 64 }
         ensures { output.new ≡ hex_text upper v }
     {
         let (front, back) = output.split_at_mut(32);
-        <Interleaved as LaneOps<16>>::write_digits(v.extract::<0, 16>(), upper, front);
-        <Interleaved as LaneOps<16>>::write_digits(v.extract::<16, 16>(), upper, back);
+        <Interleaving as LaneOps<16>>::write_digits(v.extract::<0, 16>(), upper, front);
+        <Interleaving as LaneOps<16>>::write_digits(v.extract::<16, 16>(), upper, back);
     }
 
     #[inline(always)]
     fn look_up_limits(v: u8x32) -> u8x32
         ensures { AllZip IsLimitOf v result }
     {
-        Lanes32::look_up_limits(v)
+        <Multiplying as LaneOps<32>>::look_up_limits(v)
     }
 
     #[inline(always)]
@@ -126,7 +94,7 @@ impl LaneOps<32> for Interleaved {
     fn are_unmarked(marks: u8x32) -> bool
         ensures { IsTrue result ↔ AllUnmarked marks }
     {
-        Lanes32::are_unmarked(marks)
+        <Multiplying as LaneOps<32>>::are_unmarked(marks)
     }
 
     ghost use Rattle.std.proofs.Common.{arith};

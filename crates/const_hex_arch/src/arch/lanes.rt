@@ -10,7 +10,7 @@ use std::simd::prelude::*;
 
 /// The operations that depend on the number of lanes `N`. Everything else in a kernel is written once,
 /// over this trait.
-pub(crate) trait LaneOps<const N: usize> {
+pub trait LaneOps<const N: usize> {
     /// Fills the output with two digits for each lane, in order.
     fn write_digits(v: Simd<u8, N>, upper: bool, output: &mut [u8])
         requires { length output.old ≡ 2 * N }
@@ -33,6 +33,10 @@ pub(crate) trait LaneOps<const N: usize> {
     /// even number, so that it has two halves.
     ghost sizes: { (1 ≤ N) × (N ≤ 32) × (2 * (N / 2) ≡ N) };
 }
+
+/// The operations on vectors, by multiplications.
+#[derive(Drop)]
+pub struct Multiplying;
 
 /// The value of each lane that is a digit, and more than 15 for every other lane.
 ///

@@ -7,8 +7,8 @@ ghost use Rattle.std.specs.Prelude.{◌≡◌, ◌↔◌, [], ◌∷◌, ◌++�
 ghost use Rattle.std.specs.List.{AllZip, concat, range_with_len};
 ghost use Rattle.const_hex_arch.specs.{hex_digit, hex_value, hex_text, AllDigits, Spells, AllNibbles, AllUnmarked, byte_pairs, halves_of, as_value, IsValueOf, IsLimitOf};
 
-use crate::arch::lanes::{self, LaneOps};
-use crate::arch::{Kernel, by_length};
+use crate::arch::by_length::ByLength;
+use crate::arch::lanes::{self, LaneOps, Multiplying};
 use std::simd::prelude::*;
 
 /// For each low half of a byte the limit: no digit with this low half has a greater value.
@@ -80,7 +80,7 @@ pub fn encode_chunk<const UPPER: bool>(v: u8x16) -> [u8x16; 2]
 pub fn check_chunk(v: u8x16) -> bool
     ensures { IsTrue result ↔ AllDigits v }
 {
-    lanes::are_digits::<16, Lanes16>(v)
+    lanes::are_digits::<16, Multiplying>(v)
 }
 
 /// The value of each lane that is a digit, and more than 15 for every other lane.
@@ -127,7 +127,7 @@ pub fn unhex(v: u8x16) -> u8x16
     lanes::unhex(v)
 }
 
-/// A kernel for vectors of 16 lanes. It encodes 16 bytes, checks 16 characters and decodes 32
+/// The kernel for vectors of 16 lanes. It encodes 16 bytes, checks 16 characters and decodes 32
 /// characters at a time. The remainder is encoded, checked and decoded together with what stands
 /// before it, as one more vector that overlaps the last one. If the remainder of a text has an
 /// invalid character, the pairs before that are decoded.
@@ -137,45 +137,9 @@ pub fn unhex(v: u8x16) -> u8x16
 /// assert!(rt; Lanes16::decode_checked(b"6b697769", &mut bytes));
 /// assert_eq!(rt; bytes, *b"kiwi");
 /// ```
-#[derive(Drop)]
-pub struct Lanes16;
+pub type Lanes16 = ByLength<16, Multiplying>;
 
-impl Kernel for Lanes16 {
-    ghost USE_CHECK_FN = { false };
-
-    const USE_CHECK_FN: bool = false;
-
-    const PIECE: usize = 32;
-
-    #[inline(always)]
-    fn fill(input: &[u8], upper: bool, output: &mut [u8]) {
-        by_length::fill::<16, Lanes16, Lanes16>(input, upper, output);
-    }
-
-    // Not `always`: `decode_body` calls `CheckFirst::<K>` in a branch that is never taken for this
-    // kernel. With all of `check` in that branch, the decoders would be too large to be inlined.
-    #[inline]
-    fn check(input: &[u8]) -> bool {
-        by_length::check::<16, Lanes16, Lanes16>(input)
-    }
-
-    #[inline(always)]
-    fn decode_checked(input: &[u8], output: &mut [u8]) -> bool {
-        by_length::decode_checked::<16, Lanes16, Lanes16>(input, output)
-    }
-
-    #[inline(always)]
-    fn decode_all(input: &[u8], output: &mut [u8]) -> bool {
-        by_length::decode::<16, Lanes16, Lanes16>(input, output)
-    }
-
-    #[inline(always)]
-    fn decode_unchecked(input: &[u8], output: &mut [u8]) {
-        by_length::decode_digits::<16, Lanes16, Lanes16>(input, output);
-    }
-}
-
-impl LaneOps<16> for Lanes16 {
+impl LaneOps<16> for Multiplying {
     #[inline(always)]
     #[tactic(auto, using(std::proofs::lemmas::Simd::put_chunk_whole))]
     fn write_digits(v: u8x16, upper: bool, output: &mut [u8])
@@ -279,9 +243,9 @@ fn decode_flagged(text: [u8x16; 2]) -> (u8x16, bool)
     ensures digits { IsTrue result.1 ↔ AllDigits (concat text) }
     ensures spells { IsTrue result.1 → Spells (concat text) result.0 }
 {
-    let marks = lanes::joint_marks::<16, Lanes16>(text[0], text[1]);
-    let bytes = lanes::decode::<16, Lanes16>(text[0], text[1]);
-    (bytes, Lanes16::are_unmarked(marks))
+    let marks = lanes::joint_marks::<16, Multiplying>(text[0], text[1]);
+    let bytes = lanes::decode::<16, Multiplying>(text[0], text[1]);
+    (bytes, <Multiplying as LaneOps<16>>::are_unmarked(marks))
 }
 
 /// The lanes of both vectors, in order.

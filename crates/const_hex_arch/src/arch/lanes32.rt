@@ -7,9 +7,9 @@ ghost use Rattle.std.specs.Prelude.{◌≡◌, ◌↔◌, [], ◌∷◌, ◌++�
 ghost use Rattle.std.specs.List.{AllZip, concat};
 ghost use Rattle.const_hex_arch.specs.{hex_value, hex_text, AllDigits, Spells, AllNibbles, AllUnmarked, byte_pairs, as_value, IsValueOf, IsLimitOf};
 
-use crate::arch::lanes::{self, LaneOps};
-use crate::arch::lanes16::{self, Lanes16};
-use crate::arch::{Kernel, by_length};
+use crate::arch::by_length::ByLength;
+use crate::arch::lanes::{self, LaneOps, Multiplying};
+use crate::arch::lanes16;
 use std::simd::prelude::*;
 
 /// Two digits for each lane, in order: the text of the first 16 lanes, and the text of the last 16.
@@ -38,7 +38,7 @@ pub fn encode_chunk<const UPPER: bool>(v: u8x32) -> [u8x32; 2]
 pub fn check_chunk(v: u8x32) -> bool
     ensures { IsTrue result ↔ AllDigits v }
 {
-    lanes::are_digits::<32, Lanes32>(v)
+    lanes::are_digits::<32, Multiplying>(v)
 }
 
 /// The value of each lane that is a digit, and more than 15 for every other lane.
@@ -85,7 +85,7 @@ pub fn unhex(v: u8x32) -> u8x32
     lanes::unhex(v)
 }
 
-/// A kernel for vectors of 32 lanes. It encodes 32 bytes, checks 32 characters and decodes 64
+/// The kernel for vectors of 32 lanes. It encodes 32 bytes, checks 32 characters and decodes 64
 /// characters at a time. The remainder is encoded and checked together with what stands before it.
 /// Decoding takes at most one step of half that size, by 16 lanes, and then goes on as
 /// [`Lanes16`].
@@ -95,53 +95,17 @@ pub fn unhex(v: u8x32) -> u8x32
 /// assert!(rt; Lanes32::decode_checked(b"6b697769", &mut bytes));
 /// assert_eq!(rt; bytes, *b"kiwi");
 /// ```
-#[derive(Drop)]
-pub struct Lanes32;
+pub type Lanes32 = ByLength<32, Multiplying>;
 
-impl Kernel for Lanes32 {
-    ghost USE_CHECK_FN = { false };
-
-    const USE_CHECK_FN: bool = false;
-
-    const PIECE: usize = 64;
-
-    #[inline(always)]
-    fn fill(input: &[u8], upper: bool, output: &mut [u8]) {
-        by_length::fill::<32, Lanes32, Lanes16>(input, upper, output);
-    }
-
-    // Not `always`: `decode_body` calls `CheckFirst::<K>` in a branch that is never taken for this
-    // kernel. With all of `check` in that branch, the decoders would be too large to be inlined.
-    #[inline]
-    fn check(input: &[u8]) -> bool {
-        by_length::check::<32, Lanes32, Lanes16>(input)
-    }
-
-    #[inline(always)]
-    fn decode_checked(input: &[u8], output: &mut [u8]) -> bool {
-        by_length::decode_checked::<32, Lanes32, Lanes16>(input, output)
-    }
-
-    #[inline(always)]
-    fn decode_all(input: &[u8], output: &mut [u8]) -> bool {
-        by_length::decode::<32, Lanes32, Lanes16>(input, output)
-    }
-
-    #[inline(always)]
-    fn decode_unchecked(input: &[u8], output: &mut [u8]) {
-        by_length::decode_digits::<32, Lanes32, Lanes16>(input, output);
-    }
-}
-
-impl LaneOps<32> for Lanes32 {
+impl LaneOps<32> for Multiplying {
     #[inline(always)]
     fn write_digits(v: u8x32, upper: bool, output: &mut [u8])
         requires { length output.old ≡ 64 }
         ensures { output.new ≡ hex_text upper v }
     {
         let (front, back) = output.split_at_mut(32);
-        Lanes16::write_digits(v.extract::<0, 16>(), upper, front);
-        Lanes16::write_digits(v.extract::<16, 16>(), upper, back);
+        <Multiplying as LaneOps<16>>::write_digits(v.extract::<0, 16>(), upper, front);
+        <Multiplying as LaneOps<16>>::write_digits(v.extract::<16, 16>(), upper, back);
     }
 
     // In halves of 16 lanes, for which the mask costs nothing. With AVX2 the compiler makes one shuffle
@@ -150,8 +114,8 @@ impl LaneOps<32> for Lanes32 {
     fn look_up_limits(v: u8x32) -> u8x32
         ensures { AllZip IsLimitOf v result }
     {
-        let first = Lanes16::look_up_limits(v.extract::<0, 16>());
-        let second = Lanes16::look_up_limits(v.extract::<16, 16>());
+        let first = <Multiplying as LaneOps<16>>::look_up_limits(v.extract::<0, 16>());
+        let second = <Multiplying as LaneOps<16>>::look_up_limits(v.extract::<16, 16>());
         lanes16::join(first, second)
     }
 
@@ -184,9 +148,9 @@ fn decode_flagged(text: [u8x32; 2]) -> (u8x32, bool)
     ensures digits { IsTrue result.1 ↔ AllDigits (concat text) }
     ensures spells { IsTrue result.1 → Spells (concat text) result.0 }
 {
-    let marks = lanes::joint_marks::<32, Lanes32>(text[0], text[1]);
-    let bytes = lanes::decode::<32, Lanes32>(text[0], text[1]);
-    (bytes, Lanes32::are_unmarked(marks))
+    let marks = lanes::joint_marks::<32, Multiplying>(text[0], text[1]);
+    let bytes = lanes::decode::<32, Multiplying>(text[0], text[1]);
+    (bytes, <Multiplying as LaneOps<32>>::are_unmarked(marks))
 }
 
 /// The lanes of both vectors, in order.

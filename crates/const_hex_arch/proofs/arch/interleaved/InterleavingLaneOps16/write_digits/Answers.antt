@@ -1,7 +1,7 @@
 use Rattle.std.proofs.Common.{◌∙◌, ap, length, arith, refl}
 use Rattle.std.proofs.lemmas.Simd.{put_chunk_whole}
 use Rattle.const_hex_arch.proofs.lemmas.LaneText.{high_ok, masked_ok, woven_text}
-use Rattle.const_hex_arch.proofs.arch.interleaved.InterleavedLaneOps16.write_digits.Goals as goal
+use Rattle.const_hex_arch.proofs.arch.interleaved.InterleavingLaneOps16.write_digits.Goals as goal
 
 pub swizzle-first : goal.swizzle-first
 swizzle-first c = high_ok c.args.v c.fits-v

@@ -1,5 +1,5 @@
 use Rattle.const_hex_arch.proofs.lemmas.LaneMarks.{are_unmarked}
-use Rattle.const_hex_arch.proofs.arch.lanes16.Lanes16LaneOps16.are_unmarked.Goals as goal
+use Rattle.const_hex_arch.proofs.arch.lanes16.MultiplyingLaneOps16.are_unmarked.Goals as goal
 
 pub returns : goal.returns
 returns c = are_unmarked 2 c.args.marks c.fits-marks

@@ -1,5 +1,5 @@
 use Rattle.const_hex_arch.proofs.lemmas.LaneText.{text_of_halves}
-use Rattle.const_hex_arch.proofs.arch.interleaved.InterleavedLaneOps32.write_digits.Goals as goal
+use Rattle.const_hex_arch.proofs.arch.interleaved.InterleavingLaneOps32.write_digits.Goals as goal
 
 pub returns : goal.returns
 returns c =

@@ -1,5 +1,5 @@
 use Rattle.const_hex_arch.proofs.lemmas.LaneText.{text_of_halves}
-use Rattle.const_hex_arch.proofs.arch.lanes32.Lanes32LaneOps32.write_digits.Goals as goal
+use Rattle.const_hex_arch.proofs.arch.lanes32.MultiplyingLaneOps32.write_digits.Goals as goal
 
 pub returns : goal.returns
 returns c =

@@ -2,7 +2,7 @@ use Rattle.std.proofs.Common.{refl}
 use Rattle.const_hex_arch.specs.declared.arch.lanes16.TheConstants.{LIMITS}
 use Rattle.const_hex_arch.proofs.lemmas.LaneText.{masked_ok}
 use Rattle.const_hex_arch.proofs.lemmas.LaneMarks.{limits_are}
-use Rattle.const_hex_arch.proofs.arch.lanes16.Lanes16LaneOps16.look_up_limits.Goals as goal
+use Rattle.const_hex_arch.proofs.arch.lanes16.MultiplyingLaneOps16.look_up_limits.Goals as goal
 
 pub swizzle : goal.swizzle
 swizzle c = masked_ok 143 tt 1 16 c.args.v refl c.fits-v

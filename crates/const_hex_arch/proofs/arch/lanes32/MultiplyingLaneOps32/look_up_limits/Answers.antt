@@ -1,6 +1,6 @@
 use Rattle.const_hex_arch.specs.{IsLimitOf}
 use Rattle.const_hex_arch.proofs.lemmas.LaneText.{by_halves}
-use Rattle.const_hex_arch.proofs.arch.lanes32.Lanes32LaneOps32.look_up_limits.Goals as goal
+use Rattle.const_hex_arch.proofs.arch.lanes32.MultiplyingLaneOps32.look_up_limits.Goals as goal
 
 pub returns : goal.returns
 returns c = rw c.join.ensures
