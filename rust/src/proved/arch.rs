@@ -4,7 +4,7 @@
 use crate::std_shim::prelude::*;
 
 #[cfg(all(target_arch = "wasm32", target_feature = "simd128"))]
-mod by_length;
+pub mod by_length;
 pub mod check_first;
 #[cfg(all(target_arch = "wasm32", target_feature = "simd128"))]
 mod lanes;

@@ -25,7 +25,7 @@ pub use self::error::*;
 
 // The places that each rule of rust/erase has changed:
 //
-//   14  Rattle's std is the module std_shim
+//   15  Rattle's std is the module std_shim
 //    1  Rust's errors are not copied
 //    2  a formatter has a lifetime in place of its writer's type
 //   10  a function for C takes slices, which capi makes of pointers and lengths, and is compiled there alone
@@ -41,9 +41,9 @@ pub use self::error::*;
 //   13  and panics instead of returning an error
 //    1  and the crate's decoder is cloned
 //    2  before it reads a part, or ends
-//   47  deleted: attribute
-//  504  deleted: clause
-//   97  deleted: ghost item
+//   49  deleted: attribute
+//  493  deleted: clause
+//   96  deleted: ghost item
 //    3  deleted: model
 //    5  deleted: output
 //    1  each value may be dropped

@@ -1,10 +1,8 @@
 -- Texts and pieces by their first and their last bytes.
 use Rattle.std.proofs.Common.{◌≡◌, ℕ, ◌+◌, ◌-◌, ◌*◌, ◌/◌, ◌%◌, ◌<◌, ◌≤◌, ◌↔◌, Bool, List, [], ◌∷◌, ◌++◌, length, take, drop, get_or, refl, sym, ap, ◌∙◌, arith, append-nil, drop-drop, take-append-drop, take-add, length-take, length-drop}
 use Rattle.std.proofs.lemmas.Grind.{common_steps}
-use Rattle.std.proofs.lemmas.List.{take_all, take_at, take_rest, take-take, drop_at, drop-take}
+use Rattle.std.proofs.lemmas.List.{take_all, take_at, take_rest, drop_at, drop-take}
 use Rattle.std.proofs.lemmas.List.Elements.{All-take, All-drop}
-use Rattle.std.proofs.lemmas.Simd.{length-put_chunk, take_more_put_chunk}
-use lib.Lanes.{put_chunk}
 use borrow.Rule.Slice.PartMut.{put_mid}
 use Rattle.std.proofs.lemmas.Slice.{take-put_mid}
 use Rattle.const_hex_arch.specs.{IsDigit, hex_digit, hex_text, AllDigits, Spells}

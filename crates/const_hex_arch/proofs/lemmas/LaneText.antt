@@ -1,11 +1,8 @@
 -- Look-ups in vectors, the text of lanes, and lanes that are interleaved.
-use Rattle.std.proofs.Common.{◌≡◌, ℕ, ◌*◌, Bool, ltb, T, ◌||◌, ◌&&◌, List, [], ◌∷◌, ◌++◌, length, replicate, bit_and, sym, subst, ◌∙◌, arith, w8, Fits, length-append, zero, suc, ◌+◌, ◌/◌, ◌%◌, ◌^◌, ◌<◌, true, false, eqb, map, get_or, refl, ap, eqb→eq, bit_or, w16, w32, take, drop, ◌≤◌}
+use Rattle.std.proofs.Common.{◌≡◌, ℕ, ◌*◌, Bool, ltb, T, ◌||◌, List, [], ◌∷◌, ◌++◌, length, replicate, bit_and, sym, subst, ◌∙◌, arith, w8, Fits, length-append, zero, suc, ◌+◌, ◌/◌, ◌%◌, ◌^◌, ◌<◌, true, false, eqb, map, get_or, refl, ap, eqb→eq, bit_or, take}
 use Rattle.std.specs.List.{AllZip, range_with_len, concat}
 use Rattle.std.proofs.lemmas.Grind.{common_steps}
-use Rattle.std.specs.Int.{from_le_bytes, to_le_bytes}
-use Rattle.std.proofs.lemmas.Nat.{le_bytes_2, le_bytes_4}
-use Rattle.std.proofs.lemmas.Simd.{length-chunk, Each1-chunk, below_from_Fits, get_or_wider, SwzOk, SwzOk-from_Each1, length-zip2, length-replicate, pick_l-range_with_len, Each1-get_or, SwzOk-from_below, swz_l, length-swz_l, get_or-swz_l_below}
-use lib.Ieee.Fits.{and_l, and_r}
+use Rattle.std.proofs.lemmas.Simd.{Each1-chunk, SwzOk, SwzOk-from_Each1, length-zip2, length-replicate, pick_l-range_with_len, Each1-get_or, SwzOk-from_below, swz_l, length-swz_l, get_or-swz_l_below}
 use lib.Lanes.{zip2, Each1, pick_l, number_l, digits_l}
 use mir.Val.{zeroes}
 use Rattle.std.proofs.lemmas.List.{append-nil, ext_get_or, get_or-map, length-map}

@@ -1,6 +1,6 @@
 -- Runs of steps over pieces, and the space that they leave.
-use Rattle.std.proofs.Common.{◌≡◌, ℕ, ◌+◌, ◌≤◌, ◌<◌, List, [], ◌∷◌, ◌++◌, length, length-append, refl, sym, ap, subst, arith, inl, Option, append-nil}
-use Rattle.std.specs.List.{All, FoldsTo, concat}
+use Rattle.std.proofs.Common.{◌≡◌, ℕ, ◌+◌, ◌≤◌, List, [], ◌∷◌, ◌++◌, length, refl, sym, subst, arith, inl, Option, append-nil}
+use Rattle.std.specs.List.{FoldsTo, concat}
 use Rattle.std.proofs.lemmas.List.Elements.{All-nil, All-cons, All-append}
 use Rattle.std.proofs.lemmas.List.Folds.{concat-append}
 use Rattle.const_hex_arch.specs.{Gathers, piece_of, HasSpace, less_space, IsKernelPiece, Writes}

@@ -97,6 +97,18 @@ pub(crate) fn are_digits<const N: usize, V: LaneOps<N>>(v: Simd<u8, N>) -> bool
     V::are_unmarked(marks::<N, V>(v))
 }
 
+/// Whether every lane of both vectors is a digit, by one test.
+#[inline(always)]
+#[tactic(auto, using(crate::proofs::lemmas::Standard::through))]
+pub(crate) fn are_all_digits<const N: usize, V: LaneOps<N>>(
+    first: Simd<u8, N>,
+    second: Simd<u8, N>,
+) -> bool
+    ensures { IsTrue result ↔ AllDigits (first.entry ++ second.entry) }
+{
+    V::are_unmarked(joint_marks::<N, V>(first, second))
+}
+
 /// The marks of two vectors, joined.
 #[inline(always)]
 pub(crate) fn joint_marks<const N: usize, V: LaneOps<N>>(

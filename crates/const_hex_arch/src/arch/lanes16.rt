@@ -238,14 +238,16 @@ pub(crate) fn split_lanes(v: u8x16) -> u8x32
 /// bytes are unspecified.
 // Once for each width: Rattle has no rule yet for a tuple with a vector of any number of lanes.
 #[inline(always)]
-#[tactic(auto, using(crate::proofs::lemmas::Standard::through, crate::proofs::lemmas::LaneText::concat_pair))]
+#[tactic(auto, using(crate::proofs::lemmas::LaneText::concat_pair))]
 fn decode_flagged(text: [u8x16; 2]) -> (u8x16, bool)
     ensures digits { IsTrue result.1 ↔ AllDigits (concat text) }
     ensures spells { IsTrue result.1 → Spells (concat text) result.0 }
 {
-    let marks = lanes::joint_marks::<16, Multiplying>(text[0], text[1]);
-    let bytes = lanes::decode::<16, Multiplying>(text[0], text[1]);
-    (bytes, <Multiplying as LaneOps<16>>::are_unmarked(marks))
+    let are_digits = lanes::are_all_digits::<16, Multiplying>(text[0], text[1]);
+    (
+        lanes::decode::<16, Multiplying>(text[0], text[1]),
+        are_digits,
+    )
 }
 
 /// The lanes of both vectors, in order.

@@ -143,14 +143,16 @@ impl LaneOps<32> for Multiplying {
 /// bytes are unspecified.
 // Once for each width: Rattle has no rule yet for a tuple with a vector of any number of lanes.
 #[inline(always)]
-#[tactic(auto, using(crate::proofs::lemmas::Standard::through, crate::proofs::lemmas::LaneText::concat_pair))]
+#[tactic(auto, using(crate::proofs::lemmas::LaneText::concat_pair))]
 fn decode_flagged(text: [u8x32; 2]) -> (u8x32, bool)
     ensures digits { IsTrue result.1 ↔ AllDigits (concat text) }
     ensures spells { IsTrue result.1 → Spells (concat text) result.0 }
 {
-    let marks = lanes::joint_marks::<32, Multiplying>(text[0], text[1]);
-    let bytes = lanes::decode::<32, Multiplying>(text[0], text[1]);
-    (bytes, <Multiplying as LaneOps<32>>::are_unmarked(marks))
+    let are_digits = lanes::are_all_digits::<32, Multiplying>(text[0], text[1]);
+    (
+        lanes::decode::<32, Multiplying>(text[0], text[1]),
+        are_digits,
+    )
 }
 
 /// The lanes of both vectors, in order.

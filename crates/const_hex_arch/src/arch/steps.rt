@@ -31,14 +31,13 @@ pub(crate) fn check_step<const N: usize, V: LaneOps<N>>(text: &[u8]) -> bool
 
 /// As `check_step`, for two steps that need not follow one another, by one test.
 #[inline(always)]
-#[tactic(auto, using(crate::proofs::lemmas::Standard::through, std::proofs::lemmas::List::take_all))]
+#[tactic(auto, using(std::proofs::lemmas::List::take_all))]
 pub(crate) fn check_pair<const N: usize, V: LaneOps<N>>(first: &[u8], second: &[u8]) -> bool
     requires first { length first.now ≡ N }
     requires second { length second.now ≡ N }
     ensures { IsTrue result ↔ AllDigits (first.now ++ second.now) }
 {
-    let marks = lanes::joint_marks::<N, V>(Simd::from_slice(first), Simd::from_slice(second));
-    V::are_unmarked(marks)
+    lanes::are_all_digits::<N, V>(Simd::from_slice(first), Simd::from_slice(second))
 }
 
 /// As `check_step`, for the text of two steps, by one test.

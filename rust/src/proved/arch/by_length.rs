@@ -1,80 +1,75 @@
 // Made by rust/erase from crates/const_hex_arch/src/arch/by_length.rt. Do not edit.
-//! Which steps a kernel of `N` lanes takes at which length: docs/DESIGN.md has the table.
+//! The kernels with lanes: which steps they take at which length. docs/DESIGN.md has the table.
 //!
-//! `V` has the `N` lanes of a step, and `S` 16 lanes for what is shorter. Neither a contract nor a test notices which
-//! steps are taken where others give the same result: compare a change with "Steps by length" in docs/DESIGN.md.
+//! Neither a contract nor a test notices which steps are taken where others give the same result: compare a change with
+//! "Steps by length" in docs/DESIGN.md.
 
 use crate::std_shim::prelude::*;
 use crate::proved::arch::lanes::LaneOps;
-use crate::proved::arch::{long, short, steps};
+use crate::proved::arch::{Kernel, long, short, steps};
+use crate::std_shim::marker::PhantomData;
 
-/// Fills the output with the text of the input.
-#[inline(always)]
-pub(crate) fn fill<const N: usize, V: LaneOps<N>, S: LaneOps<16>>(
-    input: &[u8],
-    upper: bool,
-    output: &mut [u8],
-) {
-    if input.len() == 16 {
-        steps::fill_step::<16, S>(input, upper, output);
-    } else if input.len() < 16 {
-        short::fill(input, upper, output);
-    } else if input.len() <= 32 {
-        short::fill_pair::<16, S>(input, upper, output);
-    } else {
-        long::fill::<N, V>(input, upper, output);
+/// A kernel whose steps have `N` lanes, and 16 for what is shorter. `V` has the operations on their vectors.
+pub struct ByLength<const N: usize, V> {
+    operations: PhantomData<V>,
+}
+
+impl<const N: usize, V: LaneOps<N> + LaneOps<16>> Kernel for ByLength<N, V> {
+    const USE_CHECK_FN: bool = false;
+
+    const PIECE: usize = 2 * N;
+
+    #[inline(always)]
+    fn fill(input: &[u8], upper: bool, output: &mut [u8]) {
+        if input.len() == 16 {
+            steps::fill_step::<16, V>(input, upper, output);
+        } else if input.len() < 16 {
+            short::fill(input, upper, output);
+        } else if input.len() <= 32 {
+            short::fill_pair::<16, V>(input, upper, output);
+        } else {
+            long::fill::<N, V>(input, upper, output);
+        }
     }
-}
 
-/// Whether every byte is a digit.
-#[inline(always)]
-pub(crate) fn check<const N: usize, V: LaneOps<N>, S: LaneOps<16>>(text: &[u8]) -> bool {
-    if text.len() < 16 {
-        short::check::<S>(text)
-    } else if text.len() <= 32 {
-        short::check_pair::<16, S>(text)
-    } else {
-        long::check::<N, V>(text)
+    // Not `always`: `decode_body` calls `CheckFirst::<K>` in a branch that is never taken for this kernel. With all of
+    // `check` in that branch, the decoders would be too large to be inlined.
+    #[inline]
+    fn check(input: &[u8]) -> bool {
+        if input.len() < 16 {
+            short::check::<V>(input)
+        } else if input.len() <= 32 {
+            short::check_pair::<16, V>(input)
+        } else {
+            long::check::<N, V>(input)
+        }
     }
-}
 
-/// Decodes the text into the output and returns true. Returns false if some character is invalid; then steps before it
-/// may be decoded.
-#[inline(always)]
-pub(crate) fn decode<const N: usize, V: LaneOps<N>, S: LaneOps<16>>(
-    text: &[u8],
-    output: &mut [u8],
-) -> bool {
-    // So a function that is not inlined needs no register for the length of the text.
-    let text = &text[..2 * output.len()];
-    if output.len() <= 16 {
-        short::decode::<S>(text, output)
-    } else if output.len() <= N {
-        short::decode_pair::<N, V>(text, N / 2, output)
-    } else {
-        long::decode::<N, V>(text, output)
+    /// Before an invalid character all whole steps are decoded, and of a remainder of less than 16 bytes all pairs.
+    #[inline(always)]
+    fn decode_checked(input: &[u8], output: &mut [u8]) -> bool {
+        Self::decode_all(input, output) || long::decode_front::<N, V>(input, output)
     }
-}
 
-/// As `decode`, but if some character is invalid, all whole steps before it are decoded, and of a remainder of less than
-/// 16 bytes all pairs before it.
-#[inline(always)]
-pub(crate) fn decode_checked<const N: usize, V: LaneOps<N>, S: LaneOps<16>>(
-    text: &[u8],
-    output: &mut [u8],
-) -> bool {
-    decode::<N, V, S>(text, output) || long::decode_front::<N, V, S>(text, output)
-}
+    #[inline(always)]
+    fn decode_all(input: &[u8], output: &mut [u8]) -> bool {
+        // So a function that is not inlined needs no register for the length of the text.
+        let text = &input[..2 * output.len()];
+        if output.len() <= 16 {
+            short::decode::<V>(text, output)
+        } else if output.len() <= N {
+            short::decode_pair::<N, V>(text, N / 2, output)
+        } else {
+            long::decode::<N, V>(text, output)
+        }
+    }
 
-/// Decodes digits into the output.
-#[inline(always)]
-pub(crate) fn decode_digits<const N: usize, V: LaneOps<N>, S: LaneOps<16>>(
-    text: &[u8],
-    output: &mut [u8],
-) {
-    if output.len() < N {
-        decode::<N, V, S>(text, output);
-    } else {
-        long::decode_digits::<N, V>(text, output);
+    #[inline(always)]
+    fn decode_unchecked(input: &[u8], output: &mut [u8]) {
+        if output.len() < N {
+            Self::decode_all(input, output);
+        } else {
+            long::decode_digits::<N, V>(input, output);
+        }
     }
 }

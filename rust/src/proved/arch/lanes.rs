@@ -8,7 +8,7 @@ use crate::std_shim::simd::prelude::*;
 
 /// The operations that depend on the number of lanes `N`. Everything else in a kernel is written once,
 /// over this trait.
-pub(crate) trait LaneOps<const N: usize> {
+pub trait LaneOps<const N: usize> {
     /// Fills the output with two digits for each lane, in order.
     fn write_digits(v: Simd<u8, N>, upper: bool, output: &mut [u8]);
 
@@ -21,6 +21,9 @@ pub(crate) trait LaneOps<const N: usize> {
     /// Whether every mark has the bits 7, 6, 4 and 3 clear.
     fn are_unmarked(marks: Simd<u8, N>) -> bool;
 }
+
+/// The operations on vectors, by multiplications.
+pub struct Multiplying;
 
 /// The value of each lane that is a digit, and more than 15 for every other lane.
 ///
@@ -64,6 +67,15 @@ pub(crate) fn marks<const N: usize, V: LaneOps<N>>(v: Simd<u8, N>) -> Simd<u8, N
 #[inline(always)]
 pub(crate) fn are_digits<const N: usize, V: LaneOps<N>>(v: Simd<u8, N>) -> bool {
     V::are_unmarked(marks::<N, V>(v))
+}
+
+/// Whether every lane of both vectors is a digit, by one test.
+#[inline(always)]
+pub(crate) fn are_all_digits<const N: usize, V: LaneOps<N>>(
+    first: Simd<u8, N>,
+    second: Simd<u8, N>,
+) -> bool {
+    V::are_unmarked(joint_marks::<N, V>(first, second))
 }
 
 /// The marks of two vectors, joined.

@@ -5,8 +5,8 @@
 //! [`decode_chunk`], [`nibbles`] and [`unhex`].
 
 use crate::std_shim::prelude::*;
-use crate::proved::arch::lanes::{self, LaneOps};
-use crate::proved::arch::{Kernel, by_length};
+use crate::proved::arch::by_length::ByLength;
+use crate::proved::arch::lanes::{self, LaneOps, Multiplying};
 use crate::std_shim::simd::prelude::*;
 
 /// For each low half of a byte the limit: no digit with this low half has a greater value.
@@ -55,7 +55,7 @@ pub fn encode_chunk<const UPPER: bool>(v: u8x16) -> [u8x16; 2] {
 /// Whether every lane is a digit.
 #[inline(always)]
 pub fn check_chunk(v: u8x16) -> bool {
-    lanes::are_digits::<16, Lanes16>(v)
+    lanes::are_digits::<16, Multiplying>(v)
 }
 
 /// The value of each lane that is a digit, and more than 15 for every other lane.
@@ -79,46 +79,13 @@ pub fn unhex(v: u8x16) -> u8x16 {
     lanes::unhex(v)
 }
 
-/// A kernel for vectors of 16 lanes. It encodes 16 bytes, checks 16 characters and decodes 32
+/// The kernel for vectors of 16 lanes. It encodes 16 bytes, checks 16 characters and decodes 32
 /// characters at a time. The remainder is encoded, checked and decoded together with what stands
 /// before it, as one more vector that overlaps the last one. If the remainder of a text has an
 /// invalid character, the pairs before that are decoded.
-pub struct Lanes16;
+pub type Lanes16 = ByLength<16, Multiplying>;
 
-impl Kernel for Lanes16 {
-    const USE_CHECK_FN: bool = false;
-
-    const PIECE: usize = 32;
-
-    #[inline(always)]
-    fn fill(input: &[u8], upper: bool, output: &mut [u8]) {
-        by_length::fill::<16, Lanes16, Lanes16>(input, upper, output);
-    }
-
-    // Not `always`: `decode_body` calls `CheckFirst::<K>` in a branch that is never taken for this
-    // kernel. With all of `check` in that branch, the decoders would be too large to be inlined.
-    #[inline]
-    fn check(input: &[u8]) -> bool {
-        by_length::check::<16, Lanes16, Lanes16>(input)
-    }
-
-    #[inline(always)]
-    fn decode_checked(input: &[u8], output: &mut [u8]) -> bool {
-        by_length::decode_checked::<16, Lanes16, Lanes16>(input, output)
-    }
-
-    #[inline(always)]
-    fn decode_all(input: &[u8], output: &mut [u8]) -> bool {
-        by_length::decode::<16, Lanes16, Lanes16>(input, output)
-    }
-
-    #[inline(always)]
-    fn decode_unchecked(input: &[u8], output: &mut [u8]) {
-        by_length::decode_digits::<16, Lanes16, Lanes16>(input, output);
-    }
-}
-
-impl LaneOps<16> for Lanes16 {
+impl LaneOps<16> for Multiplying {
     #[inline(always)]
     fn write_digits(v: u8x16, upper: bool, output: &mut [u8]) {
         encode_lanes(v, upper).copy_to_slice(output);
@@ -191,9 +158,11 @@ pub(crate) fn split_lanes(v: u8x16) -> u8x32 {
 // Once for each width: Rattle has no rule yet for a tuple with a vector of any number of lanes.
 #[inline(always)]
 fn decode_flagged(text: [u8x16; 2]) -> (u8x16, bool) {
-    let marks = lanes::joint_marks::<16, Lanes16>(text[0], text[1]);
-    let bytes = lanes::decode::<16, Lanes16>(text[0], text[1]);
-    (bytes, Lanes16::are_unmarked(marks))
+    let are_digits = lanes::are_all_digits::<16, Multiplying>(text[0], text[1]);
+    (
+        lanes::decode::<16, Multiplying>(text[0], text[1]),
+        are_digits,
+    )
 }
 
 /// The lanes of both vectors, in order.

@@ -87,7 +87,7 @@ pub(crate) fn decode_digits<const N: usize, V: LaneOps<N>>(text: &[u8], output: 
 // Not inlined: with this body the public decoders would be too large to be inlined.
 #[cold]
 #[inline(never)]
-pub(crate) fn decode_front<const N: usize, V: LaneOps<N>, S: LaneOps<16>>(
+pub(crate) fn decode_front<const N: usize, V: LaneOps<N> + LaneOps<16>>(
     text: &[u8],
     output: &mut [u8],
 ) -> bool {
@@ -101,7 +101,7 @@ pub(crate) fn decode_front<const N: usize, V: LaneOps<N>, S: LaneOps<16>>(
     }
     while output.len() - at >= 16 {
         let end = at + 16;
-        if !steps::decode_step::<16, S>(&text[2 * at..2 * end], &mut output[at..end]) {
+        if !steps::decode_step::<16, V>(&text[2 * at..2 * end], &mut output[at..end]) {
             return false;
         }
         at = end;

@@ -1,7 +1,7 @@
 // Made by rust/erase from crates/const_hex_arch/src/arch/short.rt. Do not edit.
 //! Short inputs: all of their bytes are among the first and the last ones, which one or two vectors hold.
 //!
-//! `S` has the 16 lanes of a vector. Where the first and the last bytes overlap, some are encoded, checked or decoded
+//! `V` has the operations on vectors. Where the first and the last bytes overlap, some are encoded, checked or decoded
 //! twice.
 
 use crate::std_shim::prelude::*;
@@ -49,15 +49,15 @@ pub(crate) fn fill_pair<const N: usize, V: LaneOps<N>>(bytes: &[u8], upper: bool
 
 /// Whether every byte of a text of at most 15 bytes is a digit.
 #[inline(always)]
-pub(crate) fn check<S: LaneOps<16>>(text: &[u8]) -> bool {
+pub(crate) fn check<V: LaneOps<16>>(text: &[u8]) -> bool {
     if text.len() >= 8 {
-        check_ends::<8, S>(text)
+        check_ends::<8, V>(text)
     } else if text.len() >= 4 {
-        check_ends::<4, S>(text)
+        check_ends::<4, V>(text)
     } else if text.len() == 3 {
-        check_ends::<2, S>(text)
+        check_ends::<2, V>(text)
     } else if text.len() >= 1 {
-        check_two::<S>(text[0], text[text.len() - 1])
+        check_two::<V>(text[0], text[text.len() - 1])
     } else {
         true
     }
@@ -65,15 +65,15 @@ pub(crate) fn check<S: LaneOps<16>>(text: &[u8]) -> bool {
 
 /// Whether every one of `H` to `2 * H` bytes is a digit: the first `H` and the last `H` are in one vector.
 #[inline(always)]
-fn check_ends<const H: usize, S: LaneOps<16>>(text: &[u8]) -> bool {
-    steps::check_step::<16, S>(&load_ends::<16>(text, H))
+fn check_ends<const H: usize, V: LaneOps<16>>(text: &[u8]) -> bool {
+    steps::check_step::<16, V>(&load_ends::<16>(text, H))
 }
 
 /// Whether both bytes are digits.
 #[inline(always)]
-fn check_two<S: LaneOps<16>>(first: u8, second: u8) -> bool {
+fn check_two<V: LaneOps<16>>(first: u8, second: u8) -> bool {
     let lanes = lanes16::from_pair(first, second);
-    lanes16::is_pair_unmarked(lanes::marks::<16, S>(lanes))
+    lanes16::is_pair_unmarked(lanes::marks::<16, V>(lanes))
 }
 
 /// Whether every one of `N` to `2 * N` bytes is a digit: one test covers the first `N` and the last `N`.
@@ -85,26 +85,26 @@ pub(crate) fn check_pair<const N: usize, V: LaneOps<N>>(text: &[u8]) -> bool {
 /// Decodes a text to at most 16 bytes and returns true. If some character is invalid, returns false, and the output is
 /// unchanged.
 #[inline(always)]
-pub(crate) fn decode<S: LaneOps<16>>(text: &[u8], output: &mut [u8]) -> bool {
+pub(crate) fn decode<V: LaneOps<16>>(text: &[u8], output: &mut [u8]) -> bool {
     if output.len() >= 8 {
-        decode_pair::<16, S>(text, 8, output)
+        decode_pair::<16, V>(text, 8, output)
     } else if output.len() >= 4 {
-        decode_ends::<4, S>(text, output)
+        decode_ends::<4, V>(text, output)
     } else if output.len() >= 2 {
-        decode_ends::<2, S>(text, output)
+        decode_ends::<2, V>(text, output)
     } else {
-        output.is_empty() || decode_one::<S>(text, output)
+        output.is_empty() || decode_one::<V>(text, output)
     }
 }
 
 /// As `decode`, for one byte.
 #[inline(always)]
-fn decode_one<S: LaneOps<16>>(text: &[u8], output: &mut [u8]) -> bool {
-    let are_digits = check_two::<S>(text[0], text[1]);
+fn decode_one<V: LaneOps<16>>(text: &[u8], output: &mut [u8]) -> bool {
+    let are_digits = check_two::<V>(text[0], text[1]);
     if are_digits {
         // The compiler merges this with what the check has computed.
         let lanes = lanes16::from_pair(text[0], text[1]);
-        let values = lanes::values::<16, S>(lanes).to_array();
+        let values = lanes::values::<16, V>(lanes).to_array();
         output[0] = (values[0] << 4) | values[1];
     }
     are_digits
@@ -112,12 +112,12 @@ fn decode_one<S: LaneOps<16>>(text: &[u8], output: &mut [u8]) -> bool {
 
 /// As `decode`, for `H` to `2 * H` bytes: the characters of the first `H` and of the last `H` are in one vector.
 #[inline(always)]
-fn decode_ends<const H: usize, S: LaneOps<16>>(text: &[u8], output: &mut [u8]) -> bool {
+fn decode_ends<const H: usize, V: LaneOps<16>>(text: &[u8], output: &mut [u8]) -> bool {
     let step = load_ends::<16>(text, 2 * H);
-    let are_digits = steps::check_step::<16, S>(&step);
+    let are_digits = steps::check_step::<16, V>(&step);
     if are_digits {
         let lanes = Simd::from_slice(&step);
-        put_ends(&lanes::decode::<16, S>(lanes, lanes).to_array(), H, output);
+        put_ends(&lanes::decode::<16, V>(lanes, lanes).to_array(), H, output);
     }
     are_digits
 }

@@ -22,8 +22,7 @@ pub(crate) fn check_step<const N: usize, V: LaneOps<N>>(text: &[u8]) -> bool {
 /// As `check_step`, for two steps that need not follow one another, by one test.
 #[inline(always)]
 pub(crate) fn check_pair<const N: usize, V: LaneOps<N>>(first: &[u8], second: &[u8]) -> bool {
-    let marks = lanes::joint_marks::<N, V>(Simd::from_slice(first), Simd::from_slice(second));
-    V::are_unmarked(marks)
+    lanes::are_all_digits::<N, V>(Simd::from_slice(first), Simd::from_slice(second))
 }
 
 /// As `check_step`, for the text of two steps, by one test.
