@@ -1,7 +1,7 @@
 """Wrong edits of small programs, each a loop over single bytes (programs.py), and right ones that
 look alike."""
 
-from programs import BYTE, LOAD
+from programs import BYTE, CHOICE, LOAD
 
 PASSES, SECRET = "a character is passed that may be no digit", "a branch depends on bytes"
 OUTSIDE = "may lie outside"
@@ -220,8 +220,9 @@ MORE = [
         "v3",
         "check",
         {
-            "character": "mov [rip+choice], al; test byte ptr [rip+choice], 1; je 5f; nop; 5:",
-            "helper": '.section .bss.choice, "aw", @nobits; choice: .skip 1; .section .text.helper, "ax";',
+            "character": f"mov [rip+{CHOICE}], al; test byte ptr [rip+{CHOICE}], 1; je 5f; nop; 5:",
+            "helper": f'.section .bss.choice, "aw", @nobits; .size {CHOICE}, 1; {CHOICE}: .skip 1; '
+            '.section .text.helper, "ax";',
         },
         "constants is written",
     ),
