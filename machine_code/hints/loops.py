@@ -12,7 +12,7 @@ import z3
 
 from execution import paths
 from execution.terms import fresh_public, simple, word
-from meanings.webassembly import ENDS, Operands
+from meanings.webassembly_blocks import ENDS, Operands
 from reading.module import SPACE
 from solver.questions import Rejected, is_public, names
 
