@@ -1,9 +1,9 @@
-"""Runs a function on all inputs, by each path through it, and proves what is claimed at
-each loop header, branch and return.
+"""Runs a function on all inputs, by each path through it, and proves what is claimed at each loop
+header, branch and return.
 
-A loop is proved by induction: the invariant at its header after k rounds is claimed where it is entered,
-for k = 0; and from it, for any k, each path through the loop comes back to it for k + 1. If this
-were wrong, code could be accepted that is wrong after some rounds, or that does not end.
+A loop is proved by induction: the invariant at its header after k rounds is claimed where it is
+entered, for k = 0; and from it, for any k, each path through the loop comes back to it for k + 1.
+If this were wrong, code could be accepted that is wrong after some rounds, or that does not end.
 """
 
 from collections import namedtuple
@@ -37,8 +37,8 @@ class Loop:
         self.read, self.written = invariant.read(self.rounds), invariant.written(self.rounds)
 
     def prove_invariant(self, state, k):
-        """Proves that all that is assumed at the header holds in a state that has come there after k
-        rounds."""
+        """Proves that all that is assumed at the header holds in a state that has come there after
+        k rounds."""
 
         def after(term):
             return simple(z3.substitute(term, (self.rounds, k)))

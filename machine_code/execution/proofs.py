@@ -60,7 +60,10 @@ def functions_of(content):
     file = library.whole(content)
     functions = contracts_of(file)
     if not functions:
-        raise ValueError("it has no function of the library, or is stripped: keep its symbol table")
+        raise ValueError(
+            "it has no function of the library, or is stripped: keep its symbol table, in "
+            'Cargo.toml by `strip = "none"`'
+        )
     is_for_windows = content.startswith(library.PE) and file.machine == X86_64
     if is_for_windows and HEADER & file.symbols.keys():
         raise ValueError(

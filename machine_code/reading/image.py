@@ -41,7 +41,7 @@ class Image:
                 "as machine_code/README.md says"
             )
         if any(part.is_writable and part.is_executable for part in parts):
-            raise ValueError("code that can be written: link without -N (--omagic)")
+            raise ValueError("code that can be written: link without -N and -n")
         self.machine, self.parts = machine, sorted(parts)
         self.first = self.parts[0].address // PAGES * PAGES
         self.size = max(part.address + part.size for part in parts) - self.first

@@ -66,12 +66,13 @@ def _check_names(file):
     # A loader finds each function of the header, or none.
     if file.exported and (missing := image.HEADER - file.exported):
         raise ValueError(f"the loader does not find {', '.join(sorted(missing))}: export them, too")
-    has_dispatcher = any(name.endswith("_v3") for name in file.symbols)
+    # Without a dispatcher, a program for x86-64-v3 alone calls the kernel.
+    has_dispatcher = any(name + "_v3" in file.symbols for name in file.symbols)
     hidden = {
         name + "_nonnull" for name in file.symbols if name.removeprefix("const_hex_") in WITH_ERROR
     }
     if hidden - file.symbols.keys() or has_dispatcher and not file.choices:
         raise ValueError(
-            "it is stripped: the names of hidden functions or of the dispatcher's byte are missing. "
-            "Use neither strip nor strip -x, nor -Wl,-s or -Wl,-x"
+            "it is stripped: the names of hidden functions or of the dispatcher's byte are "
+            "missing. Use neither strip nor strip -x, nor -Wl,-s or -Wl,-x"
         )

@@ -104,14 +104,14 @@ def _add(module, part):
 
 def _function(number, part):
     lines = [line.strip() for line in re.sub(r"\(;.*?;\)", "", part.removesuffix(")")).split("\n")]
-    heads = 1 + (len(lines) > 1 and lines[1].startswith("(local"))
+    header = 1 + (len(lines) > 1 and lines[1].startswith("(local"))
     sizes = [
         [
             SIZES[type_]
-            for types in re.findall(rf"\({kind}([^)]*)\)", " ".join(lines[:heads]))
+            for types in re.findall(rf"\({kind}([^)]*)\)", " ".join(lines[:header]))
             for type_ in types.split()
         ]
         for kind in ("param", "result", "local")
     ]
     # The end of a function returns.
-    return Function(f"function {number}", SPACE * (number + 1), *sizes, [*lines[heads:], "return"])
+    return Function(f"function {number}", SPACE * (number + 1), *sizes, [*lines[header:], "return"])

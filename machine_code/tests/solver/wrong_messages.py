@@ -10,7 +10,7 @@ from programs import CHOICE
 INCLUDED = '#include "../../rust/src/asm/dispatch.s"'
 DISPATCHER = (ASM / "dispatch.S").read_text().replace(INCLUDED, (RUST / "dispatch.s").read_text())
 # A variable of the program, of the same size, lies before the byte of the dispatcher.
-VARIABLE = '\t.section .bss.first, "aw", %nobits\n\t.size choice, 1\nchoice: .zero 1\n'
+VARIABLE = "\t.bss\n\t.size choice, 1\nchoice: .zero 1\n"
 MESSAGE = """
     .intel_syntax noprefix
     .section .text.const_hex_error_message, "ax"; .globl const_hex_error_message

@@ -6,7 +6,7 @@ from programs import BYTE, CHOICE, LOAD
 PASSES, SECRET = "a character is passed that may be no digit", "a branch depends on bytes"
 OUTSIDE = "may lie outside"
 UNWRITTEN = "a byte of the stack that was not written"
-NOT_IN_STACK, AT_HEAD = "the stack pointer is not in the stack", "loop invariant: "
+NOT_IN_STACK, INVARIANT = "the stack pointer is not in the stack", "loop invariant: "
 # Goes on if and only if ten times a tenth of a length is at most the length, and returns true
 # otherwise.
 TENTH = (
@@ -17,8 +17,8 @@ TENTH = (
 FIRST, SECOND = [LOAD.format(index) + BYTE for index in (0, 2)]
 IF_EQUAL = "cmp rax, rsi; jne 1f; mov eax, 1; ret"
 HOLE = "a byte is left out before what is written"
-# By the processor's level and the function: what is wrong, where a change stands, the change, and the
-# message.
+# By the processor's level and the function: what is wrong, where a change stands, the change, and
+# the message.
 WRONG = {
     ("v3", "check"): [
         ("one length", "start", f"movabs rax, 0x10000000000; {IF_EQUAL}", PASSES),
@@ -82,7 +82,7 @@ WRONG = {
         ("rbx", "start", "mov rbx, rsi", "rbx is not as before"),
         ("vzeroupper", "end", "vpxor ymm0, ymm0, ymm0", "vzeroupper is missing"),
         ("a loop without an end", "start", "5: jmp 5b", "nothing counts down"),
-        ("a loop that turns too often", "start", "mov r8d, 6; 5: sub r8, 4; jne 5b", AT_HEAD),
+        ("a loop that turns too often", "start", "mov r8d, 6; 5: sub r8, 4; jne 5b", INVARIANT),
         (
             "more rounds than characters",
             "start",
@@ -105,7 +105,7 @@ WRONG = {
             "a wide register in some rounds",
             "round",
             "test sil, 1; jne 5f; jmp 6f; 5: vmovdqa ymm1, ymm1; 6:",
-            f"{AT_HEAD}vzeroupper is missing",
+            f"{INVARIANT}vzeroupper is missing",
         ),
         (
             "a call in each round that does not return",
@@ -221,8 +221,7 @@ MORE = [
         "check",
         {
             "character": f"mov [rip+{CHOICE}], al; test byte ptr [rip+{CHOICE}], 1; je 5f; nop; 5:",
-            "helper": f'.section .bss.choice, "aw", @nobits; .size {CHOICE}, 1; {CHOICE}: .skip 1; '
-            '.section .text.helper, "ax";',
+            "helper": f".bss; .size {CHOICE}, 1; {CHOICE}: .skip 1; .previous;",
         },
         "constants is written",
     ),
