@@ -98,7 +98,6 @@ STRIPPED = "it is stripped: .* Use neither strip nor strip -x"
 MISTAKES = {
     "strip": (after("strip"), STRIPPED),
     "strip -x": (after("strip", "-x"), STRIPPED),
-    "strip -x of a program": (after("strip", "-x", of=program()), STRIPPED),
     "strip of a program": (after("strip", of=program()), "keep its symbol table"),
     "a file of debug information": (
         after("objcopy", "--only-keep-debug"),
@@ -157,6 +156,12 @@ def test_a_dll_is_read(tmp_path):
     file, contracts = proofs.functions_of(build.kernels_for_windows(tmp_path).read_bytes())
     assert len(contracts) == 12
     assert all(map(file.is_kept, file.choices)) and len(file.choices) == 1
+
+
+def test_a_program_for_avx2_alone_is_read():
+    """It calls this kernel, and has no dispatcher."""
+    text = "".join((build.RUST / f"{name}.s").read_text() for name in ("elf", "x86_64_v3"))
+    assert len(proofs.functions_of(build.linked(text))[1]) == 4
 
 
 @pytest.mark.parametrize("make, message", MISTAKES.values(), ids=MISTAKES)
