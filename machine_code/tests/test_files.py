@@ -98,7 +98,6 @@ STRIPPED = "it is stripped: .* Use neither strip nor strip -x"
 MISTAKES = {
     "strip": (after("strip"), STRIPPED),
     "strip -x": (after("strip", "-x"), STRIPPED),
-    "strip of a program": (after("strip", of=program()), "keep its symbol table"),
     "a file of debug information": (
         after("objcopy", "--only-keep-debug"),
         "a file of debug information: prove the file that runs",
@@ -138,7 +137,7 @@ MISTAKES = {
     "an object": (lambda folder: pathlib.Path(objects(X86_64)[1][0]), "an object has to be linked"),
     "a program without the library": (
         lambda folder: pathlib.Path("/bin/true"),
-        "it has no function of",
+        "no function of the library, or is stripped: keep",
     ),
 }
 
