@@ -55,8 +55,8 @@ class Loop:
             require(same, f"loop invariant: vector {number}")
         require(
             all(
-                place in state.cells and state.cells[place].eq(value)
-                for place, value in self.entry.cells.items()
+                key in state.cells and state.cells[key].eq(value)
+                for key, value in self.entry.cells.items()
             ),
             "loop invariant: the stack",
         )
@@ -144,7 +144,7 @@ def returned(state, to):
     if name in state.calls:
         state.address = state.calls.pop(name)
         return [state]
-    require(name == "return", "a return to another place")
+    require(name == "return", "a return to another address")
     state.returned()
     state.contract.returns(state)
     return []

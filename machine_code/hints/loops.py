@@ -16,7 +16,7 @@ from meanings.webassembly_blocks import ENDS, Operands
 from reading.module import SPACE
 from solver.questions import Rejected, is_public, names
 
-# What leads to the place that it names, and what does not lead to the next instruction; on each
+# What leads to the address that it names, and what does not lead to the next instruction; on each
 # processor.
 JUMP, LAST = re.compile(r"j|call|bl?$|b\.|cbn?z|tbn?z"), ("jmp", "b", "ret", *ENDS)
 
@@ -143,7 +143,7 @@ class Invariant:
             if z3.is_bv_value(step) and step.as_long():
                 step = step.as_signed_long()
                 return simple(z3.UDiv(first if step < 0 else -first, word(abs(step))))
-        raise Rejected("nothing counts down")
+        raise Rejected("no bound of a loop is found: nothing counts down")
 
 
 def _compared(fact):

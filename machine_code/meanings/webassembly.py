@@ -82,21 +82,21 @@ class State(state.State):
     def _lay_out(self, module):
         """The stack, the data, and what the caller may use follow each other."""
         data = [(part.address, part.address + len(part.content)) for part in module.data]
-        places = [module.globals[0], *sum(data, ())]
-        places += [module.places.get(name, -1) for name in ("__data_end", "__heap_base")]
+        addresses = [module.globals[0], *sum(data, ())]
+        addresses += [module.addresses.get(name, -1) for name in ("__data_end", "__heap_base")]
         is_right = (
             len(data) == 1
-            and places[0] == State.STACK
-            and places == sorted(places)
-            and places[-1] <= MEMORY
+            and addresses[0] == State.STACK
+            and addresses == sorted(addresses)
+            and addresses[-1] <= MEMORY
         )
-        require(is_right, f"the stack, the data and `__heap_base` lie at {places}")
+        require(is_right, f"the stack, the data and `__heap_base` lie at {addresses}")
         require(module.mutable == {0}, "a global that is kept between calls")
         is_called = self.contract.is_called
         for region in self.regions.values():
-            # What is called gets places in its caller's stack, too.
+            # What is called gets addresses in its caller's stack, too.
             lowest = (
-                places[-1]
+                addresses[-1]
                 if region.data is None and region.name != "stack" and not is_called
                 else 0
             )

@@ -44,23 +44,25 @@ class Reader:
         require(self.blocks == [whole], "a block of a kind that is not known")
         self.height, whole.target, self.is_reached = (
             whole.height,
-            self.place(),
+            self.address(),
             self.is_reached or whole.is_used,
         )
         self.read(end, end)
 
-    def place(self):
+    def address(self):
         return self.function.address + len(self.read_so_far)
 
     def read(self, text, mnemonic, *words):
         if mnemonic == "end":
             block = self.blocks.pop()
             self.is_reached |= block.is_used and not block.is_loop
-            self.height, block.target = block.height, block.target or self.place()
+            self.height, block.target = block.height, block.target or self.address()
         elif mnemonic in ("block", "loop"):
             require(not words, "a block with a result")
             self.blocks.append(
-                Block(self.place() if mnemonic == "loop" and self.is_reached else None, self.height)
+                Block(
+                    self.address() if mnemonic == "loop" and self.is_reached else None, self.height
+                )
             )
         elif self.is_reached:
             self.add(text, mnemonic, words)
@@ -76,7 +78,7 @@ class Reader:
         if mnemonic.startswith("br"):
             targets = [self.blocks[-1 - depth] for depth in numbers]
         for block in targets:
-            # A result lies above what is dropped, so it would be taken from another place.
+            # A result lies above what is dropped, so it would be taken from another register.
             require(
                 block is not self.blocks[0] or self.height - takes == block.height,
                 "operands below a result",

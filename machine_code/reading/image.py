@@ -104,6 +104,6 @@ class Image:
 
     def name_at(self, address):
         """Where an address is, for messages."""
-        names = [(place, name) for name, place in self.symbols.items() if place <= address]
+        names = [(start, name) for name, start in self.symbols.items() if start <= address]
         start, name = max(names, default=(0, "the file"))
         return f"{name}+{address - start:#x}"

@@ -51,7 +51,7 @@ def _check_exports(module):
     """A module exports what the package uses, and nothing else."""
     wanted = {"memory", "__data_end", "__heap_base"}
     wanted |= {f"const_hex_{name}" for name, function in FUNCTIONS.items() if function.is_in_module}
-    for name in sorted((module.exported | module.places.keys()) ^ wanted):
+    for name in sorted((module.exported | module.addresses.keys()) ^ wanted):
         raise ValueError(
             f"the export {name!r}: it is missing, or belongs to nothing of the library"
         )

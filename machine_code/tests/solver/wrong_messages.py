@@ -53,12 +53,12 @@ OF_MESSAGES = [
         "another part of the output",
     ),
     (
-        "one place too far",
+        "one byte too far",
         KIND(1) + SIZE(64) + "movups [rsi+1], xmm0; movups [rsi+6], xmm0; mov eax, 20; ret",
         "a byte is left out",
     ),
     (
-        "an unknown place",
+        "an unknown offset",
         KIND(1) + "cmp rdx, 3; jbe 9f; mov byte ptr [rsi+rdx-1], 0; " + END,
         "too many values",
     ),
@@ -82,7 +82,7 @@ NONNULL, CALL_IT = "\tjne\t\\name\\()_nonnull\n", "\tcall\t\\name\\()_nonnull\n"
 IS_3 = f"\tcmp\tBYTE PTR [rip + {CHOICE}], 3\n\tje\t\\name\\()_v3\n"
 IS_2 = f"\tcmp\tBYTE PTR [rip + {CHOICE}], 2\n\tje\t\\name\\()_v2\n"
 NULL, NOT_NULL = "the error is NULL", "the error is not NULL"
-NO_CONSTANT = "a place that has no constant"
+NO_CONSTANT = "an address that has no constant"
 TEST = "\ttest\t\\error, \\error\n"
 TIMED = f"cmp BYTE PTR [rip + {CHOICE} - 1], 0x61\njb 9f\n.rept 200\nnop\n.endr\n9:\n{TEST}"
 LOCAL, OTHER_BUILD = "mov\t\\error, rsp", "not the one for this CPU"
@@ -130,7 +130,7 @@ OF_DISPATCHERS = {
     ("read", "every call"): [
         ("a variable of the program", "choice]", "choice - 1]", NO_CONSTANT),
         (
-            "another place of portable code",
+            "another address of portable code",
             "jmp\t\\portable",
             "inc\t\\portable\n\tjmp\t\\portable",
             "is not fixed",

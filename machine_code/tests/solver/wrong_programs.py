@@ -55,7 +55,7 @@ WRONG = {
             PASSES,
         ),
         (
-            "a place in the stack that depends on the length",
+            "an offset in the stack that depends on the length",
             "start",
             "mov rax, rsi; and rax, 8; sub rsp, 64; mov [rsp+rax], rsi; mov rsi, [rsp]; add rsp, 64",
             "an offset in the stack is not known",
@@ -78,7 +78,12 @@ WRONG = {
             "pop rcx; push rcx; push rcx",
             "the stack pointer is not as before",
         ),
-        ("a return to another place", "end", "add qword ptr [rsp], 2", "a return to another place"),
+        (
+            "a return to another address",
+            "end",
+            "add qword ptr [rsp], 2",
+            "a return to another address",
+        ),
         ("rbx", "start", "mov rbx, rsi", "rbx is not as before"),
         ("vzeroupper", "end", "vpxor ymm0, ymm0, ymm0", "vzeroupper is missing"),
         ("a loop without an end", "start", "5: jmp 5b", "nothing counts down"),
@@ -180,7 +185,7 @@ WRONG = {
     ],
     ("aarch64", "check"): [
         ("v8", "start", "movi v8.16b, #1", "v8 is not as before"),
-        ("a return to another place", "end", "add x30, x30, #4", "a return to another place"),
+        ("a return to another address", "end", "add x30, x30, #4", "a return to another address"),
         (
             "a stack that is not aligned",
             "start",
