@@ -73,6 +73,7 @@ def _check_names(file):
     }
     if hidden - file.symbols.keys() or has_dispatcher and not file.choices:
         raise ValueError(
-            "it is stripped: the names of hidden functions or of the dispatcher's byte are "
-            "missing. Use neither strip nor strip -x, nor -Wl,-s or -Wl,-x"
+            "it is built from portable.c, which this tool does not prove, or stripped: the names of "
+            "hidden functions or of the dispatcher's byte are missing. Use neither strip nor "
+            "strip -x, nor -Wl,-s or -Wl,-x"
         )

@@ -94,7 +94,7 @@ HONEST = {
     "macOS on AArch64": lambda folder: for_macos(folder, "arm64"),
     "Windows on AArch64": for_windows_on_aarch64,
 }
-STRIPPED = "it is stripped: .* Use neither strip nor strip -x"
+STRIPPED = "built from portable.c, .* or stripped: .* Use neither strip nor strip -x"
 MISTAKES = {
     "strip": (after("strip"), STRIPPED),
     "strip -x": (after("strip", "-x"), STRIPPED),
