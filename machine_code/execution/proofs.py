@@ -110,6 +110,8 @@ def task(job):
             fault = f"cvc5 says {others[0][1]}: {others[0][0]}"
     except (Rejected, ValueError) as rejected:
         fault = rejected
+    except FileNotFoundError as missing:
+        fault = f"{missing.filename} is missing: install the packages of machine_code/README.md"
     except Exception as error:
         fault = f"an error in this tool: {error!r}"
     outcome = f"REJECTED: {fault}" if fault else outcome

@@ -22,7 +22,7 @@ def read(data):
         if data.startswith(magic):
             try:
                 return reader(data)
-            except ValueError:
+            except (OSError, ValueError):
                 raise
             except Exception as error:
                 # It ends too early, or says that something lies where nothing is.
