@@ -9,7 +9,7 @@
 #include "assembly.h"
 
 #if defined(__x86_64__) && !defined(__ILP32__)
-#define const_hex_1_0_0_choice choice
+#define const_hex_1_0_0_choice const_hex_kernel_choice
 #define const_hex_1_0_0_build SYMBOL(const_hex_kernel_build)
 #define const_hex_1_0_0_check SYMBOL(const_hex_kernel_check)
 #define const_hex_1_0_0_fill_lower SYMBOL(const_hex_kernel_fill_lower)

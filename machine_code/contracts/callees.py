@@ -1,7 +1,7 @@
 """How those that call a function use its contract, which is proved of it.
 
 A contract says in `requires` what it asks for, and in `called` what holds after a call. What is
-written to a buffer is compared as any other store is: at an arbitrary place. If more followed here
+written to a buffer is compared as any other store is: at an arbitrary index. If more followed here
 than what is proved, or less were asked for, a wrong caller could be accepted.
 """
 

@@ -141,7 +141,7 @@ class Function:
         return state.STACK_OF_CALLED if self.is_called else state.STACK, state.STACK_OF_CALLED
 
     def cases(self, state):
-        """What is told apart from the start, such as whether a text has a prefix."""
+        """The cases of the start, such as whether a text has a prefix."""
         return [state]
 
     def is_for(self, state):
@@ -149,7 +149,7 @@ class Function:
         return z3.BoolVal(True)
 
     def reached(self, state, read, written):
-        """At the head of a loop: all characters so far are digits, and the output is written so
+        """At a loop header: all characters so far are digits, and the output is written so
         far."""
         prove_digits(state, read)
         prove_no_gap(state)

@@ -134,7 +134,7 @@ class Encode(Exported):
         )
 
     def prove_nul(self, state, offset, lane, wanted):
-        state.prove(z3.And(self.has_nul, offset == wanted), "another place than that of a NUL")
+        state.prove(z3.And(self.has_nul, offset == wanted), "another offset than that of a NUL")
         require(len(lane) == 1 and lane[0].eq(byte(0)), "no NUL")
 
     def returns(self, state):

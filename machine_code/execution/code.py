@@ -1,6 +1,6 @@
 """The instructions and constants of a file, as `reading` has them.
 
-A file lies at an unknown place, a multiple of a page, and all that it has at fixed distances from
+A file lies at an unknown address, a multiple of a page, and all that it has at fixed distances from
 there. Instructions are read where they are run. If this were wrong, another instruction or constant
 could be proved than that which runs.
 """

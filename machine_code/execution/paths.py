@@ -1,9 +1,9 @@
-"""Runs a function on all inputs, by each path through it, and proves what is claimed at
-each loop header, branch and return.
+"""Runs a function on all inputs, by each path through it, and proves what is claimed at each loop
+header, branch and return.
 
-A loop is proved by induction: the invariant at its header after k rounds is claimed where it is entered,
-for k = 0; and from it, for any k, each path through the loop comes back to it for k + 1. If this
-were wrong, code could be accepted that is wrong after some rounds, or that does not end.
+A loop is proved by induction: the invariant at its header after k rounds is claimed where it is
+entered, for k = 0; and from it, for any k, each path through the loop comes back to it for k + 1.
+If this were wrong, code could be accepted that is wrong after some rounds, or that does not end.
 """
 
 from collections import namedtuple
@@ -37,8 +37,8 @@ class Loop:
         self.read, self.written = invariant.read(self.rounds), invariant.written(self.rounds)
 
     def prove_invariant(self, state, k):
-        """Proves that all that is assumed at the header holds in a state that has come there after k
-        rounds."""
+        """Proves that all that is assumed at the header holds in a state that has come there after
+        k rounds."""
 
         def after(term):
             return simple(z3.substitute(term, (self.rounds, k)))
@@ -55,8 +55,8 @@ class Loop:
             require(same, f"loop invariant: vector {number}")
         require(
             all(
-                place in state.cells and state.cells[place].eq(value)
-                for place, value in self.entry.cells.items()
+                key in state.cells and state.cells[key].eq(value)
+                for key, value in self.entry.cells.items()
             ),
             "loop invariant: the stack",
         )
@@ -144,7 +144,7 @@ def returned(state, to):
     if name in state.calls:
         state.address = state.calls.pop(name)
         return [state]
-    require(name == "return", "a return to another place")
+    require(name == "return", "a return to another address")
     state.returned()
     state.contract.returns(state)
     return []

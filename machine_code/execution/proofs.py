@@ -60,7 +60,10 @@ def functions_of(content):
     file = library.whole(content)
     functions = contracts_of(file)
     if not functions:
-        raise ValueError("it has no function of the library, or is stripped: keep its symbol table")
+        raise ValueError(
+            "it has no function of the library, or is stripped: keep its symbol table, in "
+            'Cargo.toml by `strip = "none"`'
+        )
     is_for_windows = content.startswith(library.PE) and file.machine == X86_64
     if is_for_windows and HEADER & file.symbols.keys():
         raise ValueError(
@@ -107,6 +110,8 @@ def task(job):
             fault = f"cvc5 says {others[0][1]}: {others[0][0]}"
     except (Rejected, ValueError) as rejected:
         fault = rejected
+    except FileNotFoundError as missing:
+        fault = f"{missing.filename} is missing: install the packages of machine_code/README.md"
     except Exception as error:
         fault = f"an error in this tool: {error!r}"
     outcome = f"REJECTED: {fault}" if fault else outcome

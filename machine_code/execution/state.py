@@ -257,27 +257,29 @@ class State:
             first = solver.model().eval(offset, True).as_long()
             index = simple(offset - first)
             table = region.data.read(first, 256)
-            self.prove(z3.ULT(index, len(table)), "a place beyond a table, or that may be written")
+            self.prove(
+                z3.ULT(index, len(table)), "an index beyond a table, or a table that may be written"
+            )
             return [simple(chosen([*map(byte, table.ljust(256, b"\0"))], z3.Extract(7, 0, index)))]
         lane = None
         for value in values(self.facts, offset, MOST):
             data = [byte(part) for part in region.data.read(value, count)]
-            require(len(data) == count, "a place that has no constant, or may be written")
+            require(len(data) == count, "an address that has no constant, or may be written")
             lane = (
                 [z3.If(offset == value, new, old) for new, old in zip(data, lane)] if lane else data
             )
         return list(map(simple, lane))
 
     def jumps(self, address):
-        """The conditions under which a jump leads to places of the file, and these places; or an
-        argument."""
+        """The conditions under which a jump leads to addresses of the file, and these addresses; or
+        an argument."""
         require(
             self.is_declassified or is_public(address), "a jump depends on bytes that are secret"
         )
         if address.decl().name() in self.contract.passed:
             return address
         base = self.code.constants.base
-        require(base.decl().name() in names(address), "a jump to a place that is not fixed")
+        require(base.decl().name() in names(address), "a jump to an address that is not fixed")
         offset = simple(address - base)
         return [
             (offset == value, self.code.object.first + value)

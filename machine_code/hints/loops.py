@@ -2,8 +2,8 @@
 
 The round begins with registers that are some unknown numbers more than where the loop was entered.
 What the round adds to each is a step, if it is a constant; and the branches that lead back to the
-head say what holds of the registers then. All of it is proved where it is used
-(execution/paths.py), so a wrong guess is rejected.
+loop header say what holds of the registers then. All of it is proved where it is used
+(execution/paths.py), so a wrong invariant is rejected.
 """
 
 import re
@@ -12,11 +12,11 @@ import z3
 
 from execution import paths
 from execution.terms import fresh_public, simple, word
-from meanings.webassembly import ENDS, Operands
+from meanings.webassembly_blocks import ENDS, Operands
 from reading.module import SPACE
 from solver.questions import Rejected, is_public, names
 
-# What leads to the place that it names, and what does not lead to the next instruction; on each
+# What leads to the address that it names, and what does not lead to the next instruction; on each
 # processor.
 JUMP, LAST = re.compile(r"j|call|bl?$|b\.|cbn?z|tbn?z"), ("jmp", "b", "ret", *ENDS)
 
@@ -143,7 +143,7 @@ class Invariant:
             if z3.is_bv_value(step) and step.as_long():
                 step = step.as_signed_long()
                 return simple(z3.UDiv(first if step < 0 else -first, word(abs(step))))
-        raise Rejected("nothing counts down")
+        raise Rejected("no bound of a loop is found: nothing counts down")
 
 
 def _compared(fact):
@@ -196,7 +196,7 @@ class Directed(Unproved):
         return other
 
 
-def _at_head(entry, kind, added):
+def _at_header(entry, kind, added):
     """A state where a round begins, whose registers are more than where the loop was entered."""
     state = type(kind.__name__, (kind, type(entry)), {})()
     state.__dict__ = entry.copy().__dict__ | {"reads": [], "writes": []}
@@ -205,10 +205,10 @@ def _at_head(entry, kind, added):
 
 
 def _first_round(code, entry):
-    """The addresses on a path from a loop's header back to it, and the state there; or None, if none
-    was found."""
+    """The addresses on a path from a loop's header back to it, and the state there; or None, if
+    none was found."""
     unchanged = {name: word(0) for name in entry.general}
-    work, leading = [(_at_head(entry, Unproved, unchanged), ())], leading_to(code, entry.address)
+    work, leading = [(_at_header(entry, Unproved, unchanged), ())], leading_to(code, entry.address)
     while work:
         # Those that lead back come first.
         work.sort(key=lambda part: part[0].address in leading)
@@ -225,9 +225,9 @@ def _first_round(code, entry):
 
 
 def infer_invariant(code, entry):
-    """The invariant at the loop header that a state has come to, or None. A first round finds a way back
-    to the head, and which registers change. A second one goes that way again, from registers
-    that are more by unknown numbers.
+    """The invariant at the loop header that a state has come to, or None. A first round finds a
+    path back to the header, and which registers change. A second one takes that path again, from
+    registers that are more by unknown numbers.
     """
     if not (first := _first_round(code, entry)):
         return None
@@ -236,7 +236,7 @@ def infer_invariant(code, entry):
         name: word(0) if end.general[name].eq(value) else fresh_public(64)
         for name, value in entry.general.items()
     }
-    state = _at_head(entry, Directed, added)
+    state = _at_header(entry, Directed, added)
     for address in path:
         state = next(after for after in paths.step(code, state) if after.address == address)
     return Invariant(entry, state, added)

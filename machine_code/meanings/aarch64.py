@@ -226,9 +226,9 @@ def move_part(s, i):
 def insert_bits(s, i):
     """bfxil: bits from anywhere in a register replace the lowest of another. bfi: the lowest
     replace bits anywhere."""
-    to, by, place, count = i.operands
+    to, by, lowest, count = i.operands
     require(count.value < 8 * to.size, "all bits")
-    low, at = (place.value, 0) if i.mnemonic == "bfxil" else (0, place.value)
+    low, at = (lowest.value, 0) if i.mnemonic == "bfxil" else (0, lowest.value)
     kept = z3.Extract(8 * to.size - 1, count.value, z3.RotateRight(s.number(to), at))
     new = z3.Extract(low + count.value - 1, low, s.number(by, to.size))
     s.put(to, simple(z3.RotateLeft(z3.Concat(kept, new), at)))

@@ -1,13 +1,9 @@
-"""WebAssembly: the instructions of a module as `wasm2wat` writes them, what each does, and how a
-function is called.
+"""WebAssembly: what each instruction of a module does, and how a function is called.
 
 An operand on the stack is a register whose name says how many lie below it; so are a function's
 parameters and locals. An i32 is a number of 64 bits of which the lowest 32 count.
 test_webassembly.py compares each form with Node.
 """
-
-import re
-from collections import namedtuple
 
 import z3
 
@@ -27,110 +23,11 @@ from meanings.lanes import (
     saturated,
     units,
 )
-from reading.assembled import Instruction
+from meanings.webassembly_blocks import instructions  # as each processor has it
 from reading.module import SPACE
 from solver.questions import is_public, is_public_name, names, public, require
 
-# How many operands there are before an instruction, the numbers in it, and where it leads.
-Operands = namedtuple("Operands", "height numbers targets")
 MEMORY = 1 << 16
-ENDS = ("br", "br_table", "return", "unreachable")
-
-
-class Block:
-    """Where a branch leads: to the start of a loop, or to the end of a block."""
-
-    def __init__(self, target, height):
-        self.target, self.height, self.is_loop, self.is_used = (
-            target,
-            height,
-            target is not None,
-            False,
-        )
-
-
-class Reader:
-    """The instructions of a function. Blocks become branches, and what is not reached is left
-    out."""
-
-    def __init__(self, code, function):
-        self.code, self.function, self.read_so_far = code, function, []
-        whole = Block(None, len(function.results))
-        self.blocks, self.height, self.is_reached = [whole], 0, True
-        *content, end = function.content
-        for text in content:
-            self.read(text, *text.split())
-        require(self.blocks == [whole], "a block of a kind that is not known")
-        self.height, whole.target, self.is_reached = (
-            whole.height,
-            self.place(),
-            self.is_reached or whole.is_used,
-        )
-        self.read(end, end)
-
-    def place(self):
-        return self.function.address + len(self.read_so_far)
-
-    def read(self, text, mnemonic, *words):
-        if mnemonic == "end":
-            block = self.blocks.pop()
-            self.is_reached |= block.is_used and not block.is_loop
-            self.height, block.target = block.height, block.target or self.place()
-        elif mnemonic in ("block", "loop"):
-            require(not words, "a block with a result")
-            self.blocks.append(
-                Block(self.place() if mnemonic == "loop" and self.is_reached else None, self.height)
-            )
-        elif self.is_reached:
-            self.add(text, mnemonic, words)
-
-    def add(self, text, mnemonic, words):
-        numbers, targets = _numbers(mnemonic, words), []
-        called = self.code.object.functions[numbers[0]] if mnemonic == "call" else None
-        takes, gives = (
-            (len(called.parameters), len(called.results))
-            if called
-            else EFFECTS.get(mnemonic, (0, 0))
-        )
-        if mnemonic.startswith("br"):
-            targets = [self.blocks[-1 - depth] for depth in numbers]
-        for block in targets:
-            # A result lies above what is dropped, so it would be taken from another place.
-            require(
-                block is not self.blocks[0] or self.height - takes == block.height,
-                "operands below a result",
-            )
-            block.is_used = True
-        self.read_so_far.append((mnemonic, Operands(self.height, numbers, targets), text))
-        self.height += gives - takes
-        if mnemonic == "call" and gives:
-            self.read_so_far.append(("result", Operands(self.height - 1, (), []), "result"))
-        self.is_reached = mnemonic not in ENDS
-
-    def instructions(self):
-        for address, (mnemonic, operands, text) in enumerate(
-            self.read_so_far, self.function.address
-        ):
-            operands = operands._replace(targets=[block.target for block in operands.targets])
-            yield address, Instruction(address, 1, mnemonic, operands, text)
-
-
-def _numbers(mnemonic, words):
-    """Numbers, of which the first of an access is its offset; or the bytes of a vector."""
-    if words[:1] == ("i32x4",):
-        return [part for number in words[1:] for part in split(z3.BitVecVal(int(number, 16), 32))]
-    named = dict(text.split("=") for text in words if "=" in text)
-    numbers = [int(text, 0) for text in words if "=" not in text]
-    return (
-        [int(named.get("offset", 0)), *numbers]
-        if re.search(r"\.(load|store)", mnemonic)
-        else numbers
-    )
-
-
-def instructions(code, section, level):
-    """Those of a function by their addresses."""
-    return dict(Reader(code, section).instructions())
 
 
 def _operand(i, height):
@@ -185,21 +82,21 @@ class State(state.State):
     def _lay_out(self, module):
         """The stack, the data, and what the caller may use follow each other."""
         data = [(part.address, part.address + len(part.content)) for part in module.data]
-        places = [module.globals[0], *sum(data, ())]
-        places += [module.places.get(name, -1) for name in ("__data_end", "__heap_base")]
+        addresses = [module.globals[0], *sum(data, ())]
+        addresses += [module.addresses.get(name, -1) for name in ("__data_end", "__heap_base")]
         is_right = (
             len(data) == 1
-            and places[0] == State.STACK
-            and places == sorted(places)
-            and places[-1] <= MEMORY
+            and addresses[0] == State.STACK
+            and addresses == sorted(addresses)
+            and addresses[-1] <= MEMORY
         )
-        require(is_right, f"the stack, the data and `__heap_base` lie at {places}")
+        require(is_right, f"the stack, the data and `__heap_base` lie at {addresses}")
         require(module.mutable == {0}, "a global that is kept between calls")
         is_called = self.contract.is_called
         for region in self.regions.values():
-            # What is called gets places in its caller's stack, too.
+            # What is called gets addresses in its caller's stack, too.
             lowest = (
-                places[-1]
+                addresses[-1]
                 if region.data is None and region.name != "stack" and not is_called
                 else 0
             )

@@ -55,7 +55,7 @@ for _name in ("ax", "bx", "cx", "dx", "si", "di", "bp", "sp"):
 
 
 class Operand:
-    """A register, a number, or a place in memory; of so many bytes if it is not a number."""
+    """A register, a number, or an address in memory; of so many bytes if it is not a number."""
 
     def __init__(self, text):
         self.size = None
@@ -276,7 +276,7 @@ def pop(s, i):
 
 
 def target(s, i):
-    require(i.operands[0].kind == "number", "a jump to a place that is not fixed")
+    require(i.operands[0].kind == "number", "a jump to an address that is not fixed")
     return i.operands[0].value
 
 

@@ -87,7 +87,7 @@ def move_vector(is_aligned):
 
 
 def move_low(size):
-    """Between the lowest bytes of a vector and another place. In a vector, the others are
+    """Between the lowest bytes of a vector and another operand. In a vector, the others are
     cleared."""
 
     def handler(s, i):

@@ -26,7 +26,7 @@ COMMANDS = {
     AARCH64: (["aarch64-linux-gnu-objdump", "-m", "aarch64"], "//|<", "aarch64-linux-gnu-objcopy"),
 }
 LINE = re.compile(r"^\s*([0-9a-f]+):\t((?:(?:[0-9a-f]{2})+ )+)\s*\t(.*)$")
-# Each text is assembled in a place of its own, which has more bytes than an instruction, and these
+# Each text is assembled in a slot of its own, which has more bytes than an instruction, and these
 # where none is.
 SLOT, FILL = 16, b"\xcc"
 ADDRESS, MESSAGE = re.compile(r"(?<!#)\b0x([0-9a-f]+)$"), re.compile(
@@ -82,7 +82,7 @@ def printed(part, processor, operands=lambda text: ()):
 
 
 def _assembled(processor, command, texts):
-    """The places with what the assembler makes of each text, and what it says of each."""
+    """The slots with what the assembler makes of each text, and what it says of each."""
     lines = [
         f".org {SLOT * number}, {FILL[0]}; {text}\n" for number, text in enumerate([*texts, ""])
     ]

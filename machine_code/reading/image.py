@@ -19,7 +19,7 @@ PREFIX = "const_hex_"
 HEADER = {PREFIX + name for name in FUNCTIONS}
 # The symbols of the byte in which the dispatcher of the C library, or of the Rust crate, keeps its
 # choice.
-CHOICE = re.compile(rf"({PREFIX}\d+_\d+_\d+_)?choice")
+CHOICE = re.compile(rf"{PREFIX}(kernel|\d+_\d+_\d+)_choice")
 
 
 class Part(NamedTuple):
@@ -41,7 +41,7 @@ class Image:
                 "as machine_code/README.md says"
             )
         if any(part.is_writable and part.is_executable for part in parts):
-            raise ValueError("code that can be written: link without -N (--omagic)")
+            raise ValueError("code that can be written: link without -N and -n")
         self.machine, self.parts = machine, sorted(parts)
         self.first = self.parts[0].address // PAGES * PAGES
         self.size = max(part.address + part.size for part in parts) - self.first
@@ -54,17 +54,17 @@ class Image:
         # The addresses that the loader writes in parts that are not writable.
         self.relocated = set()
 
-    def add_symbol(self, name, address, size=0):
-        """Adds a symbol. Its size is 0 if the format or the assembler does not say it."""
+    def add_symbol(self, name, address, size=1):
+        """Adds a symbol, whose size PE and Mach-O do not have."""
         self.starts.add(address)
-        if CHOICE.fullmatch(name) and size <= 1:
+        if CHOICE.fullmatch(name) and size == 1:
             self.choices.add(address)
         if name.startswith(PREFIX) and self.symbols.setdefault(name, address) != address:
             raise ValueError(f"{name} has two addresses: link one version of the library")
 
     def add_exported(self, name, address):
         if name in HEADER or name in self.symbols:
-            self.add_symbol(name, address)
+            self.add_symbol(name, address, size=0)
             self.exported |= {name} & HEADER
 
     def add_imported(self, name):
@@ -104,6 +104,6 @@ class Image:
 
     def name_at(self, address):
         """Where an address is, for messages."""
-        names = [(place, name) for name, place in self.symbols.items() if place <= address]
+        names = [(start, name) for name, start in self.symbols.items() if start <= address]
         start, name = max(names, default=(0, "the file"))
         return f"{name}+{address - start:#x}"

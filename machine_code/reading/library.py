@@ -22,7 +22,7 @@ def read(data):
         if data.startswith(magic):
             try:
                 return reader(data)
-            except ValueError:
+            except (OSError, ValueError):
                 raise
             except Exception as error:
                 # It ends too early, or says that something lies where nothing is.
@@ -51,7 +51,7 @@ def _check_exports(module):
     """A module exports what the package uses, and nothing else."""
     wanted = {"memory", "__data_end", "__heap_base"}
     wanted |= {f"const_hex_{name}" for name, function in FUNCTIONS.items() if function.is_in_module}
-    for name in sorted((module.exported | module.places.keys()) ^ wanted):
+    for name in sorted((module.exported | module.addresses.keys()) ^ wanted):
         raise ValueError(
             f"the export {name!r}: it is missing, or belongs to nothing of the library"
         )
@@ -66,12 +66,14 @@ def _check_names(file):
     # A loader finds each function of the header, or none.
     if file.exported and (missing := image.HEADER - file.exported):
         raise ValueError(f"the loader does not find {', '.join(sorted(missing))}: export them, too")
-    has_dispatcher = any(name.endswith("_v3") for name in file.symbols)
+    # Without a dispatcher, a program for x86-64-v3 alone calls the kernel.
+    has_dispatcher = any(name + "_v3" in file.symbols for name in file.symbols)
     hidden = {
         name + "_nonnull" for name in file.symbols if name.removeprefix("const_hex_") in WITH_ERROR
     }
     if hidden - file.symbols.keys() or has_dispatcher and not file.choices:
         raise ValueError(
-            "it is stripped: the names of hidden functions or of `choice` are missing. Use neither "
-            "strip nor strip -x, nor -Wl,-s or -Wl,-x"
+            "it is built from portable.c, which this tool does not prove, or stripped: the names of "
+            "hidden functions or of the dispatcher's byte are missing. Use neither strip nor "
+            "strip -x, nor -Wl,-s or -Wl,-x"
         )

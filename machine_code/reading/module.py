@@ -20,7 +20,7 @@ Function = namedtuple("Function", "name address parameters results locals conten
 
 class Module:
     """`globals` are their values at the start. Number 0 is the stack pointer, below which the stack
-    lies. `mutable` has the numbers of those that may change, and `places` the addresses that it
+    lies. `mutable` has the numbers of those that may change, and `addresses` those that it
     exports.
     """
 
@@ -28,7 +28,7 @@ class Module:
         self.machine, self.functions, self.data = None, [], []
         # Where the data lie, which have so many bytes.
         self.first = self.size = 0
-        self.symbols, self.exported, self.globals, self.mutable, self.places = (
+        self.symbols, self.exported, self.globals, self.mutable, self.addresses = (
             {},
             set(),
             [],
@@ -95,7 +95,7 @@ def _add(module, part):
     elif fields := re.fullmatch(r'\(export "(__\w+)" \(global (\d+)\)\)', part):
         if int(fields[2]) in module.mutable:
             raise ValueError(f"{fields[1]}, which the engine may change")
-        module.places[fields[1]] = module.globals[int(fields[2])]
+        module.addresses[fields[1]] = module.globals[int(fields[2])]
     elif part == '(export "memory" (memory 0))':
         module.exported.add("memory")
     elif not part.startswith(OTHERS):
@@ -104,14 +104,14 @@ def _add(module, part):
 
 def _function(number, part):
     lines = [line.strip() for line in re.sub(r"\(;.*?;\)", "", part.removesuffix(")")).split("\n")]
-    heads = 1 + (len(lines) > 1 and lines[1].startswith("(local"))
+    header = 1 + (len(lines) > 1 and lines[1].startswith("(local"))
     sizes = [
         [
             SIZES[type_]
-            for types in re.findall(rf"\({kind}([^)]*)\)", " ".join(lines[:heads]))
+            for types in re.findall(rf"\({kind}([^)]*)\)", " ".join(lines[:header]))
             for type_ in types.split()
         ]
         for kind in ("param", "result", "local")
     ]
     # The end of a function returns.
-    return Function(f"function {number}", SPACE * (number + 1), *sizes, [*lines[heads:], "return"])
+    return Function(f"function {number}", SPACE * (number + 1), *sizes, [*lines[header:], "return"])

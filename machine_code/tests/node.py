@@ -209,7 +209,7 @@ class Node:
         state.address = self.code.object.symbols[name]
         state.begin(self.code.object.code_at(state.address), [], public("return", 64))
         while after := [path for path in rejected_or(step, self.code, state) if path.is_right()]:
-            require(len(after) == 1, "several ways")
+            require(len(after) == 1, "several paths")
             (state,) = after
         require(state.general["global 0"].eq(word(SIZE)), "another global")
         return bytes(state.memory)

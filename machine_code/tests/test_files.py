@@ -94,12 +94,10 @@ HONEST = {
     "macOS on AArch64": lambda folder: for_macos(folder, "arm64"),
     "Windows on AArch64": for_windows_on_aarch64,
 }
-STRIPPED = "it is stripped: .* Use neither strip nor strip -x"
+STRIPPED = "built from portable.c, .* or stripped: .* Use neither strip nor strip -x"
 MISTAKES = {
     "strip": (after("strip"), STRIPPED),
     "strip -x": (after("strip", "-x"), STRIPPED),
-    "strip -x of a program": (after("strip", "-x", of=program()), STRIPPED),
-    "strip of a program": (after("strip", of=program()), "keep its symbol table"),
     "a file of debug information": (
         after("objcopy", "--only-keep-debug"),
         "a file of debug information: prove the file that runs",
@@ -139,7 +137,7 @@ MISTAKES = {
     "an object": (lambda folder: pathlib.Path(objects(X86_64)[1][0]), "an object has to be linked"),
     "a program without the library": (
         lambda folder: pathlib.Path("/bin/true"),
-        "it has no function of",
+        "no function of the library, or is stripped: keep",
     ),
 }
 
@@ -157,6 +155,12 @@ def test_a_dll_is_read(tmp_path):
     file, contracts = proofs.functions_of(build.kernels_for_windows(tmp_path).read_bytes())
     assert len(contracts) == 12
     assert all(map(file.is_kept, file.choices)) and len(file.choices) == 1
+
+
+def test_a_program_for_avx2_alone_is_read():
+    """It calls this kernel, and has no dispatcher."""
+    text = "".join((build.RUST / f"{name}.s").read_text() for name in ("elf", "x86_64_v3"))
+    assert len(proofs.functions_of(build.linked(text))[1]) == 4
 
 
 @pytest.mark.parametrize("make, message", MISTAKES.values(), ids=MISTAKES)

@@ -85,7 +85,7 @@ def test_what_is_called_is_proved(tmp_path):
     assert called & file.symbols.keys() <= {symbol for symbol, _ in functions}
 
 
-def test_who_uses_a_guess():
+def test_only_proofs_use_hints():
     folders = [
         FOLDER / name for name in ("contracts", "execution", "meanings", "reading", "solver")
     ]

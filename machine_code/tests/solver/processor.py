@@ -39,8 +39,8 @@ NEAR = [None] * 4 + [0, 0, 1 << 31, 1 << 63]
 
 
 class Kind(NamedTuple):
-    """A processor: its registers as run.c has them, where its flags are, how long a jump is, and what
-    runs a program for it."""
+    """A processor: its registers as run.c has them, where its flags are, how long a jump is, and
+    what runs a program for it."""
 
     registers: tuple
     flags: dict

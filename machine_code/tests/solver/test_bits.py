@@ -52,14 +52,14 @@ def test_bit(seed, library):
     # The tests run the kernel for this processor.
     symbol = some.choice([name for name, _ in functions if not name.endswith("_v2")])
     _, code = image.code_at(image.symbols[symbol])
-    place, bit = content.index(code) + some.randrange(len(code)), 1 << some.randrange(8)
-    changed = content[:place] + bytes([content[place] ^ bit]) + content[place + 1 :]
+    index, bit = content.index(code) + some.randrange(len(code)), 1 << some.randrange(8)
+    changed = content[:index] + bytes([content[index] ^ bit]) + content[index + 1 :]
     if is_proved(changed, symbol, functions):
         file.write_bytes(changed)
         try:
             assert subprocess.run([check], capture_output=True).returncode == 0, (
                 symbol,
-                place,
+                index,
                 bit,
             )
         finally:

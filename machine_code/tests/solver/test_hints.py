@@ -1,4 +1,4 @@
-"""With a wrong hint about a loop, right code is rejected."""
+"""With a wrong loop invariant, right code is rejected."""
 
 import pytest
 from execution import proofs
@@ -7,19 +7,19 @@ from hints.loops import infer_invariant
 from programs import program, prove
 from solver.questions import Rejected
 
-PASSES, AT_HEAD = "a character is passed that may be no digit", "loop invariant: "
+PASSES, INVARIANT = "a character is passed that may be no digit", "loop invariant: "
 LEFT_OUT = "a character of the text is left out"
 WIDE = {"round": "vpxor ymm1, ymm1, ymm1", "end": "vzeroupper"}
-# What is wrong, the function, what is changed in it, the attribute of the hint, its value, and the
-# message.
+# What is wrong, the function, what is changed in it, the attribute of the invariant, its value, and
+# the message.
 WRONG = [
     ("a step that is too great", "check", {}, "steps", {"rdi": 2}, "may lie outside of input"),
-    ("a register that changes", "check", {}, "steps", {"rax": 0}, f"{AT_HEAD}rax"),
-    ("a vector that changes", "check", WIDE, "unchanged", [1], f"{AT_HEAD}vector 1"),
-    ("a wide register", "check", WIDE, "is_clean", True, f"{AT_HEAD}vzeroupper is missing"),
-    ("no rounds", "check", {}, "bound", lambda entry: word(0), AT_HEAD),
+    ("a register that changes", "check", {}, "steps", {"rax": 0}, f"{INVARIANT}rax"),
+    ("a vector that changes", "check", WIDE, "unchanged", [1], f"{INVARIANT}vector 1"),
+    ("a wide register", "check", WIDE, "is_clean", True, f"{INVARIANT}vzeroupper is missing"),
+    ("no rounds", "check", {}, "bound", lambda entry: word(0), INVARIANT),
     ("no bound", "check", {}, "bound", lambda entry: word(-1), "the number of rounds"),
-    ("what holds before the first round", "check", {}, "guards", lambda k: [k == 0], AT_HEAD),
+    ("what holds before the first round", "check", {}, "guards", lambda k: [k == 0], INVARIANT),
     ("more that is read", "check", {}, "read", lambda k: k + 1, PASSES),
     ("nothing that is read", "check", {}, "read", lambda k: word(0), PASSES),
     ("more that is written", "fill_lower", {}, "written", lambda k: 2 * k + 2, LEFT_OUT),
@@ -30,7 +30,7 @@ WRONG = [
 @pytest.mark.parametrize(
     "call, changes, name, value, message", [row[1:] for row in WRONG], ids=[row[0] for row in WRONG]
 )
-def test_hint(call, changes, name, value, message, monkeypatch):
+def test_wrong_invariant(call, changes, name, value, message, monkeypatch):
     def inferred(code, entry):
         invariant = infer_invariant(code, entry)
         old = getattr(invariant, name)

@@ -23,7 +23,7 @@ AARCH64 = """
     .section .text.other, "ax"; other: ret
 """
 BELOW, NOT_IN_STACK = "an access below the stack pointer", "the stack pointer is not in the stack"
-NOT_FIXED = "a jump to a place that is not fixed"
+NOT_FIXED = "a jump to an address that is not fixed"
 NO_MEANING = "an instruction without a meaning here"
 OTHER_BYTES, WIDE = "is not what the assembler makes of it", "vzeroupper is missing"
 OTHER, WRONG_VERSION = f"{NO_MEANING}|{OTHER_BYTES}", "the version is not"
@@ -50,8 +50,8 @@ WRONG = {
             "shr eax, 1; inc eax; setb al",
             "a flag that is not known",
         ),
-        ("a place beyond a vector in pinsrb xmm0, eax, 16", "pinsrb xmm0, eax, 16", "an index"),
-        ("a place beyond a vector in pextrw", "pextrw eax, xmm0, 8", "an index"),
+        ("an index beyond a vector in pinsrb xmm0, eax, 16", "pinsrb xmm0, eax, 16", "an index"),
+        ("an index beyond a vector in pextrw", "pextrw eax, xmm0, 8", "an index"),
         ("CRC32", "crc32 eax, ecx", NO_MEANING),
         ("a byte that is kept", "mov byte ptr [rip + kept], 7", "constants is written"),
         ("AVX without a check", "vpxor ymm0, ymm0, ymm0", OTHER_BYTES),
@@ -60,7 +60,7 @@ WRONG = {
     ],
     "v3": [
         (
-            "a place beyond a vector in vinserti128 ymm0, ymm0, xmm0, 2",
+            "an index beyond a vector in vinserti128 ymm0, ymm0, xmm0, 2",
             "vinserti128 ymm0, ymm0, xmm0, 2",
             "an index",
         ),

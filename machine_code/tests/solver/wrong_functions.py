@@ -55,7 +55,7 @@ X86_64 = {
             "a write before the size is known",
             "",
             "test rcx,rcx; je 1f; mov BYTE PTR [rdx],0; 1:",
-            "another place|though the text may not fit",
+            "another offset|though the text may not fit",
         ),
         ("another prefix", "[{a}],0x7830", "[{a}],0x5830", "a wrong prefix", "flags 2"),
         (
@@ -76,7 +76,7 @@ X86_64 = {
             "a NUL that is not wanted",
             "",
             "lea rax,[rsi+rsi]; cmp rax,rcx; jae 1f; mov BYTE PTR [rdx+rax],0; 1:",
-            "another place than that of a NUL",
+            "another offset than that of a NUL",
             "flags 4",
         ),
         ("no NUL", "mov BYTE PTR [{a}+{b}*1],0x0", "", "a character of the text is left out"),
@@ -262,7 +262,7 @@ X86_64 = {
             "decoder is wrong at 8",
         ),
         (
-            "two bytes at one place",
+            "two bytes at one index",
             "inc r13",
             "",
             "whether it is the first byte",
@@ -418,7 +418,7 @@ MODULE = {
             "the module traps",
         ),
         (
-            "an empty text at no place",
+            "an empty text at no address",
             "",
             f"block; local.get 3; i32.const 65537; i32.lt_u; {TRAP}",
             "the module traps",

@@ -4,16 +4,13 @@ dispatchers."""
 from contracts.dispatch import CHOICES, OR_NULL
 from contracts.messages import MESSAGES
 from build import ASM, RUST, linked
+from programs import CHOICE
 
 # What is wrong with a dispatcher of the C library, which includes that of the Rust crate.
-DISPATCHER = (
-    (ASM / "dispatch.S")
-    .read_text()
-    .replace('#include "../../rust/src/asm/dispatch.s"', (RUST / "dispatch.s").read_text())
-    .replace("const_hex_1_0_0_choice", "choice")
-)
-# A variable of the program lies before the byte of the dispatcher.
-VARIABLE = '\t.section .bss.first, "aw", %nobits\nfirst_choice: .zero 1\n'
+INCLUDED = '#include "../../rust/src/asm/dispatch.s"'
+DISPATCHER = (ASM / "dispatch.S").read_text().replace(INCLUDED, (RUST / "dispatch.s").read_text())
+# A variable of the program, of the same size, lies before the byte of the dispatcher.
+VARIABLE = "\t.bss\n\t.size choice, 1\nchoice: .zero 1\n"
 MESSAGE = """
     .intel_syntax noprefix
     .section .text.const_hex_error_message, "ax"; .globl const_hex_error_message
@@ -56,12 +53,12 @@ OF_MESSAGES = [
         "another part of the output",
     ),
     (
-        "one place too far",
+        "one byte too far",
         KIND(1) + SIZE(64) + "movups [rsi+1], xmm0; movups [rsi+6], xmm0; mov eax, 20; ret",
         "a byte is left out",
     ),
     (
-        "an unknown place",
+        "an unknown offset",
         KIND(1) + "cmp rdx, 3; jbe 9f; mov byte ptr [rsi+rdx-1], 0; " + END,
         "too many values",
     ),
@@ -82,12 +79,12 @@ OF_MESSAGES = [
     ("a result of its own", CALL.format("", "mov eax, 20"), "another result"),
 ]
 NONNULL, CALL_IT = "\tjne\t\\name\\()_nonnull\n", "\tcall\t\\name\\()_nonnull\n"
-IS_3 = "\tcmp\tBYTE PTR [rip + choice], 3\n\tje\t\\name\\()_v3\n"
-IS_2 = "\tcmp\tBYTE PTR [rip + choice], 2\n\tje\t\\name\\()_v2\n"
+IS_3 = f"\tcmp\tBYTE PTR [rip + {CHOICE}], 3\n\tje\t\\name\\()_v3\n"
+IS_2 = f"\tcmp\tBYTE PTR [rip + {CHOICE}], 2\n\tje\t\\name\\()_v2\n"
 NULL, NOT_NULL = "the error is NULL", "the error is not NULL"
-NO_CONSTANT = "a place that has no constant"
+NO_CONSTANT = "an address that has no constant"
 TEST = "\ttest\t\\error, \\error\n"
-TIMED = f"cmp BYTE PTR [rip + choice - 1], 0x61\njb 9f\n.rept 200\nnop\n.endr\n9:\n{TEST}"
+TIMED = f"cmp BYTE PTR [rip + {CHOICE} - 1], 0x61\njb 9f\n.rept 200\nnop\n.endr\n9:\n{TEST}"
 LOCAL, OTHER_BUILD = "mov\t\\error, rsp", "not the one for this CPU"
 # By the function and the contract: what is wrong, the text before and after, and the message.
 OF_DISPATCHERS = {
@@ -98,13 +95,13 @@ OF_DISPATCHERS = {
         (
             "a byte after the call",
             CALL_IT,
-            f"{CALL_IT}\tmov\tBYTE PTR [rip + choice], 1\n",
+            f"{CALL_IT}\tmov\tBYTE PTR [rip + {CHOICE}], 1\n",
             "a byte is stored after the call",
         ),
         (
             "a byte before the call",
             CALL_IT,
-            f"\tmov\tBYTE PTR [rip + choice], 1\n{CALL_IT}",
+            f"\tmov\tBYTE PTR [rip + {CHOICE}], 1\n{CALL_IT}",
             "a byte is stored",
         ),
         ("an error that is not aligned", LOCAL, "lea\t\\error, [rsp+4]", "is not aligned"),
@@ -133,11 +130,12 @@ OF_DISPATCHERS = {
     ("read", "every call"): [
         ("a variable of the program", "choice]", "choice - 1]", NO_CONSTANT),
         (
-            "another place of portable code",
+            "another address of portable code",
             "jmp\t\\portable",
             "inc\t\\portable\n\tjmp\t\\portable",
             "is not fixed",
         ),
+        ("a byte of a larger variable", ".size \\name, 1", ".size \\name, 2", NO_CONSTANT),
         ("no look at LZCNT", "\tje\t3f\n", "\tnop\n", OTHER_BUILD),
         (
             "no look at the registers of AVX",

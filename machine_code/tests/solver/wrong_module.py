@@ -91,9 +91,9 @@ WRONG = [
         "the module traps",
     ),
     (
-        "half of a place",
+        "half of an address",
         {"invalid": "local.get 3 i32.const 1 i32.shl i32.load8_u offset=4096 local.set 2"},
-        "a place beyond a table",
+        "an index beyond a table",
     ),
     ("a loop without an end", {"start": "loop br 0 end"}, "nothing counts down"),
     ("data in the stack", {'4096) "': '4092) "'}, LAYOUT),

@@ -1,12 +1,12 @@
 """Wrong edits of small programs, each a loop over single bytes (programs.py), and right ones that
 look alike."""
 
-from programs import BYTE, LOAD
+from programs import BYTE, CHOICE, LOAD
 
 PASSES, SECRET = "a character is passed that may be no digit", "a branch depends on bytes"
 OUTSIDE = "may lie outside"
 UNWRITTEN = "a byte of the stack that was not written"
-NOT_IN_STACK, AT_HEAD = "the stack pointer is not in the stack", "loop invariant: "
+NOT_IN_STACK, INVARIANT = "the stack pointer is not in the stack", "loop invariant: "
 # Goes on if and only if ten times a tenth of a length is at most the length, and returns true
 # otherwise.
 TENTH = (
@@ -17,8 +17,8 @@ TENTH = (
 FIRST, SECOND = [LOAD.format(index) + BYTE for index in (0, 2)]
 IF_EQUAL = "cmp rax, rsi; jne 1f; mov eax, 1; ret"
 HOLE = "a byte is left out before what is written"
-# By the processor's level and the function: what is wrong, where a change stands, the change, and the
-# message.
+# By the processor's level and the function: what is wrong, where a change stands, the change, and
+# the message.
 WRONG = {
     ("v3", "check"): [
         ("one length", "start", f"movabs rax, 0x10000000000; {IF_EQUAL}", PASSES),
@@ -55,7 +55,7 @@ WRONG = {
             PASSES,
         ),
         (
-            "a place in the stack that depends on the length",
+            "an offset in the stack that depends on the length",
             "start",
             "mov rax, rsi; and rax, 8; sub rsp, 64; mov [rsp+rax], rsi; mov rsi, [rsp]; add rsp, 64",
             "an offset in the stack is not known",
@@ -78,11 +78,16 @@ WRONG = {
             "pop rcx; push rcx; push rcx",
             "the stack pointer is not as before",
         ),
-        ("a return to another place", "end", "add qword ptr [rsp], 2", "a return to another place"),
+        (
+            "a return to another address",
+            "end",
+            "add qword ptr [rsp], 2",
+            "a return to another address",
+        ),
         ("rbx", "start", "mov rbx, rsi", "rbx is not as before"),
         ("vzeroupper", "end", "vpxor ymm0, ymm0, ymm0", "vzeroupper is missing"),
         ("a loop without an end", "start", "5: jmp 5b", "nothing counts down"),
-        ("a loop that turns too often", "start", "mov r8d, 6; 5: sub r8, 4; jne 5b", AT_HEAD),
+        ("a loop that turns too often", "start", "mov r8d, 6; 5: sub r8, 4; jne 5b", INVARIANT),
         (
             "more rounds than characters",
             "start",
@@ -105,7 +110,7 @@ WRONG = {
             "a wide register in some rounds",
             "round",
             "test sil, 1; jne 5f; jmp 6f; 5: vmovdqa ymm1, ymm1; 6:",
-            f"{AT_HEAD}vzeroupper is missing",
+            f"{INVARIANT}vzeroupper is missing",
         ),
         (
             "a call in each round that does not return",
@@ -180,7 +185,7 @@ WRONG = {
     ],
     ("aarch64", "check"): [
         ("v8", "start", "movi v8.16b, #1", "v8 is not as before"),
-        ("a return to another place", "end", "add x30, x30, #4", "a return to another place"),
+        ("a return to another address", "end", "add x30, x30, #4", "a return to another address"),
         (
             "a stack that is not aligned",
             "start",
@@ -220,8 +225,8 @@ MORE = [
         "v3",
         "check",
         {
-            "character": "mov [rip+choice], al; test byte ptr [rip+choice], 1; je 5f; nop; 5:",
-            "helper": '.section .bss.choice, "aw", @nobits; choice: .skip 1; .section .text.helper, "ax";',
+            "character": f"mov [rip+{CHOICE}], al; test byte ptr [rip+{CHOICE}], 1; je 5f; nop; 5:",
+            "helper": f".bss; .size {CHOICE}, 1; {CHOICE}: .skip 1; .previous;",
         },
         "constants is written",
     ),

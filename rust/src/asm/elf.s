@@ -17,6 +17,8 @@
 	/* A byte of zero. */
 	.macro variable name
 	.section .bss.\name, "aw", %nobits
+	.type \name, %object
+	.size \name, 1
 \name:
 	.zero 1
 	.endm
