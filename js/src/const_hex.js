@@ -1,5 +1,5 @@
-// Encodes and decodes hexadecimal text by three functions of a module that is compiled from formally verified
-// source. index.d.ts describes what this file exports.
+// Encodes and decodes hexadecimal text by three functions of a formally verified module. index.d.ts describes what
+// this file exports.
 //
 // The module has 64 KiB of memory, which never grows. A call copies its input there, one chunk after another,
 // and copies the output back.
