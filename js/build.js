@@ -20,11 +20,17 @@ function build() {
 
 function compile() {
     const target = 'wasm32-unknown-unknown';
-    // The module has no path of this machine in it.
-    const remap = `target.${target}.rustflags = ['--remap-path-prefix=${at('../rust/')}=']`;
-    const options = ['--quiet', '--release', '--target', target, '--config', remap];
-    execFileSync('cargo', ['build', ...options], { cwd: at('../rust/capi'), stdio: 'inherit' });
-    const [made, module] = [at(`../rust/capi/target/${target}/release/const_hex.wasm`), at('src/const_hex.wasm')];
+    const flags = [
+        '-Ctarget-feature=+simd128',
+        // A stack of 4 KiB, and 64 KiB of memory in all.
+        '-Clink-args=-zstack-size=4096 --initial-memory=65536 --max-memory=65536',
+        // The module has no path of this machine in it.
+        `--remap-path-prefix=${at('../rust/')}=`,
+    ];
+    const config = `target.${target}.rustflags = ${JSON.stringify(flags)}`;
+    const options = ['--quiet', '--release', '--target', target, '--config', config];
+    execFileSync('cargo', ['build', ...options], { cwd: at('module'), stdio: 'inherit' });
+    const [made, module] = [at(`module/target/${target}/release/const_hex.wasm`), at('src/const_hex.wasm')];
     if (check !== '--check') copyFileSync(made, module);
     else if (!readFileSync(made).equals(readFileSync(module))) throw new Error(`cargo makes another ${module}`);
 }

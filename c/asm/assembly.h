@@ -18,11 +18,17 @@
 
 #else
 
-#define SYMBOL(name) name
 #ifdef __ELF__
+#define SYMBOL(name) name
 #include "../../rust/src/asm/elf.s"
 #else
 #include "../../rust/src/asm/coff.s"
+#ifdef __x86_64__
+/* The functions of const_hex.h are those of windows.c, which call these. */
+#define SYMBOL(name) sysv_##name
+#else
+#define SYMBOL(name) name
+#endif
 #endif
 
 	.macro exported name

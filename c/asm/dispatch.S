@@ -73,5 +73,5 @@
 	or_null SYMBOL(const_hex_check), x2
 
 #else
-#error "There is no machine code for this processor here. c/README.md says how to build the library with cargo."
+#error "There is no machine code for this processor here. Compile c/portable.c instead."
 #endif

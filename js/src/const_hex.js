@@ -1,5 +1,5 @@
-// Encodes and decodes hexadecimal text by three functions of a module that is compiled from formally verified
-// source. index.d.ts describes what this file exports.
+// Encodes and decodes hexadecimal text by three functions of a formally verified module. index.d.ts describes what
+// this file exports.
 //
 // The module has 64 KiB of memory, which never grows. A call copies its input there, one chunk after another,
 // and copies the output back.
@@ -29,6 +29,8 @@ const BYTES = DECODER + 32;
 const TEXT = BYTES + BYTES_CHUNK + 16;
 const numbers = new Uint32Array(memory.buffer, DECODER, 7);
 const bytes = new Uint8Array(memory.buffer, BYTES, BYTES_CHUNK + 1);
+// The first bytes of these, as many as `decodeInto` last copied: a view takes longer to make than to copy.
+let front = bytes;
 // The last character of a chunk may have four bytes.
 const text = new Uint8Array(memory.buffer, TEXT, TEXT_CHUNK + 4);
 
@@ -38,9 +40,8 @@ const textBuffer = Buffer?.from(memory.buffer, TEXT, text.length);
 const textEncoder = globalThis.TextEncoder ? new TextEncoder() : { encodeInto: const_hex_decoder_update };
 const textDecoder = globalThis.TextDecoder && new TextDecoder();
 
-// Up to so many characters are copied by a loop, since calls of the engine take long to begin, and so many bytes.
+// Up to so many characters are copied by a loop, since calls of the engine take long to begin.
 const SHORT = Buffer ? 16 : 96;
-const SHORT_BYTES = 32;
 // From so many bytes on, Node joins the chunks of a text faster as bytes than as strings.
 const LONG = Buffer ? 2 ** 17 : Infinity;
 
@@ -99,12 +100,11 @@ export function decodeInto(input, target) {
     const output = decodeSource(source, true);
     try {
         if (!output || !finishes()) throw errorOf(source, length);
-        if ((output === bytes ? numbers[2] : output.length) !== length) throw new HexError(INVALID_LENGTH);
-        if (length > SHORT_BYTES) typedArray.set.call(target, output.subarray(0, length));
-        else for (let index = 0; index < length; index++) target[index] = output[index];
+        if (output.length !== length) throw new HexError(INVALID_LENGTH);
+        typedArray.set.call(target, output);
         return target;
     } finally {
-        if (output !== bytes) output?.fill(0);
+        if (output !== front) output?.fill(0);
     }
 }
 
@@ -207,13 +207,13 @@ function loadDecoder(first, second) {
 }
 
 /**
- * Returns what a source decodes to, or undefined after an error. What a caller copies may be the first `numbers[2]`
- * bytes of `bytes`, or be the beginning of its buffer. No other array keeps any of it.
+ * Returns what a source decodes to, or undefined after an error. What a caller copies may be `front`, or be the
+ * beginning of its buffer. No other array keeps any of it.
  */
 function decodeSource(source, isCopied = false) {
     let count = decodeChunk(source, 0);
     if (count < 0) return undefined;
-    if (source.length <= TEXT_CHUNK) return isCopied ? bytes : bytes.slice(0, count);
+    if (source.length <= TEXT_CHUNK) return isCopied ? frontOf(count) : bytes.slice(0, count);
     const output = new Uint8Array(count + Math.ceil(source.length / 2) - BYTES_CHUNK);
     let written = 0;
     for (let index = TEXT_CHUNK; count >= 0; index += TEXT_CHUNK) {
@@ -226,6 +226,11 @@ function decodeSource(source, isCopied = false) {
     const result = count < 0 ? undefined : output.slice(0, written);
     output.fill(0);
     return result;
+}
+
+function frontOf(count) {
+    if (front.length !== count) front = bytes.subarray(0, count);
+    return front;
 }
 
 /** Decodes the chunk at an index into `bytes`, and returns how many bytes it is, or -1 after an error. */

@@ -1,5 +1,5 @@
 """The functions of const_hex.h, without const_hex_ before their names. This is the one table of
-them: docs/check compares it with the header, c/asm/dispatch.S, rust/capi, the JavaScript, and
+them: docs/check compares it with the header, c/asm/dispatch.S, js/module, the JavaScript, and
 the pages."""
 
 import pathlib

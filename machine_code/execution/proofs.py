@@ -18,7 +18,7 @@ from execution.paths import run
 from hints.loops import infer_invariant, loop_headers
 from meanings import aarch64, webassembly, x86_64
 from reading import library
-from reading.image import AARCH64, HEADER, X86_64
+from reading.image import AARCH64, X86_64
 from solver import cvc5, questions
 from solver.questions import Rejected
 
@@ -63,11 +63,6 @@ def functions_of(content):
         raise ValueError(
             "it has no function of the library, or is stripped: keep its symbol table, in "
             'Cargo.toml by `strip = "none"`'
-        )
-    is_for_windows = content.startswith(library.PE) and file.machine == X86_64
-    if is_for_windows and HEADER & file.symbols.keys():
-        raise ValueError(
-            "compilers for Windows call functions for C by another ABI, which is not proved"
         )
     return file, functions
 

@@ -42,6 +42,12 @@ def whole(data):
     file = read(data)
     if data.startswith(MODULE):
         _check_exports(file)
+    elif (
+        data.startswith(PE) and file.machine == image.X86_64 and image.HEADER & file.symbols.keys()
+    ):
+        raise ValueError(
+            "compilers for Windows call functions for C by another ABI, which is not proved"
+        )
     else:
         _check_names(file)
     return file

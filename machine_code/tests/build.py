@@ -102,7 +102,7 @@ def for_macos(folder, processor):
 
 def for_windows(folder):
     """A DLL with the C library, by mingw."""
-    sources = [str(ASM / f"{name}.S") for name in SOURCES[X86_64]]
+    sources = [*(str(ASM / f"{name}.S") for name in SOURCES[X86_64]), str(ASM.parent / "windows.c")]
     return made("x86_64-w64-mingw32-gcc", "-shared", *sources, folder=folder, name="made.dll")
 
 

@@ -21,8 +21,7 @@
 //!
 //! Features: `alloc` adds what returns a `String` or a vector; `std` (by default) adds `alloc`, `DecodeReader`,
 //! `EncodeWriter` and `std::error::Error`; `serde` adds `#[serde(with = "const_hex_proved")]`; `core-error` implements
-//! `core::error::Error` without `std`, and needs Rust 1.81; `force-generic` uses no machine code. The feature `c` is
-//! for the library for C, and no part of the interface.
+//! `core::error::Error` without `std`, and needs Rust 1.81; `force-generic` uses no machine code.
 //!
 //! For keys use the module [`secret`]. No other function is claimed to be constant-time.
 #![no_std]
@@ -60,15 +59,6 @@ pub mod serde;
 mod std_shim;
 pub mod strict;
 pub mod traits;
-
-/// The functions for C, which `capi` exports. This module is no part of the interface: any release may change it.
-// They have no conditions. What they call has some, which nothing here would test, so it is not exported.
-#[cfg(feature = "c")]
-#[doc(hidden)]
-pub mod c {
-    pub use crate::proved::c::*;
-    pub use crate::proved::Decoder;
-}
 
 pub use crate::buffer::Buffer;
 pub use crate::constants::{bytes_of, const_encode, decoded_length};

@@ -109,10 +109,8 @@ fn what_is_an_error() {
         ("unknown", "fn f(x: u64) -> usize {\n    x as usize\n}", "a cast: as u"),
         ("unknown", "fn f(x: u64) -> usize {\n    x as (usize)\n}", "a cast: as ("),
         ("unknown", "fn f() {\n    <T>::drop(1);\n}", "a type in brackets before a name: <T>::drop"),
-        ("c/other", "#[unsafe(no_mangle)]\npub extern \"C\" fn f(x: u8) requires { x < 9 } {\n}", "a condition of a function that is exported"),
         ("error", "fn f(x: E) {\n    match x {\n        E::Odd | E::NoMemory => 1,\n    }\n}", "a rule does not fit: NoMemory"),
         ("error", "const ALL: [E; 2] = [\n    E::Odd,\n    NoMemory,\n];", "a rule does not fit: NoMemory"),
-        ("c/error", "match kind {\n    4 => Some(FromHexError::NoMemory),\n    _ => None,\n}", "a rule does not fit: NoMemory"),
         ("error", "fn f() -> &str {\n    \"expected W, not <W>\"\n}", "a rule does not fit: \"expected 'w, not <'w>\""),
     ]);
 }

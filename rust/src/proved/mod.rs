@@ -7,8 +7,6 @@ pub(crate) mod tables;
 pub(crate) mod text;
 pub(crate) mod codec;
 pub(crate) mod error;
-#[cfg(feature = "c")]
-pub(crate) mod c;
 #[cfg(all(test, feature = "std"))]
 mod examples;
 
@@ -28,28 +26,25 @@ pub use self::error::*;
 //   15  Rattle's std is the module std_shim
 //    1  Rust's errors are not copied
 //    2  a formatter has a lifetime in place of its writer's type
-//   10  a function for C takes slices, which capi makes of pointers and lengths, and is compiled there alone
-//   67  all crates are one module
-//    3  an allocation never fails: without memory the program ends
+//   54  all crates are one module
+//    2  an allocation never fails: without memory the program ends
 //   78  an assertion names no runtime
 //    2  an example names a kernel that each target has
 //    4  an example uses no allocator
 //    2  and a constant converts by a cast
 //    1  and an error is borrowed
-//    5  and is a module of const_hex
 //    6  and kernels over vectors are there for WebAssembly alone
 //   13  and panics instead of returning an error
 //    1  and the crate's decoder is cloned
 //    2  before it reads a part, or ends
-//   49  deleted: attribute
-//  493  deleted: clause
-//   96  deleted: ghost item
+//   47  deleted: attribute
+//  427  deleted: clause
+//   78  deleted: ghost item
 //    3  deleted: model
 //    5  deleted: output
 //    1  each value may be dropped
-//    6  kernels that no target uses are left out, and callers that nothing exports
+//    4  kernels that no target uses are left out, and callers that nothing exports
 //    1  the kernel is chosen for the processor
 //   13  what a constant calls is constant
 //    2  what an error alone needs is compiled in the crates that call it
 //    2  what hexfilter uses of const_hex is a module of std_shim
-//    7  what is for C calls the kernel for the processor
