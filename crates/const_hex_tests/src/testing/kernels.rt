@@ -1,6 +1,5 @@
 //! The kernels by which calls are tested. `Compact` is not among them: it differs from `Plain` only in
-//! how it fills a text, which its contract says. Nor is `Interleaved`: the tests of C and of Rust run
-//! its machine code on AArch64.
+//! how it fills a text, which its contract says.
 
 use std::alloc::AllocError;
 
@@ -24,9 +23,9 @@ impl KernelCase {
     }
 }
 
-/// Calls a function with each of these kernels, by itself and inside `CheckFirst`, and has what the calls return. The
-/// last argument is the kernel's case. Brackets have what the function takes after the kernel's type. With
-/// a `?` after it, an error of a call is returned once all are made.
+/// Calls a function with each of these kernels, by itself and, except for `Interleaved`, inside `CheckFirst`, and has
+/// what the calls return. The last argument is the kernel's case. Brackets have what the function takes after the
+/// kernel's type. With a `?` after it, an error of a call is returned once all are made.
 #[macro_export]
 macro_rules! by_each_kernel {
     ($call:ident $([$($more:tt),*])? ($($argument:expr),*) ?) => {
@@ -40,6 +39,8 @@ macro_rules! by_each_kernel {
                 $crate::testing::KernelCase::new("Lanes16", 1, false)),
             $call::<const_hex::Lanes32 $($(, $more)*)?>($($argument,)*
                 $crate::testing::KernelCase::new("Lanes32", 2, false)),
+            $call::<const_hex_arch::Interleaved $($(, $more)*)?>($($argument,)*
+                $crate::testing::KernelCase::new("Interleaved", 2, false)),
             $call::<const_hex::CheckFirst<const_hex::Plain> $($(, $more)*)?>($($argument,)*
                 $crate::testing::KernelCase::new("CheckFirst<Plain>", 0, true)),
             $call::<const_hex::CheckFirst<const_hex::Lanes16> $($(, $more)*)?>($($argument,)*
@@ -51,7 +52,7 @@ macro_rules! by_each_kernel {
 }
 
 /// The first error of some calls, if there is one.
-pub fn all_done(calls: [Result<(), AllocError>; 6]) -> Result<(), AllocError> {
+pub fn all_done(calls: [Result<(), AllocError>; 7]) -> Result<(), AllocError> {
     for done in calls {
         done?;
     }
