@@ -15,9 +15,9 @@ impl<R: Abort + AllocGlobal> Testing for R {}
 
 /// Bytes that print as a text.
 #[derive(Clone, Copy, PartialEq, Eq)]
-pub(crate) struct Text<'a>(pub(crate) &'a [u8]);
+pub(crate) struct Escaped<'a>(pub(crate) &'a [u8]);
 
-impl Debug for Text<'_> {
+impl Debug for Escaped<'_> {
     fn fmt<W: fmt::Write>(&self, f: &mut fmt::Formatter<W>) -> fmt::Result {
         f.write_str("\"")?;
         for byte in self.0 {

@@ -3,7 +3,7 @@
 use crate::mode::USAGE;
 use crate::process::program;
 use crate::tests::devices::{InjectedFault, Source, Target};
-use crate::tests::{Testing, Text};
+use crate::tests::{Escaped, Testing};
 use std::cell::Cell;
 use std::env::{Env, FillError};
 use std::fmt::{self, Debug, Display};
@@ -89,7 +89,7 @@ struct Shown<'a>(&'a [&'a [u8]]);
 impl Debug for Shown<'_> {
     fn fmt<W: fmt::Write>(&self, f: &mut fmt::Formatter<W>) -> fmt::Result {
         for word in self.0 {
-            write!(f, "{:?} ", Text(word))?;
+            write!(f, "{:?} ", Escaped(word))?;
         }
         Ok(())
     }
@@ -112,8 +112,8 @@ fn ends<R: Read>(
     );
     let (bytes, count) = host.printed.get();
     let printed = &bytes[..count.min(128)];
-    let line = (status != 0).then_some(Text(line.as_bytes()));
-    let shown = printed.strip_suffix(b"\n").map(|line| Text(line));
+    let line = (status != 0).then_some(Escaped(line.as_bytes()));
+    let shown = printed.strip_suffix(b"\n").map(|line| Escaped(line));
     assert_eq!(rt; shown, line, "standard error: {:?}", Shown(host.arguments));
     assert_eq!(rt;
         printed.is_empty(),
@@ -186,11 +186,11 @@ fn runs(rt: &impl Testing, (arguments, input, written, status, line): Run<'_>) {
     let host = Host::new(arguments, true);
     ends(rt, host, &mut rest, &mut output, (status, line));
     assert_eq!(rt;
-        Text(&output.taken),
-        Text(written),
+        Escaped(&output.taken),
+        Escaped(written),
         "{:?} {:?}",
         Shown(arguments),
-        Text(input)
+        Escaped(input)
     );
 }
 
@@ -219,8 +219,8 @@ fn words_that_name_none(rt: HostRuntime) {
         let host = Host::new(arguments, can_print);
         ends(&rt, host, &mut input, &mut output, (2, USAGE));
         assert_eq!(rt;
-            Text(input),
-            Text(b"kiwi"),
+            Escaped(input),
+            Escaped(b"kiwi"),
             "left to read: {:?}",
             Shown(arguments)
         );

@@ -8,7 +8,7 @@ use crate::error::RunError;
 use crate::mode::Mode;
 use crate::runs::run;
 use crate::tests::devices::{InjectedFault, Source, Target};
-use crate::tests::{Testing, Text};
+use crate::tests::{Escaped, Testing};
 use const_hex::FromHexError::OddLength;
 use std::alloc::{AllocError, Global};
 use std::io::{self, ErrorKind, Read};
@@ -59,7 +59,7 @@ fn accepts_1048576_bytes_and_no_more(rt: HostRuntime) {
     run(rt.alloc(), Mode::Encode, &mut zeros, &mut text).expect(&rt, "run");
     assert_eq!(rt; text.pop(), Some(b'\n'));
     let zeros = vec![in rt.alloc(); b'0'; 2_097_152].expect(&rt, "memory");
-    assert_eq!(rt; Text(&text), Text(&zeros));
+    assert_eq!(rt; Escaped(&text), Escaped(&zeros));
     let mut nothing = Vec::new(rt.alloc());
     let mut zeros = io::repeat(0).take(1_048_577);
     let outcome = run(rt.alloc(), Mode::Encode, &mut zeros, &mut nothing);
@@ -96,7 +96,11 @@ fn reads(rt: &impl Testing, kind: ErrorKind, call: usize) {
         calls,
         "writes, flushes: {row:?}"
     );
-    assert_eq!(rt; Text(&output.taken), Text(written.as_bytes()), "{row:?}");
+    assert_eq!(rt;
+        Escaped(&output.taken),
+        Escaped(written.as_bytes()),
+        "{row:?}"
+    );
 }
 
 // Each answer; then a write that fails or accepts nothing, at each call, and a flush that fails.
@@ -116,7 +120,7 @@ fn answers_and_names_a_failed_write(rt: HostRuntime) {
 
 /// A run with that fault.
 fn writes(rt: &impl Testing, (mode, input, answer): Answered<'_>, fault: InjectedFault) {
-    let (row, failed) = ((mode, Text(input), fault), Err(RunError::WriteFailed));
+    let (row, failed) = ((mode, Escaped(input), fault), Err(RunError::WriteFailed));
     let (outcome, taken, calls) = match fault {
         InjectedFault::Nothing => (Ok(()), answer.len(), (answer.len(), 1)),
         InjectedFault::Flush(_) => (failed, answer.len(), (answer.len(), 1)),
@@ -133,7 +137,7 @@ fn writes(rt: &impl Testing, (mode, input, answer): Answered<'_>, fault: Injecte
         "run: {row:?}"
     );
     let front = answer.get(..taken).unwrap_or(&[]);
-    assert_eq!(rt; Text(&output.taken), Text(front), "{row:?}");
+    assert_eq!(rt; Escaped(&output.taken), Escaped(front), "{row:?}");
     assert_eq!(rt;
         (output.writes, output.flushes),
         calls,
