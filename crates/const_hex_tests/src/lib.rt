@@ -1,8 +1,8 @@
-//! The tests of the libraries that a table of test vectors cannot state, and those of `const_hex_uses`.
+//! The tests of the libraries that a table of test vectors cannot state, and [`examples`], small callers that are proved.
 //! Expected values come from the codec's written rules, and from what the standard library prints.
-//!
-//! There is nothing else here: what stands beside tests is proved twice, with them and without.
 #![tactic(auto)]
 
+pub mod examples;
+pub mod testing;
 #[cfg(test)]
 mod tests;

@@ -3,8 +3,9 @@
 use crate::kernels::part;
 use crate::line::{AllocResult, Line};
 use const_hex::{BufferedHex, Kernel, SinkError, SinkOutput, serialize_inner};
-use const_hex_testing::texts::{make_bytes, print};
-use const_hex_testing::{KernelCase, Noting, by_each_kernel};
+use const_hex_tests::by_each_kernel;
+use const_hex_tests::testing::texts::{make_bytes, print};
+use const_hex_tests::testing::{KernelCase, Noting};
 use std::alloc::Global;
 use std::fmt::Write;
 

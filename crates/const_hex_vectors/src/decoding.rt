@@ -6,7 +6,8 @@ use const_hex::{
     Decoder, FromHex, FromHexError, JsonError, Kernel, check, check_raw, check_with,
     decode_to_front_with, decode_to_slice, decode_to_slice_with, decode_with, deserialize,
 };
-use const_hex_testing::{KernelCase, by_each_kernel};
+use const_hex_tests::by_each_kernel;
+use const_hex_tests::testing::KernelCase;
 use serde_json::Value;
 use std::alloc::Global;
 use std::convert::AsSlice;

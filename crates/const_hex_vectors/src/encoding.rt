@@ -2,7 +2,8 @@
 
 use crate::line::{AllocResult, Line, show};
 use const_hex::{Kernel, decode_with, display, encode_full_to_slice_with, encode_with};
-use const_hex_testing::{InHex, KernelCase, by_each_kernel};
+use const_hex_tests::by_each_kernel;
+use const_hex_tests::testing::{InHex, KernelCase};
 
 /// Whether a text has a prefix, and whether it is in uppercase.
 type Form = (bool, bool);

@@ -4,8 +4,9 @@ use crate::line::{AllocResult, Line, show};
 use const_hex::{
     FromHexError, Kernel, check_raw, check_with, decode_to_slice, decode_to_slice_with, decode_with,
 };
-use const_hex_testing::texts::{invalid, read as read_by_std};
-use const_hex_testing::{KernelCase, by_each_kernel};
+use const_hex_tests::by_each_kernel;
+use const_hex_tests::testing::KernelCase;
+use const_hex_tests::testing::texts::{invalid, read as read_by_std};
 use std::alloc::Global;
 use std::fmt::Write;
 

@@ -1,8 +1,8 @@
 //! The lines that are asked of one step by 16 and by 32 lanes.
 
 use crate::line::{Line, show};
+use crate::steps::decoded_or;
 use const_hex::{Lanes16, Lanes32, lanes16, lanes32};
-use const_hex_testing::steps::decoded_or;
 use std::simd::prelude::*;
 
 macro_rules! values {

@@ -1,7 +1,7 @@
 //! A line of the table, and what calls return for it.
 
 use const_hex::FromHexError;
-use const_hex_testing::texts::value_of;
+use const_hex_tests::testing::texts::value_of;
 use std::alloc::{AllocError, Global};
 use std::convert::AsSlice;
 use std::fmt::{Display, Write};

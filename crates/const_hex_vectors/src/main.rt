@@ -1,6 +1,8 @@
 //! The program `const_hex_vectors`: compares `const_hex` with each line of `vectors.tsv`, and prints
 //! the lines for which some function returns something else, with what it returns, and their
 //! number. The exit status is 1 if there is one.
+//!
+//! With the argument `memory` it makes the calls of [`memory`], and with the name of a kernel those of [`encode`].
 #![tactic(auto)]
 
 mod calls;
@@ -9,13 +11,22 @@ mod encoding;
 mod kernels;
 mod lanes;
 mod line;
+mod memory;
+mod steps;
 
 use crate::line::{AllocResult, Line, read_bytes, read_cell};
+use const_hex::{Kernel, Lanes16, Lanes32, Plain};
 use std::alloc::Global;
+use std::env::Env;
 use std::process::ExitCode;
 use std::{fs, io};
 
 fn main(rt: HostRuntime) -> io::Result<ExitCode> {
+    let mut word = [0; 16];
+    if let Ok(length) = rt.arg(1, &mut word) {
+        answer(&rt, &word[..length]);
+        return Ok(ExitCode::SUCCESS);
+    }
     // Where `rt ci` runs it, and where `rt run` does.
     let table = match fs::read_to_string(&rt, "vectors.tsv") {
         Ok(table) => table,
@@ -37,6 +48,27 @@ fn main(rt: HostRuntime) -> io::Result<ExitCode> {
     Ok(ExitCode::from((wrong > 0) as u8))
 }
 
+/// Makes the calls that an argument names.
+fn answer(rt: &(impl Print + AllocGlobal), word: &[u8]) {
+    match word {
+        b"memory" => memory::make_calls(rt),
+        b"Plain" => encode::<Plain>(rt),
+        b"Lanes16" => encode::<Lanes16>(rt),
+        b"Lanes32" => encode::<Lanes32>(rt),
+        _ => (),
+    }
+}
+
+/// Encodes 256 bytes 1,000 times, and prints the last text.
+fn encode<K: Kernel>(rt: &impl Print) {
+    let (mut bytes, mut text) = ([0u8; 256], [0u8; 512]);
+    for turn in 0..1000usize {
+        // Other bytes each time, so that the compiler leaves out no call.
+        bytes[turn % 256] = bytes[turn % 256].wrapping_add(text[turn % 512]);
+        K::fill(&bytes, true, &mut text);
+    }
+    let _ = println!(rt; "{}", str::from_utf8(&text).unwrap_or(""));
+}
 /// The calls that return something else than a line says, and what they return.
 fn compare(alloc: Global, line: &str) -> AllocResult<String> {
     let mut columns = line.split('\t');

@@ -1,18 +1,28 @@
 //! Tests of the program over readers and writers, and on hosts whose standard error can fail.
 
+mod devices;
 mod programs;
 mod runs;
 
-use const_hex_testing::Testing;
-use std::fmt::Debug;
+use std::ascii;
+use std::fmt::{self, Debug};
+use std::process::Abort;
 
-/// What `same` calls.
-fn compare<R, A>(rt: &impl Testing, call: &str, row: R, found: A, want: A)
-where
-    R: Debug + Drop,
-    A: PartialEq + Debug + Drop,
-{
-    if found != want {
-        panic!(rt; "{call}: at {row:?}: {found:?}, but wanted {want:?}");
+/// What a test is given: it can end the process, and allocate.
+pub(crate) trait Testing: Abort + AllocGlobal {}
+
+impl<R: Abort + AllocGlobal> Testing for R {}
+
+/// Bytes that print as a text.
+#[derive(Clone, Copy, PartialEq, Eq)]
+pub(crate) struct Escaped<'a>(pub(crate) &'a [u8]);
+
+impl Debug for Escaped<'_> {
+    fn fmt<W: fmt::Write>(&self, f: &mut fmt::Formatter<W>) -> fmt::Result {
+        f.write_str("\"")?;
+        for byte in self.0 {
+            write!(f, "{}", ascii::escape_default(*byte))?;
+        }
+        f.write_str("\"")
     }
 }

@@ -1,7 +1,7 @@
 //! One invalid lane, an iterator at its end, and values beside each other.
 
+use crate::tests::rows::same;
 use const_hex::{BytesToHexChars, lanes16, lanes32};
-use const_hex_testing::same;
 use hash_hex::FixedBytes;
 use std::collections::HashSet;
 use std::simd::prelude::*;

@@ -1,8 +1,8 @@
 //! What no clause says of printed values, and what new buffers hold.
 
+use crate::testing::texts::invalid;
+use crate::tests::rows::{Testing, same, same_bytes};
 use const_hex::{Buffer, FromHexError, JsonError, SinkError, const_encode};
-use const_hex_testing::texts::invalid;
-use const_hex_testing::{Testing, same, same_bytes};
 use hash_hex::{Address20, FixedBytes, Hash32};
 use std::fmt::Debug;
 

@@ -3,8 +3,9 @@
 
 ghost use Rattle.std.specs.Prelude.{◌<◌};
 
+use crate::testing::Noting;
+use crate::tests::rows::{Testing, same, same_bytes};
 use const_hex::{BufferedOutput, Output, PieceSink, Sink, SinkOutput, SliceOutput};
-use const_hex_testing::{Noting, Testing, same, same_bytes};
 
 type ToSink<'a, const N: usize> = BufferedOutput<SinkOutput<'a, PieceSink>, N>;
 

@@ -1,7 +1,8 @@
 //! The 288 entries of the three tables, seen from outside.
 
+use crate::tests::rows::{same, same_bytes};
 use const_hex::{HEX_CHARS_LOWER, HEX_CHARS_UPPER, HEX_DECODE_LUT, NIL, digit_at, value_at};
-use const_hex_testing::{same, same_bytes};
+use const_hex_arch::is_digit;
 
 #[test]
 fn digits_of_values(rt: HostRuntime) {
@@ -22,6 +23,7 @@ fn values_of_digits(rt: HostRuntime) {
         let want = char::from(b).to_digit(16).unwrap_or(255);
         same!(&rt, "the table", b; u32::from(HEX_DECODE_LUT[b as usize]), want);
         same!(&rt, "value_at", b; u32::from(value_at(b)), want);
+        same!(&rt, "is_digit", b; is_digit(b), want < 16);
         if want < 16 {
             digits = digits.wrapping_add(1);
         }

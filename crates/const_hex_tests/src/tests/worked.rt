@@ -4,14 +4,14 @@
 ghost use Rattle.std.specs.Prelude.{◌≡◌, ◌≤◌, true, false};
 ghost use Rattle.const_hex.specs.Prelude.{text_length};
 
+use crate::testing::texts::{invalid, make_bytes, print};
+use crate::tests::rows::{Testing, Text, same, same_bytes};
 use const_hex::FromHexError::{InvalidStringLength, OddLength};
 use const_hex::{
     Buffer, BufferedHex, FromHex, FromHexError, PieceSink, check, check_raw, const_check,
     const_check_raw, const_decode_to_array, const_encode, decode_to_array, decode_to_slice,
     encode_to_slice, encode_to_slice_upper, encode_to_str, encode_to_str_upper,
 };
-use const_hex_testing::texts::{invalid, make_bytes, print};
-use const_hex_testing::{Testing, Text, same, same_bytes};
 use hash_hex::Hash32;
 use std::boxed::BoxedSlice;
 

@@ -1,10 +1,61 @@
 //! `WriteSink`, over writers that fail and accept few bytes per call: which error it returns, which calls
 //! it makes again, and that it flushes nothing.
 
+use crate::testing::texts::{make_bytes, print};
+use crate::tests::rows::{Testing, same, same_bytes};
 use const_hex::{BufferedHex, Plain, Sink, WriteSink};
-use const_hex_testing::texts::{make_bytes, print};
-use const_hex_testing::{InjectedFault, Target, Testing, same, same_bytes};
-use std::io::{self, ErrorKind};
+use std::alloc::Global;
+use std::io::{self, ErrorKind, Write};
+
+/// What goes wrong with a [`Target`].
+#[derive(Clone, Copy, Debug)]
+enum InjectedFault {
+    /// The writes from the first number to the second fail. Numbers begin at 1.
+    Writes(usize, usize, ErrorKind),
+    /// The write of that number accepts no bytes.
+    Full(usize),
+}
+
+/// Keeps what it takes, at most 1000 bytes per call, and counts its calls.
+#[derive(Drop)]
+struct Target {
+    taken: Vec<u8>,
+    fault: InjectedFault,
+    writes: usize,
+    flushes: usize,
+}
+
+impl Target {
+    fn new(alloc: Global, fault: InjectedFault) -> Target {
+        Target {
+            taken: Vec::new(alloc),
+            fault,
+            writes: 0,
+            flushes: 0,
+        }
+    }
+}
+
+impl Write for Target {
+    fn write(&mut self, buf: &[u8]) -> io::Result<usize> {
+        self.writes = self.writes.saturating_add(1);
+        match self.fault {
+            InjectedFault::Writes(first, last, kind)
+                if first <= self.writes && self.writes <= last => { Err(io::Error::from(kind)) }
+            InjectedFault::Full(call) if call == self.writes => Ok(0),
+            _ => {
+                let count = buf.len().min(1000);
+                self.taken.extend_from_slice(&buf[..count])?;
+                Ok(count)
+            }
+        }
+    }
+
+    fn flush(&mut self) -> io::Result<()> {
+        self.flushes = self.flushes.saturating_add(1);
+        Ok(())
+    }
+}
 
 // A text of 6002 bytes comes in pieces of 4096 and 1906. A writer that accepts 1000 per call gets
 // them in 7 calls. Before each call, and at the end, it has this many bytes.
@@ -44,7 +95,7 @@ fn writes(
     (bytes, text): (&[u8], &[u8]),
     (kind, taken, calls): (Option<ErrorKind>, usize, usize),
 ) {
-    let mut target = Target::new(rt.alloc(), 1000, fault);
+    let mut target = Target::new(rt.alloc(), fault);
     let mut sink = WriteSink::new(&mut target);
     let result = BufferedHex::<false, true>::new(bytes).write_with::<Plain, _>(&mut sink);
     let has_failed = (result.is_err(), sink.refused());
@@ -59,7 +110,7 @@ fn writes(
 // An empty piece is no call, also of a writer that would fail.
 #[test]
 fn an_empty_piece(rt: HostRuntime) {
-    let mut target = Target::new(rt.alloc(), 1, InjectedFault::Full(1));
+    let mut target = Target::new(rt.alloc(), InjectedFault::Full(1));
     same!(&rt; WriteSink::new(&mut target).write_str(""), Ok(()));
     same!(&rt; target.writes, 0);
 }

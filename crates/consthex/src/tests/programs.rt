@@ -2,7 +2,8 @@
 
 use crate::mode::USAGE;
 use crate::process::program;
-use const_hex_testing::{Endless, InjectedFault, Source, Target, Testing, Text, same, same_bytes};
+use crate::tests::devices::{InjectedFault, Source, Target};
+use crate::tests::{Escaped, Testing};
 use std::cell::Cell;
 use std::env::{Env, FillError};
 use std::fmt::{self, Debug, Display};
@@ -88,7 +89,7 @@ struct Shown<'a>(&'a [&'a [u8]]);
 impl Debug for Shown<'_> {
     fn fmt<W: fmt::Write>(&self, f: &mut fmt::Formatter<W>) -> fmt::Result {
         for word in self.0 {
-            write!(f, "{:?} ", Text(word))?;
+            write!(f, "{:?} ", Escaped(word))?;
         }
         Ok(())
     }
@@ -103,13 +104,23 @@ fn ends<R: Read>(
     (status, line): (u8, &str),
 ) {
     let code = program(&(&host, rt.alloc()), input, output);
-    same!(rt, "program", Shown(host.arguments); code, ExitCode::from(status));
+    assert_eq!(rt;
+        code,
+        ExitCode::from(status),
+        "program: {:?}",
+        Shown(host.arguments)
+    );
     let (bytes, count) = host.printed.get();
     let printed = &bytes[..count.min(128)];
-    let line = (status != 0).then_some(Text(line.as_bytes()));
-    let shown = printed.strip_suffix(b"\n").map(|line| Text(line));
-    same!(rt, "standard error", Shown(host.arguments); shown, line);
-    same!(rt, "standard error", Shown(host.arguments); printed.is_empty(), (status == 0));
+    let line = (status != 0).then_some(Escaped(line.as_bytes()));
+    let shown = printed.strip_suffix(b"\n").map(|line| Escaped(line));
+    assert_eq!(rt; shown, line, "standard error: {:?}", Shown(host.arguments));
+    assert_eq!(rt;
+        printed.is_empty(),
+        (status == 0),
+        "standard error: {:?}",
+        Shown(host.arguments)
+    );
 }
 
 /// Arguments, an input, what is written, the status, and the line on standard error.
@@ -171,10 +182,16 @@ fn lengths_round_the_lanes(rt: HostRuntime) {
 
 /// The program does all that.
 fn runs(rt: &impl Testing, (arguments, input, written, status, line): Run<'_>) {
-    let (mut rest, mut output) = (input, Target::new(rt.alloc(), 1, InjectedFault::Nothing));
+    let (mut rest, mut output) = (input, Target::new(rt.alloc(), InjectedFault::Nothing));
     let host = Host::new(arguments, true);
     ends(rt, host, &mut rest, &mut output, (status, line));
-    same_bytes!(rt, "program", (Shown(arguments), Text(input)); output.taken, written);
+    assert_eq!(rt;
+        Escaped(&output.taken),
+        Escaped(written),
+        "{:?} {:?}",
+        Shown(arguments),
+        Escaped(input)
+    );
 }
 
 // The program reads and writes nothing. It makes no difference if standard error fails.
@@ -198,28 +215,38 @@ fn words_that_name_none(rt: HostRuntime) {
     ];
     for (arguments, can_print) in rows {
         let mut input = b"kiwi".as_slice();
-        let mut output = Target::new(rt.alloc(), 1, InjectedFault::Nothing);
+        let mut output = Target::new(rt.alloc(), InjectedFault::Nothing);
         let host = Host::new(arguments, can_print);
         ends(&rt, host, &mut input, &mut output, (2, USAGE));
-        same_bytes!(&rt, "what is left to read", Shown(arguments); input, "kiwi");
-        same!(&rt, "writes, flushes", Shown(arguments); (output.writes, output.flushes), (0, 0));
+        assert_eq!(rt;
+            Escaped(input),
+            Escaped(b"kiwi"),
+            "left to read: {:?}",
+            Shown(arguments)
+        );
+        assert_eq!(rt;
+            (output.writes, output.flushes),
+            (0, 0),
+            "writes, flushes: {:?}",
+            Shown(arguments)
+        );
     }
 }
 
 // A text that is rejected, where standard error fails; a failed read; too long an input; and a failed write.
 #[test]
 fn statuses_and_lines(rt: HostRuntime) {
-    let mut output = Target::new(rt.alloc(), 1, InjectedFault::Nothing);
+    let mut output = Target::new(rt.alloc(), InjectedFault::Nothing);
     let (host, line) = (Host::new(DECODE, false), (1, "odd number of digits"));
     ends(&rt, host, &mut b"0x1\n".as_slice(), &mut output, line);
     let (host, line) = (Host::new(ENCODE, true), (3, "read failed"));
     let mut failing = Source::new(b"kiwi", 2, ErrorKind::Interrupted);
     ends(&rt, host, &mut failing, &mut output, line);
     let (host, line) = (Host::new(ENCODE, true), (3, "input too long"));
-    ends(&rt, host, &mut Endless, &mut output, line);
-    same!(&rt; (output.writes, output.flushes), (0, 0));
+    ends(&rt, host, &mut io::repeat(b'0'), &mut output, line);
+    assert_eq!(rt; (output.writes, output.flushes), (0, 0));
     let (host, line) = (Host::new(ENCODE, true), (3, "write failed"));
-    let mut failing = Target::new(rt.alloc(), 1, InjectedFault::Flush(ErrorKind::BrokenPipe));
+    let mut failing = Target::new(rt.alloc(), InjectedFault::Flush(ErrorKind::BrokenPipe));
     ends(&rt, host, &mut b"kiwi".as_slice(), &mut failing, line);
 }
 
@@ -227,5 +254,5 @@ fn statuses_and_lines(rt: HostRuntime) {
 fn usage(rt: HostRuntime) {
     let line =
         "usage: consthex encode|encode-upper|encode-prefixed|encode-upper-prefixed|decode|check";
-    same!(&rt; USAGE, line);
+    assert_eq!(rt; USAGE, line);
 }

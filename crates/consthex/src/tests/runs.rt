@@ -7,8 +7,9 @@ ghost use Rattle.consthex.specs.declared.error.RunError.TheVariants.{NoMemory, T
 use crate::error::RunError;
 use crate::mode::Mode;
 use crate::runs::run;
+use crate::tests::devices::{InjectedFault, Source, Target};
+use crate::tests::{Escaped, Testing};
 use const_hex::FromHexError::OddLength;
-use const_hex_testing::{InjectedFault, Source, Target, Testing, same, same_bytes};
 use std::alloc::{AllocError, Global};
 use std::io::{self, ErrorKind, Read};
 
@@ -32,13 +33,13 @@ const ANSWERS: [Answered<'_>; 11] = [
 // The other lines are those of whole runs.
 #[test]
 fn prints_errors(rt: HostRuntime) {
-    same!(&rt; RunError::NoMemory.status(), 4);
+    assert_eq!(rt; RunError::NoMemory.status(), 4);
     for (error, line) in [
         (RunError::NoMemory, "out of memory"),
         (RunError::Text(OddLength), "odd number of digits"),
     ] {
         let text = line_of(rt.alloc(), error).expect(&rt, "memory");
-        same_bytes!(&rt, "message", line; text, line);
+        assert_eq!(rt; text.as_str(), line);
     }
 }
 
@@ -56,12 +57,13 @@ fn accepts_1048576_bytes_and_no_more(rt: HostRuntime) {
     let mut text = Vec::new(rt.alloc());
     let mut zeros = io::repeat(0).take(1_048_576);
     run(rt.alloc(), Mode::Encode, &mut zeros, &mut text).expect(&rt, "run");
-    same!(&rt; text.pop(), Some(b'\n'));
-    same_bytes!(&rt, "run", 1_048_576; text, vec![in rt.alloc(); b'0'; 2_097_152].expect(&rt, "memory"));
+    assert_eq!(rt; text.pop(), Some(b'\n'));
+    let zeros = vec![in rt.alloc(); b'0'; 2_097_152].expect(&rt, "memory");
+    assert_eq!(rt; Escaped(&text), Escaped(&zeros));
     let mut nothing = Vec::new(rt.alloc());
     let mut zeros = io::repeat(0).take(1_048_577);
     let outcome = run(rt.alloc(), Mode::Encode, &mut zeros, &mut nothing);
-    same!(&rt, "run", 1_048_577; outcome, Err(RunError::TooLong));
+    assert_eq!(rt; outcome, Err(RunError::TooLong));
     assert!(rt; nothing.is_empty());
 }
 
@@ -81,16 +83,24 @@ fn names_a_failed_read(rt: HostRuntime) {
 fn reads(rt: &impl Testing, kind: ErrorKind, call: usize) {
     let row = (kind, call);
     let mut input = Source::new(b"6b697769\n", call, kind);
-    let mut output = Target::new(rt.alloc(), 1, InjectedFault::Nothing);
+    let mut output = Target::new(rt.alloc(), InjectedFault::Nothing);
     let outcome = run(rt.alloc(), Mode::Decode, &mut input, &mut output);
     let (want, written, calls) = match call {
         11 => (Ok(()), "kiwi", (4, 1)),
         _ => (Err(RunError::ReadFailed), "", (0, 0)),
     };
-    same!(rt, "run", row; outcome, want);
-    same!(rt, "reads", row; input.reads, call.min(10));
-    same!(rt, "writes, flushes", row; (output.writes, output.flushes), calls);
-    same_bytes!(rt, "what the writer has", row; output.taken, written);
+    assert_eq!(rt; outcome, want, "run: {row:?}");
+    assert_eq!(rt; input.reads, call.min(10), "reads: {row:?}");
+    assert_eq!(rt;
+        (output.writes, output.flushes),
+        calls,
+        "writes, flushes: {row:?}"
+    );
+    assert_eq!(rt;
+        Escaped(&output.taken),
+        Escaped(written.as_bytes()),
+        "{row:?}"
+    );
 }
 
 // Each answer; then a write that fails or accepts nothing, at each call, and a flush that fails.
@@ -102,7 +112,7 @@ fn answers_and_names_a_failed_write(rt: HostRuntime) {
             writes(&rt, row, InjectedFault::Flush(kind));
             for call in 1..=row.2.len() {
                 writes(&rt, row, InjectedFault::Full(call));
-                writes(&rt, row, InjectedFault::Writes(call, call, kind));
+                writes(&rt, row, InjectedFault::Write(call, kind));
             }
         }
     }
@@ -110,22 +120,27 @@ fn answers_and_names_a_failed_write(rt: HostRuntime) {
 
 /// A run with that fault.
 fn writes(rt: &impl Testing, (mode, input, answer): Answered<'_>, fault: InjectedFault) {
-    let (row, failed) = (
-        (mode, const_hex_testing::Text(input), fault),
-        Err(RunError::WriteFailed),
-    );
+    let (row, failed) = ((mode, Escaped(input), fault), Err(RunError::WriteFailed));
     let (outcome, taken, calls) = match fault {
         InjectedFault::Nothing => (Ok(()), answer.len(), (answer.len(), 1)),
         InjectedFault::Flush(_) => (failed, answer.len(), (answer.len(), 1)),
-        InjectedFault::Full(at) | InjectedFault::Writes(at, _, _) => (
+        InjectedFault::Full(at) | InjectedFault::Write(at, _) => (
             failed,
             at.saturating_sub(1),
             (at, 0),
         ),
     };
-    let (mut input, mut output) = (input, Target::new(rt.alloc(), 1, fault));
-    same!(rt, "run", row; run(rt.alloc(), mode, &mut input, &mut output), outcome);
+    let (mut input, mut output) = (input, Target::new(rt.alloc(), fault));
+    assert_eq!(rt;
+        run(rt.alloc(), mode, &mut input, &mut output),
+        outcome,
+        "run: {row:?}"
+    );
     let front = answer.get(..taken).unwrap_or(&[]);
-    same_bytes!(rt, "what the writer has", row; output.taken, front);
-    same!(rt, "writes, flushes", row; (output.writes, output.flushes), calls);
+    assert_eq!(rt; Escaped(&output.taken), Escaped(front), "{row:?}");
+    assert_eq!(rt;
+        (output.writes, output.flushes),
+        calls,
+        "writes, flushes: {row:?}"
+    );
 }

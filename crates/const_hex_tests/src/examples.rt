@@ -1,0 +1,13 @@
+//! Small, whole callers of `const_hex`, each with the contract that its users would want.
+//!
+//! Most have no proof by hand: the clauses of the codec are enough.
+
+pub mod constants;
+pub mod files;
+pub mod json_rpc;
+pub mod own_kernel;
+pub mod readers;
+pub mod sinks;
+pub mod store;
+pub mod streams;
+pub mod writers;

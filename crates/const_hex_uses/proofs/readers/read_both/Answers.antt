@@ -1,5 +1,0 @@
-use Rattle.std.proofs.Common.{inr}
-use Rattle.const_hex_uses.proofs.readers.read_both.Goals as goal
-
-pub returns-in-Err-read-clause-error : goal.returns-in-Err-read-clause-error
-returns-in-Err-read-clause-error g c = λ other. inr (c.in-Err-read.ensures.error other)

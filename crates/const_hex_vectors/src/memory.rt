@@ -1,0 +1,26 @@
+//! Makes each call that gets an allocator, and judges what it returns.
+//!
+//! A call has to return what it returns with ample memory, or, if it may allocate, its error for that.
+//! The program prints each call that does not, and at last how many were out of memory. `run`, in this
+//! crate's folder, runs it with requests for memory refused. The program itself allocates only its
+//! [`inputs`], before any call. The calls that do not allocate come first.
+
+mod allocating;
+mod inputs;
+mod judge;
+mod nonallocating;
+
+use crate::memory::inputs::Inputs;
+use std::alloc::AllocError;
+
+pub(crate) fn make_calls(rt: &(impl Print + AllocGlobal)) {
+    let (alloc, mut out_of_memory) = (rt.alloc(), 0);
+    match Inputs::new(alloc) {
+        Ok(inputs) => {
+            nonallocating::make_calls(rt, alloc, &inputs);
+            allocating::make_calls(rt, alloc, &inputs, &mut out_of_memory);
+        }
+        Err(AllocError) => out_of_memory = 1,
+    }
+    let _ = println!(rt; "{out_of_memory} out of memory");
+}
