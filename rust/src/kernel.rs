@@ -1,18 +1,23 @@
 //! The kernel of every call: verified machine code where there is some for the target, and elsewhere the portable
 //! kernel of the proved source, or for WebAssembly with vectors the one over these.
 
-/// Compiles the items for targets that meet a condition, and the others for all others.
-macro_rules! compiled {
-    (if $condition:meta { $($item:item)* } else { $($other:item)* }) => {
-        $(#[cfg($condition)] $item)*
-        $(#[cfg(not($condition))] $other)*
+/// Compiles the items of the first branch whose condition holds.
+macro_rules! choose {
+    (
+        if $first:meta { $($item:item)* }
+        else if $second:meta { $($other:item)* }
+        else { $($last:item)* }
+    ) => {
+        $(#[cfg($first)] $item)*
+        $(#[cfg(all(not($first), $second))] $other)*
+        $(#[cfg(not(any($first, $second)))] $last)*
     };
 }
 
 // Miri runs no machine code, in an SGX enclave no program may ask the CPU what it has, code for the kernel of an
 // operating system often has no vector registers, and aarch64 without an operating system may have no unaligned
 // accesses.
-compiled! {
+choose! {
     if all(
         any(
             all(target_arch = "x86_64", target_feature = "sse2", not(target_env = "sgx")),
@@ -23,24 +28,22 @@ compiled! {
     ) {
         mod machine_code;
         mod native;
-        // Few processors run it, so it has less data.
-        use crate::proved::Compact as Portable;
         use machine_code::secret as constant_time;
         use machine_code as unchecked;
-        pub use native::Native;
-    } else {
-        compiled! {
-            if all(target_arch = "wasm32", target_feature = "simd128", not(feature = "force-generic")) {
-                mod lanes;
-                use crate::proved::arch::lanes16::Lanes16 as Portable;
-                pub use lanes::Native;
-            } else {
-                pub use crate::proved::Plain as Portable;
-                pub use Portable as Native;
-            }
-        }
+        // Few processors run it, so it has less data.
+        use crate::proved::Compact as Portable;
+        pub use native::MachineCode as TargetKernel;
+    } else if all(target_arch = "wasm32", target_feature = "simd128", not(feature = "force-generic")) {
+        mod lanes;
         use arithmetic as constant_time;
         use portable as unchecked;
+        use crate::proved::arch::lanes16::Lanes16 as Portable;
+        pub use lanes::Vectors as TargetKernel;
+    } else {
+        use arithmetic as constant_time;
+        use portable as unchecked;
+        use TargetKernel as Portable;
+        pub use crate::proved::Plain as TargetKernel;
     }
 }
 #[allow(dead_code)] // AArch64 has machine code in any case.

@@ -228,7 +228,7 @@ fn drop_and_locate(digits: &[u8], bytes: Vec<u8>) -> (char, usize) {
     drop(bytes);
     match invalid_first(digits) {
         Some(c) => (c, 0),
-        None => locate_invalid::<kernel::Native>(digits),
+        None => locate_invalid::<kernel::TargetKernel>(digits),
     }
 }
 
@@ -250,7 +250,7 @@ pub fn decode_append<T: AsRef<[u8]>>(data: T, output: &mut Vec<u8>) -> Result<us
     let digits = strip_even(text)?;
     match kernel::decode_append(digits, output) {
         true => Ok(digits.len() / 2),
-        false => Err(find_invalid_character::<kernel::Native>(text, digits)),
+        false => Err(find_invalid_character::<kernel::TargetKernel>(text, digits)),
     }
 }
 
@@ -309,7 +309,7 @@ fn array<B: kernel::Byte, const N: usize>(text: &[u8]) -> Result<[B; N], FromHex
     }
     match kernel::Space::new().bytes(digits) {
         Some(bytes) => Ok(*bytes),
-        None => Err(find_invalid_character::<kernel::Native>(text, digits)),
+        None => Err(find_invalid_character::<kernel::TargetKernel>(text, digits)),
     }
 }
 

@@ -5,9 +5,9 @@ use crate::proved::Kernel;
 use core::slice::{from_raw_parts, from_raw_parts_mut};
 
 /// The kernel of 16 lanes, which decodes by a function of its own.
-pub struct Native;
+pub struct Vectors;
 
-impl Kernel for Native {
+impl Kernel for Vectors {
     const USE_CHECK_FN: bool = Portable::USE_CHECK_FN;
 
     const PIECE: usize = Portable::PIECE;

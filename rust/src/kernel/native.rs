@@ -6,9 +6,9 @@ use crate::proved::Kernel;
 /// The kernel by machine code. Each function tests that the lengths fit, although callers in `proved` never pass
 /// others. A shift doubles a length, since a debug build would test a product for an overflow. There is none: a slice
 /// has at most `isize::MAX` bytes.
-pub struct Native;
+pub struct MachineCode;
 
-impl Kernel for Native {
+impl Kernel for MachineCode {
     const USE_CHECK_FN: bool = false;
 
     const PIECE: usize = 64;

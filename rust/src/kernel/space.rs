@@ -1,6 +1,6 @@
 //! Space for a text or for bytes, which need not be initialized.
 
-use super::{unchecked, Native};
+use super::{unchecked, TargetKernel};
 use crate::proved::{text_length, Kernel};
 use core::{mem::MaybeUninit, ptr};
 
@@ -48,7 +48,7 @@ impl<const N: usize> Space<N> {
         // SAFETY: there are two digits for each of `N` bytes, and if the result is true, all bytes are written,
         // and each of them is a value of type `B`.
         unsafe {
-            let is_valid = if Native::PIECE == 1 && matches!(N, 5..=22) {
+            let is_valid = if TargetKernel::PIECE == 1 && matches!(N, 5..=22) {
                 read_apart::<N>(digits.as_ptr(), bytes)
             } else {
                 unchecked::read(digits.as_ptr(), bytes, N)

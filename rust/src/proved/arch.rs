@@ -19,7 +19,7 @@ mod short;
 mod steps;
 
 /// The kernel of every call that does not name one. It is named here and nowhere else.
-pub type FixedKernel = crate::kernel::Native;
+pub type FixedKernel = crate::kernel::TargetKernel;
 
 /// Encodes bytes as digits, and decodes digits to bytes.
 ///
