@@ -1,5 +1,7 @@
 //! Traits of types that are read from hexadecimal text, or written as it.
 
+#[cfg(feature = "alloc")]
+use crate::kernel::encode_append;
 use crate::kernel::Space;
 use crate::proved::tables::digits_at;
 use crate::FromHexError;
@@ -144,6 +146,7 @@ to_hex! {
     /// ```
     ToHex;
     /// Returns the digits in order, in lowercase. It allocates if the collection does, and takes up to 4 KiB of stack.
+    /// Of more than 2,048 bytes it allocates the text, too, with the feature `alloc`.
     fn encode_hex<T: FromIterator<char>>() -> T = digits::<false, T>;
     /// Does the same as [`encode_hex`](Self::encode_hex) in uppercase.
     fn encode_hex_upper<T: FromIterator<char>>() -> T = digits::<true, T>;
@@ -175,7 +178,7 @@ to_hex! {
 }
 
 /// Collects the digits of bytes.
-// The last arm alone would take 612 instructions in place of 339 for 32 bytes to a `Vec<char>`, and without
+// `flat_map` alone would take 612 instructions in place of 339 for 32 bytes to a `Vec<char>`, and without
 // optimization 18602 in place of 5810. The space is copied then, so a short input has less of it, or none; and for one
 // byte, an iterator over the array of its digits would take 1069 in place of 910 then. Three bytes have no array of
 // characters, from which LLVM would not see that each is ASCII (rustc 1.95, x86-64).
@@ -206,6 +209,13 @@ fn digits<const UPPER: bool, T: FromIterator<char>>(bytes: &[u8]) -> T {
         }
         4..=32 => digits_in::<64, UPPER, T>(bytes),
         33..=2048 => digits_in::<4096, UPPER, T>(bytes),
+        #[cfg(feature = "alloc")]
+        _ => {
+            let mut text = Vec::new();
+            encode_append(bytes, false, UPPER, &mut text);
+            text.iter().map(|digit| character(*digit)).collect()
+        }
+        #[cfg(not(feature = "alloc"))]
         _ => bytes.iter().flat_map(|byte| digits_at::<true>(UPPER, *byte)).map(character).collect(),
     }
 }
