@@ -3,7 +3,7 @@
 use crate::mode::USAGE;
 use crate::process::program;
 use crate::tests::devices::{InjectedFault, Source, Target};
-use crate::tests::{Escaped, Testing};
+use crate::tests::{Escaped, Testing, same_bytes};
 use std::cell::Cell;
 use std::env::{Env, FillError};
 use std::fmt::{self, Debug, Display};
@@ -185,12 +185,11 @@ fn runs(rt: &impl Testing, (arguments, input, written, status, line): Run<'_>) {
     let (mut rest, mut output) = (input, Target::new(rt.alloc(), InjectedFault::Nothing));
     let host = Host::new(arguments, true);
     ends(rt, host, &mut rest, &mut output, (status, line));
-    assert_eq!(rt;
-        Escaped(&output.taken),
-        Escaped(written),
-        "{:?} {:?}",
-        Shown(arguments),
-        Escaped(input)
+    same_bytes(
+        rt,
+        (Shown(arguments), Escaped(input)),
+        &output.taken,
+        written,
     );
 }
 
@@ -218,12 +217,7 @@ fn words_that_name_none(rt: HostRuntime) {
         let mut output = Target::new(rt.alloc(), InjectedFault::Nothing);
         let host = Host::new(arguments, can_print);
         ends(&rt, host, &mut input, &mut output, (2, USAGE));
-        assert_eq!(rt;
-            Escaped(input),
-            Escaped(b"kiwi"),
-            "left to read: {:?}",
-            Shown(arguments)
-        );
+        same_bytes(&rt, Shown(arguments), input, b"kiwi");
         assert_eq!(rt;
             (output.writes, output.flushes),
             (0, 0),

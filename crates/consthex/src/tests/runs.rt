@@ -8,7 +8,7 @@ use crate::error::RunError;
 use crate::mode::Mode;
 use crate::runs::run;
 use crate::tests::devices::{InjectedFault, Source, Target};
-use crate::tests::{Escaped, Testing};
+use crate::tests::{Escaped, Testing, same_bytes};
 use const_hex::FromHexError::OddLength;
 use std::alloc::{AllocError, Global};
 use std::io::{self, ErrorKind, Read};
@@ -59,7 +59,7 @@ fn accepts_1048576_bytes_and_no_more(rt: HostRuntime) {
     run(rt.alloc(), Mode::Encode, &mut zeros, &mut text).expect(&rt, "run");
     assert_eq!(rt; text.pop(), Some(b'\n'));
     let zeros = vec![in rt.alloc(); b'0'; 2_097_152].expect(&rt, "memory");
-    assert_eq!(rt; Escaped(&text), Escaped(&zeros));
+    same_bytes(&rt, 1_048_576, &text, &zeros);
     let mut nothing = Vec::new(rt.alloc());
     let mut zeros = io::repeat(0).take(1_048_577);
     let outcome = run(rt.alloc(), Mode::Encode, &mut zeros, &mut nothing);
@@ -96,11 +96,7 @@ fn reads(rt: &impl Testing, kind: ErrorKind, call: usize) {
         calls,
         "writes, flushes: {row:?}"
     );
-    assert_eq!(rt;
-        Escaped(&output.taken),
-        Escaped(written.as_bytes()),
-        "{row:?}"
-    );
+    same_bytes(rt, row, &output.taken, written.as_bytes());
 }
 
 // Each answer; then a write that fails or accepts nothing, at each call, and a flush that fails.
@@ -137,7 +133,7 @@ fn writes(rt: &impl Testing, (mode, input, answer): Answered<'_>, fault: Injecte
         "run: {row:?}"
     );
     let front = answer.get(..taken).unwrap_or(&[]);
-    assert_eq!(rt; Escaped(&output.taken), Escaped(front), "{row:?}");
+    same_bytes(rt, row, &output.taken, front);
     assert_eq!(rt;
         (output.writes, output.flushes),
         calls,
