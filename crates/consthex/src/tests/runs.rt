@@ -2,7 +2,7 @@
 
 ghost use Rattle.std.specs.Prelude.{◌≡◌, codes, string_bytes, IfOk};
 ghost use Rattle.const_hex.specs.declared.error.FromHexError.TheVariants.{OddLength};
-ghost use Rattle.consthex.specs.declared.error.RunError.TheVariants.{NoMemory, Text};
+ghost use Rattle.consthex.specs.declared.error.RunError.TheVariants.{NoMemory, ReadFailed, Text, TooLong, WriteFailed};
 
 use crate::error::RunError;
 use crate::mode::Mode;
@@ -48,6 +48,9 @@ fn line_of(alloc: Global, error: RunError) -> Result<String, AllocError>
     ensures memory { error ≡ NoMemory → IfOk result (λ s. string_bytes s ≡ codes "out of memory") }
     ensures text { error ≡ Text OddLength
         → IfOk result (λ s. string_bytes s ≡ codes "odd number of digits") }
+    ensures read { error ≡ ReadFailed → IfOk result (λ s. string_bytes s ≡ codes "read failed") }
+    ensures write { error ≡ WriteFailed → IfOk result (λ s. string_bytes s ≡ codes "write failed") }
+    ensures long { error ≡ TooLong → IfOk result (λ s. string_bytes s ≡ codes "input too long") }
 {
     error.to_string(alloc)
 }
