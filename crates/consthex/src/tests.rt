@@ -26,3 +26,14 @@ impl Debug for Escaped<'_> {
         f.write_str("\"")
     }
 }
+
+/// Ends the test, and prints its row, if the bytes are not those that are wanted.
+pub(crate) fn same_bytes<R: Debug + Drop>(rt: &impl Testing, row: R, found: &[u8], want: &[u8]) {
+    if found != want {
+        panic!(rt;
+            "{row:?}: {:?}, but wanted {:?}",
+            Escaped(found),
+            Escaped(want)
+        );
+    }
+}

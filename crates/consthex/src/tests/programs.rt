@@ -1,9 +1,16 @@
 //! The whole program, from its arguments to its exit status and its line on standard error.
 
+ghost use Rattle.std.specs.Prelude.{◌≡◌, ◌∷◌, ◌⊎◌, [], List, ℕ, Ok, Err, codes, map, string_bytes, take};
+ghost use Rattle.std.specs.Io.BufRead.{strip_last};
+ghost use Rattle.std.specs.Io.KnownBytes.{Appends, Consumes, IsAtEnd, Keeps};
+ghost use Rattle.std.specs.Process.{exit_status};
+ghost use Rattle.const_hex.specs.Prelude.{Reads};
+ghost use Rattle.const_hex.specs.declared.error.FromHexError.{FromHexError};
+
 use crate::mode::USAGE;
-use crate::process::program;
+use crate::process::{program, program_with};
 use crate::tests::devices::{InjectedFault, Source, Target};
-use crate::tests::{Escaped, Testing};
+use crate::tests::{Escaped, Testing, same_bytes};
 use std::cell::Cell;
 use std::env::{Env, FillError};
 use std::fmt::{self, Debug, Display};
@@ -185,12 +192,11 @@ fn runs(rt: &impl Testing, (arguments, input, written, status, line): Run<'_>) {
     let (mut rest, mut output) = (input, Target::new(rt.alloc(), InjectedFault::Nothing));
     let host = Host::new(arguments, true);
     ends(rt, host, &mut rest, &mut output, (status, line));
-    assert_eq!(rt;
-        Escaped(&output.taken),
-        Escaped(written),
-        "{:?} {:?}",
-        Shown(arguments),
-        Escaped(input)
+    same_bytes(
+        rt,
+        (Shown(arguments), Escaped(input)),
+        &output.taken,
+        written,
     );
 }
 
@@ -218,12 +224,7 @@ fn words_that_name_none(rt: HostRuntime) {
         let mut output = Target::new(rt.alloc(), InjectedFault::Nothing);
         let host = Host::new(arguments, can_print);
         ends(&rt, host, &mut input, &mut output, (2, USAGE));
-        assert_eq!(rt;
-            Escaped(input),
-            Escaped(b"kiwi"),
-            "left to read: {:?}",
-            Shown(arguments)
-        );
+        same_bytes(&rt, Shown(arguments), input, b"kiwi");
         assert_eq!(rt;
             (output.writes, output.flushes),
             (0, 0),
@@ -255,4 +256,42 @@ fn usage(rt: HostRuntime) {
     let line =
         "usage: consthex encode|encode-upper|encode-prefixed|encode-upper-prefixed|decode|check";
     assert_eq!(rt; USAGE, line);
+}
+
+/// Decodes a text. Its contract has the full definition of how a run ends, in the words of std and of `const_hex`.
+fn decode<R: Read, W: Write>(
+    rt: &(impl Eprint + AllocGlobal),
+    arguments: &[String],
+    input: &mut R,
+    output: &mut W,
+) -> ExitCode
+    requires { map string_bytes arguments.now ≡ codes "decode" ∷ [] }
+    ensures done { exit_status result ≡ 0 → (x : List ℕ) × (y : List ℕ)
+        × Consumes (R.remaining input.old) (R.remaining input.new) x × IsAtEnd (R.remaining input.new)
+        × Reads (strip_last 10 x) (Ok y) × Appends (W.contents output.old) (W.contents output.new) y }
+    ensures rejected { exit_status result ≡ 1 → (x : List ℕ) × (e : FromHexError)
+        × Consumes (R.remaining input.old) (R.remaining input.new) x × IsAtEnd (R.remaining input.new)
+        × Reads (strip_last 10 x) (Err e) × Keeps (W.contents output.old) (W.contents output.new) }
+    ensures failed { exit_status result ≡ 3 → Keeps (W.contents output.old) (W.contents output.new)
+        ⊎ ((x : List ℕ) × (y : List ℕ) × (n : ℕ) × Consumes (R.remaining input.old) (R.remaining input.new) x
+        × Reads (strip_last 10 x) (Ok y) × Appends (W.contents output.old) (W.contents output.new) (take n y)) }
+    ensures memory { exit_status result ≡ 4 → Keeps (W.contents output.old) (W.contents output.new) }
+{
+    program_with(rt, arguments, input, output)
+}
+
+#[test]
+fn words_of_a_mode(rt: HostRuntime) {
+    let arguments = [String::from_str(rt.alloc(), "decode").expect(&rt, "memory")];
+    let mut output = Vec::new(rt.alloc());
+    let code = decode(
+        &(&Host::new(&[], true), rt.alloc()),
+        &arguments,
+        &mut b"6b69\n".as_slice(),
+        &mut output,
+    );
+    assert_eq!(rt;
+        (code, output.as_slice()),
+        (ExitCode::SUCCESS, b"ki".as_slice())
+    );
 }

@@ -2,13 +2,13 @@
 
 ghost use Rattle.std.specs.Prelude.{◌≡◌, codes, string_bytes, IfOk};
 ghost use Rattle.const_hex.specs.declared.error.FromHexError.TheVariants.{OddLength};
-ghost use Rattle.consthex.specs.declared.error.RunError.TheVariants.{NoMemory, Text};
+ghost use Rattle.consthex.specs.declared.error.RunError.TheVariants.{NoMemory, ReadFailed, Text, TooLong, WriteFailed};
 
 use crate::error::RunError;
 use crate::mode::Mode;
 use crate::runs::run;
 use crate::tests::devices::{InjectedFault, Source, Target};
-use crate::tests::{Escaped, Testing};
+use crate::tests::{Escaped, Testing, same_bytes};
 use const_hex::FromHexError::OddLength;
 use std::alloc::{AllocError, Global};
 use std::io::{self, ErrorKind, Read};
@@ -48,6 +48,9 @@ fn line_of(alloc: Global, error: RunError) -> Result<String, AllocError>
     ensures memory { error ≡ NoMemory → IfOk result (λ s. string_bytes s ≡ codes "out of memory") }
     ensures text { error ≡ Text OddLength
         → IfOk result (λ s. string_bytes s ≡ codes "odd number of digits") }
+    ensures read { error ≡ ReadFailed → IfOk result (λ s. string_bytes s ≡ codes "read failed") }
+    ensures write { error ≡ WriteFailed → IfOk result (λ s. string_bytes s ≡ codes "write failed") }
+    ensures long { error ≡ TooLong → IfOk result (λ s. string_bytes s ≡ codes "input too long") }
 {
     error.to_string(alloc)
 }
@@ -59,7 +62,7 @@ fn accepts_1048576_bytes_and_no_more(rt: HostRuntime) {
     run(rt.alloc(), Mode::Encode, &mut zeros, &mut text).expect(&rt, "run");
     assert_eq!(rt; text.pop(), Some(b'\n'));
     let zeros = vec![in rt.alloc(); b'0'; 2_097_152].expect(&rt, "memory");
-    assert_eq!(rt; Escaped(&text), Escaped(&zeros));
+    same_bytes(&rt, 1_048_576, &text, &zeros);
     let mut nothing = Vec::new(rt.alloc());
     let mut zeros = io::repeat(0).take(1_048_577);
     let outcome = run(rt.alloc(), Mode::Encode, &mut zeros, &mut nothing);
@@ -96,11 +99,7 @@ fn reads(rt: &impl Testing, kind: ErrorKind, call: usize) {
         calls,
         "writes, flushes: {row:?}"
     );
-    assert_eq!(rt;
-        Escaped(&output.taken),
-        Escaped(written.as_bytes()),
-        "{row:?}"
-    );
+    same_bytes(rt, row, &output.taken, written.as_bytes());
 }
 
 // Each answer; then a write that fails or accepts nothing, at each call, and a flush that fails.
@@ -137,7 +136,7 @@ fn writes(rt: &impl Testing, (mode, input, answer): Answered<'_>, fault: Injecte
         "run: {row:?}"
     );
     let front = answer.get(..taken).unwrap_or(&[]);
-    assert_eq!(rt; Escaped(&output.taken), Escaped(front), "{row:?}");
+    same_bytes(rt, row, &output.taken, front);
     assert_eq!(rt;
         (output.writes, output.flushes),
         calls,
