@@ -6,13 +6,11 @@
 #![deny(unsafe_op_in_unsafe_fn)]
 #![allow(clippy::missing_safety_doc)] // The header says what each function requires.
 
-use const_hex_proved::{
-    encode_to_slice, encode_to_slice_prefixed, encode_to_slice_upper, encode_to_slice_upper_prefixed, Decoder,
-    FromHexError,
-};
+use const_hex_proved::{encode_full_to_slice, Decoder, FromHexError};
 use core::mem::size_of;
 use core::slice::{from_raw_parts, from_raw_parts_mut};
 
+const UPPER: u32 = 1;
 const PREFIX: u32 = 2;
 const NO_NUL: u32 = 4;
 
@@ -49,18 +47,12 @@ pub unsafe extern "C" fn const_hex_encode(
 /// not known.
 fn encode(bytes: &[u8], text: &mut [u8], flags: u32) -> Option<()> {
     let length = bytes.len().checked_mul(2)?.checked_add((flags & PREFIX) as usize)?;
-    if flags < NO_NUL {
-        *text.get_mut(length)? = 0;
-    }
-    let text = text.get_mut(..length)?;
-    let result = match flags & !NO_NUL {
-        0 => encode_to_slice(bytes, text),
-        1 => encode_to_slice_upper(bytes, text),
-        2 => encode_to_slice_prefixed(bytes, text),
-        3 => encode_to_slice_upper_prefixed(bytes, text),
+    match flags {
+        0..=3 => *text.get_mut(length)? = 0,
+        4..=7 => {}
         _ => return None,
-    };
-    result.ok()
+    }
+    encode_full_to_slice(bytes, flags & PREFIX != 0, flags & UPPER != 0, text.get_mut(..length)?).ok()
 }
 
 #[no_mangle]

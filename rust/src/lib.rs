@@ -68,6 +68,9 @@ pub use crate::display::display;
 pub use crate::io::{DecodeReader, EncodeWriter};
 pub use crate::proved::codec::checks::{const_check, const_check_raw};
 pub use crate::proved::codec::decoders::const_decode_to_array;
+// For the module of the package for JavaScript.
+#[doc(hidden)]
+pub use crate::proved::codec::encoders::encode_full_to_slice;
 pub use crate::proved::error::FromHexError;
 pub use crate::proved::{HEX_CHARS_LOWER, HEX_CHARS_UPPER, HEX_DECODE_LUT, NIL};
 #[cfg(feature = "serde")]
@@ -80,7 +83,6 @@ pub use crate::traits::{FromHex, ToHex};
 use crate::proved::codec::body::{find_invalid_character, strip_even};
 #[cfg(feature = "alloc")]
 use crate::proved::codec::body::{invalid_first, locate_invalid};
-use crate::proved::codec::encoders::encode_full_to_slice;
 use crate::proved::codec::{checks, decoders};
 #[cfg(feature = "alloc")]
 use alloc::{string::String, vec::Vec};

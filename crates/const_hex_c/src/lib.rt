@@ -5,8 +5,8 @@
 //! message of an error, and the version. No function allocates, and none requires anything of its
 //! arguments. A slice is a pointer and a length; the pointer may be null if the length is 0.
 //!
-//! The header `c/const_hex.h` says the same for C. There an error may be NULL: `c/asm/dispatch.S` passes
-//! an error of its own to the functions that end in `_nonnull` here.
+//! The header `c/const_hex.h` says the same for C. There an error may be NULL: `c/asm/dispatch.S`
+//! passes an error of its own to the functions that end in `_nonnull` here.
 //!
 //! The contracts use the terms of `const_hex`, and those defined in `specs/`.
 #![tactic(auto)]
