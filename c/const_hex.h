@@ -190,12 +190,12 @@ extern "C" {
  * characters at the end, and after an invalid character it only repeats its error.
  */
 enum const_hex_error_kind {
-    /* The text has an odd number of characters. */
-    CONST_HEX_ODD_LENGTH = 1,
-    /* The text decodes to more bytes than fit into the buffer, or not to the number of bytes required. */
-    CONST_HEX_INVALID_LENGTH = 2,
-    /* A character after the prefix is not a hexadecimal digit. */
-    CONST_HEX_INVALID_CHARACTER = 3
+  /* The text has an odd number of characters. */
+  CONST_HEX_ODD_LENGTH = 1,
+  /* The text decodes to more bytes than fit into the buffer, or not to the number of bytes required. */
+  CONST_HEX_INVALID_LENGTH = 2,
+  /* A character after the prefix is not a hexadecimal digit. */
+  CONST_HEX_INVALID_CHARACTER = 3
 };
 
 /*
@@ -207,9 +207,9 @@ enum const_hex_error_kind {
  *          prefix; otherwise 0
  */
 struct const_hex_error {
-    uint32_t kind;
-    uint32_t byte;
-    size_t index;
+  uint32_t kind;
+  uint32_t byte;
+  size_t index;
 };
 
 /*@ predicate const_hex_is_error{L}(struct const_hex_error *error, integer kind, integer byte, integer index) =
@@ -273,21 +273,23 @@ struct const_hex_error {
 */
 CONST_HEX_NONNULL(1)
 CONST_HEX_WRITES(2, 3)
-size_t const_hex_error_message(const struct const_hex_error *error, char *message, size_t message_size);
+size_t const_hex_error_message(const struct const_hex_error *error, char *message,
+                               size_t message_size);
 
 /* ---- Encoding ---- */
 
 /* Flags for encoding; combine them with |. With 0 the text is lowercase, has no prefix, and a NUL follows. */
 #define CONST_HEX_UPPER 1u  /* uppercase digits: 6B instead of 6b */
 #define CONST_HEX_PREFIX 2u /* "0x" before the digits, also with CONST_HEX_UPPER */
-#define CONST_HEX_NO_NUL 4u /* no NUL terminator, as for a field of fixed length in a packet or a file */
+#define CONST_HEX_NO_NUL                                                                           \
+  4u /* no NUL terminator, as for a field of fixed length in a packet or a file */
 
 /*
  * The buffer size that const_hex_encode needs, as a constant expression. Unlike const_hex_encoded_size it
  * tests neither for overflow nor for unknown flags, and its type follows that of bytes_length.
  */
-#define CONST_HEX_ENCODED_SIZE(bytes_length, flags)                                                   \
-    (2 * (bytes_length) + (((flags) & CONST_HEX_PREFIX) ? 2 : 0) + (((flags) & CONST_HEX_NO_NUL) ? 0 : 1))
+#define CONST_HEX_ENCODED_SIZE(bytes_length, flags)                                                \
+  (2 * (bytes_length) + (((flags)&CONST_HEX_PREFIX) ? 2 : 0) + (((flags)&CONST_HEX_NO_NUL) ? 0 : 1))
 
 /*@ // What the flags ask for: the first letter, a prefix, a NUL, and the size of the whole text.
     logic integer const_hex_letter(integer flags) = flags % 2 == 1 ? 'A' : 'a';
@@ -364,7 +366,8 @@ size_t const_hex_encoded_size(size_t bytes_length, unsigned flags);
 CONST_HEX_NODISCARD
 CONST_HEX_READS(1, 2)
 CONST_HEX_WRITES(3, 4)
-bool const_hex_encode(const void *bytes, size_t bytes_length, char *text, size_t text_size, unsigned flags);
+bool const_hex_encode(const void *bytes, size_t bytes_length, char *text, size_t text_size,
+                      unsigned flags);
 
 /* ---- Decoding ---- */
 
@@ -432,8 +435,8 @@ CONST_HEX_NODISCARD
 CONST_HEX_NONNULL(5)
 CONST_HEX_READS(1, 2)
 CONST_HEX_WRITES(3, 4)
-bool const_hex_decode(const char *text, size_t text_length, void *bytes, size_t bytes_size, size_t *written,
-                      struct const_hex_error *error);
+bool const_hex_decode(const char *text, size_t text_length, void *bytes, size_t bytes_size,
+                      size_t *written, struct const_hex_error *error);
 
 /*
  * Like const_hex_decode, but the text must decode to exactly bytes_length bytes: for any other even length
@@ -490,7 +493,7 @@ bool const_hex_decode_exact(const char *text, size_t text_length, void *bytes, s
  *     struct const_hex_decoder decoder = {0};
  */
 struct const_hex_decoder {
-    size_t state[2];
+  size_t state[2];
 };
 
 /*@ // The state of a decoder: how many characters it has read, or SIZE_MAX if they were more; and the first digit of a
@@ -621,8 +624,8 @@ CONST_HEX_NONNULL(1)
 CONST_HEX_NONNULL(6)
 CONST_HEX_READS(2, 3)
 CONST_HEX_WRITES(4, 5)
-bool const_hex_decoder_update(struct const_hex_decoder *decoder, const char *text, size_t text_length,
-                              void *bytes, size_t bytes_size, size_t *written,
+bool const_hex_decoder_update(struct const_hex_decoder *decoder, const char *text,
+                              size_t text_length, void *bytes, size_t bytes_size, size_t *written,
                               struct const_hex_error *error);
 
 /*
@@ -653,7 +656,8 @@ bool const_hex_decoder_update(struct const_hex_decoder *decoder, const char *tex
 */
 CONST_HEX_NODISCARD
 CONST_HEX_NONNULL(1)
-bool const_hex_decoder_finish(const struct const_hex_decoder *decoder, struct const_hex_error *error);
+bool const_hex_decoder_finish(const struct const_hex_decoder *decoder,
+                              struct const_hex_error *error);
 
 /* ---- Checking ---- */
 

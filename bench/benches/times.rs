@@ -5,8 +5,15 @@ use criterion::{criterion_group, criterion_main, BenchmarkId, Criterion, Through
 use std::time::Duration;
 
 /// The calls that are measured.
-const CALLS: [&str; 7] =
-    ["encode_to_slice", "encode", "encode_hex", "decode_to_slice", "decode", "check", "decode, last character invalid"];
+const CALLS: [&str; 7] = [
+    "encode_to_slice",
+    "encode",
+    "encode_hex",
+    "decode_to_slice",
+    "decode",
+    "check",
+    "decode, last character invalid",
+];
 
 fn times(criterion: &mut Criterion) {
     for call in CALLS {

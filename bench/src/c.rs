@@ -40,9 +40,21 @@ mod theirs {
         let Err(reason) = result else { return true };
         if let Some(error) = error.as_mut() {
             *error = match reason {
-                OddLength => Error { kind: 1, byte: 0, index: 0 },
-                InvalidStringLength => Error { kind: 2, byte: 0, index: 0 },
-                InvalidHexCharacter { c, index } => Error { kind: 3, byte: c.into(), index },
+                OddLength => Error {
+                    kind: 1,
+                    byte: 0,
+                    index: 0,
+                },
+                InvalidStringLength => Error {
+                    kind: 2,
+                    byte: 0,
+                    index: 0,
+                },
+                InvalidHexCharacter { c, index } => Error {
+                    kind: 3,
+                    byte: c.into(),
+                    index,
+                },
             };
         }
         false
@@ -85,7 +97,10 @@ mod theirs {
         size: usize,
         error: *mut Error,
     ) -> bool {
-        told(const_hex::decode_to_slice(bytes(text, length), space(output, size)), error)
+        told(
+            const_hex::decode_to_slice(bytes(text, length), space(output, size)),
+            error,
+        )
     }
 
     #[inline(never)]
@@ -98,7 +113,8 @@ mod theirs {
         error: *mut Error,
     ) -> bool {
         let (text, output) = (bytes(text, length), space(output, size));
-        let count = (length - 2 * usize::from(text.starts_with(b"0x") || text.starts_with(b"0X"))) / 2;
+        let count =
+            (length - 2 * usize::from(text.starts_with(b"0x") || text.starts_with(b"0X"))) / 2;
         let decoded = match output.get_mut(..count) {
             Some(output) => const_hex::decode_to_slice(text, output),
             None => Err(InvalidStringLength),
@@ -109,7 +125,11 @@ mod theirs {
     }
 
     #[inline(never)]
-    pub unsafe extern "C" fn const_hex_check(text: *const u8, length: usize, error: *mut Error) -> bool {
+    pub unsafe extern "C" fn const_hex_check(
+        text: *const u8,
+        length: usize,
+        error: *mut Error,
+    ) -> bool {
         told(const_hex::check(bytes(text, length)), error)
     }
 
@@ -124,7 +144,13 @@ mod ours {
     use super::Error;
 
     extern "C" {
-        pub fn const_hex_encode(bytes: *const u8, length: usize, text: *mut u8, size: usize, flags: u32) -> bool;
+        pub fn const_hex_encode(
+            bytes: *const u8,
+            length: usize,
+            text: *mut u8,
+            size: usize,
+            flags: u32,
+        ) -> bool;
         pub fn const_hex_decode_exact(
             text: *const u8,
             length: usize,
@@ -152,7 +178,8 @@ fn done<T, E>(is_done: bool, value: T, error: E) -> Result<T, E> {
 
 /// What is added to the name of `encode`, its flags, and how many characters it adds to the digits. The flags are not
 /// known to the compiler, or it would leave the tests of them out of the functions of const-hex.
-const ENCODINGS: [(&str, u32, usize); 3] = [("", 4, 0), (" with NUL", 0, 1), (" with a prefix", 6, 2)];
+const ENCODINGS: [(&str, u32, usize); 3] =
+    [("", 4, 0), (" with NUL", 0, 1), (" with a prefix", 6, 2)];
 
 /// The calls in C of a library.
 macro_rules! in_c {
@@ -160,35 +187,86 @@ macro_rules! in_c {
         // SAFETY, of all: each pointer comes with its slice's own length, and an error may be null.
         for (kind, flags, more) in ENCODINGS {
             let (call, size) = (format!("in C: encode{kind}"), $cases.text.len() + more);
-            $cases.add(&call, $name, $cases.bytes.clone(), size, move |bytes, text| unsafe {
-                let flags = black_box(flags);
-                $library::const_hex_encode(bytes.as_ptr(), bytes.len(), text.as_mut_ptr(), text.len(), flags)
-            });
+            $cases.add(
+                &call,
+                $name,
+                $cases.bytes.clone(),
+                size,
+                move |bytes, text| unsafe {
+                    let flags = black_box(flags);
+                    $library::const_hex_encode(
+                        bytes.as_ptr(),
+                        bytes.len(),
+                        text.as_mut_ptr(),
+                        text.len(),
+                        flags,
+                    )
+                },
+            );
         }
         $cases.decoding("in C: decode_exact", $name, |text, bytes| unsafe {
             let (mut error, output, size) = (Error::default(), bytes.as_mut_ptr(), bytes.len());
-            let is_valid = $library::const_hex_decode_exact(text.as_ptr(), text.len(), output, size, &mut error);
+            let is_valid = $library::const_hex_decode_exact(
+                text.as_ptr(),
+                text.len(),
+                output,
+                size,
+                &mut error,
+            );
             done(is_valid, (), error)
         });
-        $cases.decoding("in C: decode_exact, error NULL", $name, |text, bytes| unsafe {
-            let (output, size) = (bytes.as_mut_ptr(), bytes.len());
-            done($library::const_hex_decode_exact(text.as_ptr(), text.len(), output, size, null_mut()), (), ())
-        });
+        $cases.decoding(
+            "in C: decode_exact, error NULL",
+            $name,
+            |text, bytes| unsafe {
+                let (output, size) = (bytes.as_mut_ptr(), bytes.len());
+                done(
+                    $library::const_hex_decode_exact(
+                        text.as_ptr(),
+                        text.len(),
+                        output,
+                        size,
+                        null_mut(),
+                    ),
+                    (),
+                    (),
+                )
+            },
+        );
         $cases.decoding("in C: decode", $name, |text, bytes| unsafe {
-            let (mut error, mut written, (output, size)) = (Error::default(), 0, (bytes.as_mut_ptr(), bytes.len()));
-            let is_valid =
-                $library::const_hex_decode(text.as_ptr(), text.len(), output, size, &mut written, &mut error);
+            let (mut error, mut written, (output, size)) =
+                (Error::default(), 0, (bytes.as_mut_ptr(), bytes.len()));
+            let is_valid = $library::const_hex_decode(
+                text.as_ptr(),
+                text.len(),
+                output,
+                size,
+                &mut written,
+                &mut error,
+            );
             done(is_valid, written, error)
         });
         $cases.decoding("in C: check", $name, |text, _| unsafe {
             let mut error = Error::default();
-            done($library::const_hex_check(text.as_ptr(), text.len(), &mut error), (), error)
+            done(
+                $library::const_hex_check(text.as_ptr(), text.len(), &mut error),
+                (),
+                error,
+            )
         });
         $cases.decoding("in C: check, error NULL", $name, |text, _| unsafe {
-            done($library::const_hex_check(text.as_ptr(), text.len(), null_mut()), (), ())
+            done(
+                $library::const_hex_check(text.as_ptr(), text.len(), null_mut()),
+                (),
+                (),
+            )
         });
         $cases.decoding("in C: check_raw", $name, |text, _| unsafe {
-            done($library::const_hex_check_raw(text.as_ptr(), text.len()), (), ())
+            done(
+                $library::const_hex_check_raw(text.as_ptr(), text.len()),
+                (),
+                (),
+            )
         });
     }};
 }

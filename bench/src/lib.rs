@@ -8,7 +8,9 @@ pub use libraries::cases;
 use std::time::{Duration, Instant};
 
 /// The numbers of bytes that are encoded, or decoded to.
-pub const SIZES: [usize; 20] = [1, 2, 3, 4, 8, 12, 16, 17, 20, 24, 32, 33, 48, 64, 65, 128, 256, 2048, 16_384, 131_072];
+pub const SIZES: [usize; 20] = [
+    1, 2, 3, 4, 8, 12, 16, 17, 20, 24, 32, 33, 48, 64, 65, 128, 256, 2048, 16_384, 131_072,
+];
 
 /// One call of one library, on input of one size.
 pub struct Case {
@@ -26,7 +28,12 @@ impl Case {
         size: usize,
         prepare: impl Fn() -> F + 'static,
     ) -> Case {
-        Case { call, library, size, prepare: Box::new(move || Box::new(prepare())) }
+        Case {
+            call,
+            library,
+            size,
+            prepare: Box::new(move || Box::new(prepare())),
+        }
     }
 
     /// The call with its buffers.

@@ -5,9 +5,15 @@ use std::hint::black_box;
 
 /// Every call of every library, for `size` bytes. Those of const-hex and const-hex-proved take turns.
 pub fn cases(size: usize) -> Vec<Case> {
-    let bytes: Vec<u8> = (0..size).map(|i| (i.wrapping_mul(2_654_435_761) >> 7) as u8).collect();
+    let bytes: Vec<u8> = (0..size)
+        .map(|i| (i.wrapping_mul(2_654_435_761) >> 7) as u8)
+        .collect();
     let text = const_hex::encode(&bytes).into_bytes();
-    let mut cases = Cases { bytes, text, list: Vec::new() };
+    let mut cases = Cases {
+        bytes,
+        text,
+        list: Vec::new(),
+    };
     macro_rules! both {
         ($calls:ident $($argument:tt)*) => {
             $calls!(const_hex, "const-hex", cases $($argument)*);
@@ -33,7 +39,13 @@ pub fn cases(size: usize) -> Vec<Case> {
 }
 
 /// The texts that are decoded: what is added to a call's name.
-const TEXTS: [&str; 5] = ["", ", a prefix", ", first character invalid", ", last character invalid", ", odd length"];
+const TEXTS: [&str; 5] = [
+    "",
+    ", a prefix",
+    ", first character invalid",
+    ", last character invalid",
+    ", odd length",
+];
 
 /// The cases for bytes, and for texts that are made of their text in lowercase.
 pub(crate) struct Cases {
@@ -73,8 +85,12 @@ impl Cases {
             }
             let (call, size) = (format!("{call}{kind}"), self.bytes.len());
             match run(&text, &mut vec![0; size]).is_ok() {
-                true => self.add(&call, library, text, size, move |text, bytes| run(text, bytes).ok().unwrap()),
-                false => self.add(&call, library, text, size, move |text, bytes| run(text, bytes).err().unwrap()),
+                true => self.add(&call, library, text, size, move |text, bytes| {
+                    run(text, bytes).ok().unwrap()
+                }),
+                false => self.add(&call, library, text, size, move |text, bytes| {
+                    run(text, bytes).err().unwrap()
+                }),
             }
         }
     }
@@ -103,14 +119,22 @@ impl Cases {
 /// The calls of a crate that has the names of `hex`. `encode_hex` is that of its trait `ToHex`.
 macro_rules! with_names_of_hex {
     ($library:ident, $name:literal, $cases:ident) => {{
-        $cases.encoding("encode_to_slice", $name, |bytes, text| $library::encode_to_slice(bytes, text).unwrap());
+        $cases.encoding("encode_to_slice", $name, |bytes, text| {
+            $library::encode_to_slice(bytes, text).unwrap()
+        });
         $cases.encoding("encode", $name, |bytes, _| $library::encode(bytes));
-        $cases.decoding("decode_to_slice", $name, |text, bytes| $library::decode_to_slice(text, bytes));
+        $cases.decoding("decode_to_slice", $name, |text, bytes| {
+            $library::decode_to_slice(text, bytes)
+        });
         $cases.decoding("decode", $name, |text, _| $library::decode(text));
         #[allow(deprecated)]
-        $cases.encoding("encode_hex", $name, |bytes, _| $library::ToHex::encode_hex::<String>(&bytes));
+        $cases.encoding("encode_hex", $name, |bytes, _| {
+            $library::ToHex::encode_hex::<String>(&bytes)
+        });
         #[allow(deprecated)]
-        $cases.encoding("encode_hex to Vec<char>", $name, |bytes, _| $library::ToHex::encode_hex::<Vec<char>>(&bytes));
+        $cases.encoding("encode_hex to Vec<char>", $name, |bytes, _| {
+            $library::ToHex::encode_hex::<Vec<char>>(&bytes)
+        });
     }};
 }
 use with_names_of_hex;
@@ -180,27 +204,57 @@ macro_rules! with_arrays {
         $cases.encoding("const_encode with a prefix", $name, |bytes, _| {
             $library::const_encode::<$size, true>(bytes.try_into().unwrap())
         });
-        $cases.encoding("encode of an array", $name, |bytes, _| $library::encode(array::<$size>(bytes)));
-        $cases.decoding("decode_to_array", $name, |text, _| $library::decode_to_array::<_, $size>(text));
-        $cases.decoding("const_decode_to_array", $name, |text, _| $library::const_decode_to_array::<$size>(text));
-        $cases.decoding("[i8; N]::from_hex", $name, |text, _| <[i8; $size] as signed::$library>::from_hex(text));
-        $cases.add("decode_to_array of an array", $name, $cases.text.clone(), 0, |text, _| {
-            $library::decode_to_array::<_, $size>(array::<{ 2 * $size }>(text)).unwrap()
+        $cases.encoding("encode of an array", $name, |bytes, _| {
+            $library::encode(array::<$size>(bytes))
         });
-        $cases.add("check of an array", $name, $cases.text.clone(), 0, |text, _| {
-            $library::check(array::<{ 2 * $size }>(text)).unwrap()
+        $cases.decoding("decode_to_array", $name, |text, _| {
+            $library::decode_to_array::<_, $size>(text)
         });
-        $cases.add("check_raw of an array", $name, $cases.text.clone(), 0, |text, _| {
-            $library::check_raw(array::<{ 2 * $size }>(text))
+        $cases.decoding("const_decode_to_array", $name, |text, _| {
+            $library::const_decode_to_array::<$size>(text)
         });
-        $cases.add("decode_to_slice of arrays", $name, $cases.text.clone(), $size, |text, bytes| {
-            let (text, bytes): (&[u8; 2 * $size], &mut [u8; $size]) =
-                (text.try_into().unwrap(), bytes.try_into().unwrap());
-            $library::decode_to_slice(text, bytes).unwrap()
+        $cases.decoding("[i8; N]::from_hex", $name, |text, _| {
+            <[i8; $size] as signed::$library>::from_hex(text)
         });
-        $cases.add("decode_to_slice, wrong length", $name, $cases.text.clone(), $size + 1, |text, bytes| {
-            $library::decode_to_slice(text, bytes).unwrap_err()
-        });
+        $cases.add(
+            "decode_to_array of an array",
+            $name,
+            $cases.text.clone(),
+            0,
+            |text, _| $library::decode_to_array::<_, $size>(array::<{ 2 * $size }>(text)).unwrap(),
+        );
+        $cases.add(
+            "check of an array",
+            $name,
+            $cases.text.clone(),
+            0,
+            |text, _| $library::check(array::<{ 2 * $size }>(text)).unwrap(),
+        );
+        $cases.add(
+            "check_raw of an array",
+            $name,
+            $cases.text.clone(),
+            0,
+            |text, _| $library::check_raw(array::<{ 2 * $size }>(text)),
+        );
+        $cases.add(
+            "decode_to_slice of arrays",
+            $name,
+            $cases.text.clone(),
+            $size,
+            |text, bytes| {
+                let (text, bytes): (&[u8; 2 * $size], &mut [u8; $size]) =
+                    (text.try_into().unwrap(), bytes.try_into().unwrap());
+                $library::decode_to_slice(text, bytes).unwrap()
+            },
+        );
+        $cases.add(
+            "decode_to_slice, wrong length",
+            $name,
+            $cases.text.clone(),
+            $size + 1,
+            |text, bytes| $library::decode_to_slice(text, bytes).unwrap_err(),
+        );
     }};
 }
 use with_arrays;
@@ -214,10 +268,18 @@ fn array<const N: usize>(slice: &[u8]) -> &[u8; N] {
 fn of_data_encoding(cases: &mut Cases) {
     use data_encoding::{HEXLOWER, HEXLOWER_PERMISSIVE};
     let name = "data-encoding";
-    cases.encoding("encode_to_slice", name, |bytes, text| HEXLOWER.encode_mut(bytes, text));
-    cases.encoding("encode", name, |bytes, _| HEXLOWER.encode(bytes));
-    cases.add("decode_to_slice", name, cases.text.clone(), cases.bytes.len(), |text, bytes| {
-        HEXLOWER_PERMISSIVE.decode_mut(text, bytes).unwrap()
+    cases.encoding("encode_to_slice", name, |bytes, text| {
+        HEXLOWER.encode_mut(bytes, text)
     });
-    cases.add("decode", name, cases.text.clone(), 0, |text, _| HEXLOWER_PERMISSIVE.decode(text).unwrap());
+    cases.encoding("encode", name, |bytes, _| HEXLOWER.encode(bytes));
+    cases.add(
+        "decode_to_slice",
+        name,
+        cases.text.clone(),
+        cases.bytes.len(),
+        |text, bytes| HEXLOWER_PERMISSIVE.decode_mut(text, bytes).unwrap(),
+    );
+    cases.add("decode", name, cases.text.clone(), 0, |text, _| {
+        HEXLOWER_PERMISSIVE.decode(text).unwrap()
+    });
 }

@@ -43,7 +43,11 @@ const BUILDS: [(&str, &str, &str); 8] = [
     ("fat LTO", "", "--profile lto"),
     ("x86-64-v3, fat LTO", V3, "--profile lto"),
     ("portable", "", "--release --features force-generic"),
-    ("portable, fat LTO", "", "--profile lto --features force-generic"),
+    (
+        "portable, fat LTO",
+        "",
+        "--profile lto --features force-generic",
+    ),
     ("dev", "", ""),
     (IN_C, "", "--profile lto --features c"),
 ];
@@ -81,8 +85,12 @@ type Cell = (Case, u64);
 /// The cases of the named libraries, or of all, up to the number of bytes that the variable `MOST` says.
 fn chosen(only: &[String]) -> impl Iterator<Item = Case> + '_ {
     let most = env::var("MOST").ok().and_then(|most| most.parse().ok());
-    let sizes = SIZES.into_iter().filter(move |size| *size <= most.unwrap_or(usize::MAX));
-    sizes.flat_map(cases).filter(move |case| only.is_empty() || only.iter().any(|name| name == case.library))
+    let sizes = SIZES
+        .into_iter()
+        .filter(move |size| *size <= most.unwrap_or(usize::MAX));
+    sizes
+        .flat_map(cases)
+        .filter(move |case| only.is_empty() || only.iter().any(|name| name == case.library))
 }
 
 /// The calls of the shorter round, and those of the longer one.
@@ -140,10 +148,13 @@ fn count(only: &[String]) -> io::Result<Vec<u64>> {
         return Err(io::Error::other("a round was not counted"));
     }
     // Of each case, what was counted before each of its rounds, and in it.
-    let cells = rounds.chunks_exact(6).zip(chosen(only)).map(|(counted, case)| {
-        let (few, more) = calls(case.size);
-        (counted[5] - counted[3]) / (more - few) as u64
-    });
+    let cells = rounds
+        .chunks_exact(6)
+        .zip(chosen(only))
+        .map(|(counted, case)| {
+            let (few, more) = calls(case.size);
+            (counted[5] - counted[3]) / (more - few) as u64
+        });
     Ok(cells.collect())
 }
 
@@ -151,28 +162,39 @@ fn count(only: &[String]) -> io::Result<Vec<u64>> {
 fn counted_program(command: &str, only: &[String]) -> io::Result<Command> {
     let mut words = command.split(' ');
     let mut counted = Command::new(words.next().unwrap_or_default());
-    counted.args(words).arg(env::current_exe()?).arg("--repeat").args(only);
+    counted
+        .args(words)
+        .arg(env::current_exe()?)
+        .arg("--repeat")
+        .args(only);
     Ok(counted)
 }
 
 /// What callgrind counted up to each mark.
 fn counted_by_callgrind(only: &[String]) -> io::Result<Vec<u64>> {
     let path = env::temp_dir().join(format!("const-hex-bench.{}", process::id()));
-    let command = format!("valgrind -q --tool=callgrind --combine-dumps=yes --callgrind-out-file={}", path.display());
+    let command = format!(
+        "valgrind -q --tool=callgrind --combine-dumps=yes --callgrind-out-file={}",
+        path.display()
+    );
     let status = counted_program(&command, only)?.status()?;
     let dumps = fs::read_to_string(&path)?;
     fs::remove_file(&path)?;
     if !status.success() {
         return Err(io::Error::other(format!("{command}: {status}")));
     }
-    let totals = dumps.lines().filter_map(|line| line.strip_prefix("totals: "));
+    let totals = dumps
+        .lines()
+        .filter_map(|line| line.strip_prefix("totals: "));
     Ok(totals.filter_map(|total| total.parse().ok()).collect())
 }
 
 /// The lines that QEMU printed up to each mark, one for each instruction.
 fn counted_by_qemu(only: &[String]) -> io::Result<Vec<u64>> {
     let command = "qemu-aarch64 -L /usr/aarch64-linux-gnu -singlestep -d nochain,exec";
-    let mut child = counted_program(command, only)?.stderr(Stdio::piped()).spawn()?;
+    let mut child = counted_program(command, only)?
+        .stderr(Stdio::piped())
+        .spawn()?;
     let (mut rounds, mut count) = (Vec::new(), 0);
     for line in BufReader::new(child.stderr.take().unwrap()).lines() {
         let line = line?;
@@ -205,9 +227,16 @@ fn print_tables(cells: &[Cell]) {
     for call in distinct(cells.iter().map(|(case, _)| &*case.call)) {
         let of_call = cells.iter().filter(|(case, _)| case.call == call);
         let libraries = distinct(of_call.clone().map(|(case, _)| case.library));
-        println!("\n| {call} | {} |\n|{}", libraries.join(" | "), "---|".repeat(libraries.len() + 1));
+        println!(
+            "\n| {call} | {} |\n|{}",
+            libraries.join(" | "),
+            "---|".repeat(libraries.len() + 1)
+        );
         for size in SIZES {
-            let row = of_call.clone().filter(|(case, _)| case.size == size).map(|(_, count)| count.to_string());
+            let row = of_call
+                .clone()
+                .filter(|(case, _)| case.size == size)
+                .map(|(_, count)| count.to_string());
             let row: Vec<String> = row.collect();
             if !row.is_empty() {
                 println!("| {size} | {} |", row.join(" | "));
@@ -221,11 +250,18 @@ const ABOVE: &str = "More instructions than const-hex";
 /// Prints each cell in which const-hex takes fewer instructions than const-hex-proved.
 fn print_above(cells: &[Cell]) {
     println!("\n{ABOVE}:\n");
-    for (Case { call, size, .. }, ours) in cells.iter().filter(|(case, _)| case.library == "const-hex-proved") {
-        let is_theirs = |case: &Case| case.library == "const-hex" && case.call == *call && case.size == *size;
+    for (Case { call, size, .. }, ours) in cells
+        .iter()
+        .filter(|(case, _)| case.library == "const-hex-proved")
+    {
+        let is_theirs =
+            |case: &Case| case.library == "const-hex" && case.call == *call && case.size == *size;
         match cells.iter().find(|(case, _)| is_theirs(case)) {
             Some((_, theirs)) if ours > theirs => {
-                println!("{:.2}: {call}, {size} bytes, {ours} beside {theirs}", *ours as f64 / *theirs as f64)
+                println!(
+                    "{:.2}: {call}, {size} bytes, {ours} beside {theirs}",
+                    *ours as f64 / *theirs as f64
+                )
             }
             _ => {}
         }

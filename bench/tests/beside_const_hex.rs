@@ -30,19 +30,49 @@ fn same<T: PartialEq + Debug>(call: &str, input: &[u8], theirs: T, ours: T) {
 
 fn encodes(bytes: &[u8], space: usize) {
     same("encode", bytes, theirs::encode(bytes), ours::encode(bytes));
-    same("encode_upper", bytes, theirs::encode_upper(bytes), ours::encode_upper(bytes));
-    same("encode_prefixed", bytes, theirs::encode_prefixed(bytes), ours::encode_prefixed(bytes));
+    same(
+        "encode_upper",
+        bytes,
+        theirs::encode_upper(bytes),
+        ours::encode_upper(bytes),
+    );
+    same(
+        "encode_prefixed",
+        bytes,
+        theirs::encode_prefixed(bytes),
+        ours::encode_prefixed(bytes),
+    );
     let prefixed = theirs::encode_upper_prefixed(bytes);
-    same("encode_upper_prefixed", bytes, prefixed, ours::encode_upper_prefixed(bytes));
+    same(
+        "encode_upper_prefixed",
+        bytes,
+        prefixed,
+        ours::encode_upper_prefixed(bytes),
+    );
     let (mut text, mut other) = (vec![7; space], vec![7; space]);
     let wanted = theirs::encode_to_slice(bytes, &mut text).map_err(|error| as_ours(error, 0));
-    same("encode_to_slice", bytes, wanted, ours::encode_to_slice(bytes, &mut other));
+    same(
+        "encode_to_slice",
+        bytes,
+        wanted,
+        ours::encode_to_slice(bytes, &mut other),
+    );
     same("the output of encode_to_slice", bytes, &text, &other);
     let wanted = theirs::encode_to_slice_upper(bytes, &mut text).map_err(|error| as_ours(error, 0));
-    same("encode_to_slice_upper", bytes, wanted, ours::encode_to_slice_upper(bytes, &mut other));
+    same(
+        "encode_to_slice_upper",
+        bytes,
+        wanted,
+        ours::encode_to_slice_upper(bytes, &mut other),
+    );
     same("the output of encode_to_slice_upper", bytes, &text, &other);
     let printed = format!("{:#x}{:X}", theirs::display(bytes), theirs::display(bytes));
-    same("display", bytes, printed, format!("{:#x}{:X}", ours::display(bytes), ours::display(bytes)));
+    same(
+        "display",
+        bytes,
+        printed,
+        format!("{:#x}{:X}", ours::display(bytes), ours::display(bytes)),
+    );
 }
 
 fn decodes(text: &[u8], space: usize) {
@@ -55,11 +85,21 @@ fn decodes(text: &[u8], space: usize) {
     let wanted = theirs::check(text).map_err(|error| as_ours(error, 0));
     same("check", text, wanted, ours::check(text));
     same("const_check", text, wanted, ours::const_check(text));
-    same("check_raw", text, theirs::check_raw(text), ours::check_raw(text));
+    same(
+        "check_raw",
+        text,
+        theirs::check_raw(text),
+        ours::check_raw(text),
+    );
     let (mut bytes, mut other) = (vec![7; space], vec![7; space]);
     let wanted = theirs::decode_to_slice(text, &mut bytes).map_err(|error| as_ours(error, added));
     let names_character = matches!(wanted, Err(ours::FromHexError::InvalidHexCharacter { .. }));
-    same("decode_to_slice", text, wanted, ours::decode_to_slice(text, &mut other));
+    same(
+        "decode_to_slice",
+        text,
+        wanted,
+        ours::decode_to_slice(text, &mut other),
+    );
     // After an invalid character each may have decoded more or fewer of the bytes before it.
     if !names_character {
         same("the output of decode_to_slice", text, bytes, other);
@@ -72,11 +112,25 @@ fn decodes(text: &[u8], space: usize) {
 
 fn arrays<const N: usize>(text: &[u8], added: usize) {
     let wanted = theirs::decode_to_array::<_, N>(text).map_err(|error| as_ours(error, added));
-    same("decode_to_array", text, wanted, ours::decode_to_array::<_, N>(text));
-    same("const_decode_to_array", text, wanted, ours::const_decode_to_array::<N>(text));
+    same(
+        "decode_to_array",
+        text,
+        wanted,
+        ours::decode_to_array::<_, N>(text),
+    );
+    same(
+        "const_decode_to_array",
+        text,
+        wanted,
+        ours::const_decode_to_array::<N>(text),
+    );
     if let Ok(bytes) = wanted {
-        let wanted = theirs::Buffer::<N, true>::new().format_upper(&bytes).to_string();
-        let found = ours::Buffer::<N, true>::new().format_upper(&bytes).to_string();
+        let wanted = theirs::Buffer::<N, true>::new()
+            .format_upper(&bytes)
+            .to_string();
+        let found = ours::Buffer::<N, true>::new()
+            .format_upper(&bytes)
+            .to_string();
         same("Buffer::format_upper", &bytes, wanted, found);
     }
 }

@@ -1,3 +1,4 @@
+/* clang-format off */
 /* The directives of the files in this folder, for ELF, Mach-O and COFF: those of the Rust crate, and one that it does not
  * need. The code itself is the same in all. */
 #ifdef __APPLE__

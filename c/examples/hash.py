@@ -10,7 +10,13 @@ library, name = sys.argv[1:]
 encode = ctypes.CDLL(library).const_hex_encode
 # Without these types ctypes would pass each number as an int.
 encode.restype = ctypes.c_bool
-encode.argtypes = [ctypes.c_char_p, ctypes.c_size_t, ctypes.c_char_p, ctypes.c_size_t, ctypes.c_uint]
+encode.argtypes = [
+    ctypes.c_char_p,
+    ctypes.c_size_t,
+    ctypes.c_char_p,
+    ctypes.c_size_t,
+    ctypes.c_uint,
+]
 
 with open(name, "rb") as file:
     digest = hashlib.sha256(file.read()).digest()

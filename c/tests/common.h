@@ -23,9 +23,7 @@
 /* ---- The builds ---- */
 
 #ifdef CONST_HEX_ONE_BUILD
-static const struct build {
-    const char *label;
-} BUILDS[] = {{"the library"}};
+static const struct build { const char *label; } BUILDS[] = {{"the library"}};
 static const struct build *build = BUILDS;
 #else
 typedef bool check_function(const char *text, size_t text_length);
@@ -34,22 +32,25 @@ typedef void fill_upper_function(const char *bytes, size_t bytes_length, char *t
 typedef bool read_function(const char *text, char *bytes, size_t bytes_size);
 /* The function of the kernel that the library picks for this CPU, that of each kernel, and the one that the library
  * calls in its place, by ld's option --wrap. */
-#define FUNCTIONS(name) \
-    name##_function __real_const_hex_kernel_##name, const_hex_kernel_##name##_v2, const_hex_kernel_##name##_v3, \
-        __wrap_const_hex_kernel_##name
+#define FUNCTIONS(name)                                                                            \
+  name##_function __real_const_hex_kernel_##name, const_hex_kernel_##name##_v2,                    \
+      const_hex_kernel_##name##_v3, __wrap_const_hex_kernel_##name
 FUNCTIONS(check);
 FUNCTIONS(fill_lower);
 FUNCTIONS(fill_upper);
 FUNCTIONS(read);
 
-#define BUILD(label, prefix, suffix) \
-    {label, prefix##check##suffix, prefix##fill_lower##suffix, prefix##fill_upper##suffix, prefix##read##suffix}
+#define BUILD(label, prefix, suffix)                                                               \
+  {                                                                                                \
+    label, prefix##check##suffix, prefix##fill_lower##suffix, prefix##fill_upper##suffix,          \
+        prefix##read##suffix                                                                       \
+  }
 static const struct build {
-    const char *label;
-    check_function *check;
-    fill_lower_function *fill_lower;
-    fill_upper_function *fill_upper;
-    read_function *read;
+  const char *label;
+  check_function *check;
+  fill_lower_function *fill_lower;
+  fill_upper_function *fill_upper;
+  read_function *read;
 } BUILDS[] = {
     BUILD("the library", __real_const_hex_kernel_, ),
     BUILD("the kernel for x86-64-v2", const_hex_kernel_, _v2),
@@ -57,30 +58,32 @@ static const struct build {
 };
 static const struct build *build = BUILDS;
 
-bool __wrap_const_hex_kernel_check(const char *text, size_t text_length) { return build->check(text, text_length); }
+bool __wrap_const_hex_kernel_check(const char *text, size_t text_length) {
+  return build->check(text, text_length);
+}
 void __wrap_const_hex_kernel_fill_lower(const char *bytes, size_t bytes_length, char *text) {
-    build->fill_lower(bytes, bytes_length, text);
+  build->fill_lower(bytes, bytes_length, text);
 }
 void __wrap_const_hex_kernel_fill_upper(const char *bytes, size_t bytes_length, char *text) {
-    build->fill_upper(bytes, bytes_length, text);
+  build->fill_upper(bytes, bytes_length, text);
 }
 bool __wrap_const_hex_kernel_read(const char *text, char *bytes, size_t bytes_size) {
-    return build->read(text, bytes, bytes_size);
+  return build->read(text, bytes, bytes_size);
 }
 #endif
 
 /* After the last build that this CPU can run. */
 static const struct build *builds_end(void) {
-    const struct build *end = BUILDS + sizeof BUILDS / sizeof *BUILDS;
+  const struct build *end = BUILDS + sizeof BUILDS / sizeof *BUILDS;
 #ifndef CONST_HEX_ONE_BUILD
-    __builtin_cpu_init();
-    /* Old compilers do not know the name "x86-64-v3". A CPU with these two features has all of it. */
-    if (!__builtin_cpu_supports("avx2") || !__builtin_cpu_supports("bmi2")) {
-        puts("This CPU does not support x86-64-v3, so its kernel is not run.");
-        end--;
-    }
+  __builtin_cpu_init();
+  /* Old compilers do not know the name "x86-64-v3". A CPU with these two features has all of it. */
+  if (!__builtin_cpu_supports("avx2") || !__builtin_cpu_supports("bmi2")) {
+    puts("This CPU does not support x86-64-v3, so its kernel is not run.");
+    end--;
+  }
 #endif
-    return end;
+  return end;
 }
 
 /* ---- Memory ---- */
@@ -93,49 +96,49 @@ static struct { char *bytes, *text, *decoded; } areas;
 
 static char *new_area(void) {
 #ifdef _WIN32
-    char *all = VirtualAlloc(NULL, AREA + 2 * 4096, MEM_RESERVE, PAGE_NOACCESS);
-    bool is_open = all != NULL && VirtualAlloc(all + 4096, AREA, MEM_COMMIT, PAGE_READWRITE) != NULL;
+  char *all = VirtualAlloc(NULL, AREA + 2 * 4096, MEM_RESERVE, PAGE_NOACCESS);
+  bool is_open = all != NULL && VirtualAlloc(all + 4096, AREA, MEM_COMMIT, PAGE_READWRITE) != NULL;
 #else
-    char *all = (char *)mmap(NULL, AREA + 2 * 4096, PROT_NONE, MAP_PRIVATE | MAP_ANONYMOUS, -1, 0);
-    bool is_open = all != MAP_FAILED && mprotect(all + 4096, AREA, PROT_READ | PROT_WRITE) == 0;
+  char *all = (char *)mmap(NULL, AREA + 2 * 4096, PROT_NONE, MAP_PRIVATE | MAP_ANONYMOUS, -1, 0);
+  bool is_open = all != MAP_FAILED && mprotect(all + 4096, AREA, PROT_READ | PROT_WRITE) == 0;
 #endif
-    if (!is_open) {
-        puts("no area with pages of 4096 bytes");
-        exit(2);
-    }
-    return all + 4096;
+  if (!is_open) {
+    puts("no area with pages of 4096 bytes");
+    exit(2);
+  }
+  return all + 4096;
 }
 
 static inline size_t least(size_t one, size_t other) { return one < other ? one : other; }
 
 /* Where a buffer begins: `by` bytes before the end of the area up to 63, then `by - 64` after its start. */
 static inline char *position(char *area, size_t size, size_t by) {
-    return by < 64 ? area + AREA - size - by : area + by - 64;
+  return by < 64 ? area + AREA - size - by : area + by - 64;
 }
 
 /* A buffer, and how many bytes around it are compared, as far as the area goes. */
 struct buffer {
-    char *bytes;
-    size_t size, before, after;
+  char *bytes;
+  size_t size, before, after;
 };
 
 /* A buffer at that position, in which each byte is marked, as are those around it. */
 static inline struct buffer marked(char *area, size_t size, size_t by) {
-    char *bytes = position(area, size, by);
-    size_t before = least(AROUND, (size_t)(bytes - area));
-    struct buffer buffer = {bytes, size, before, least(AROUND, (size_t)(area + AREA - bytes) - size)};
-    memset(bytes - before, MARK, before + size + buffer.after);
-    return buffer;
+  char *bytes = position(area, size, by);
+  size_t before = least(AROUND, (size_t)(bytes - area));
+  struct buffer buffer = {bytes, size, before, least(AROUND, (size_t)(area + AREA - bytes) - size)};
+  memset(bytes - before, MARK, before + size + buffer.after);
+  return buffer;
 }
 
 static inline bool is_marked(const char *bytes, size_t count) {
-    return count == 0 || (bytes[0] == MARK && memcmp(bytes, bytes + 1, count - 1) == 0);
+  return count == 0 || (bytes[0] == MARK && memcmp(bytes, bytes + 1, count - 1) == 0);
 }
 
 /* Whether the buffer's bytes after the first `written`, and those around it, are still marked. */
 static inline bool is_rest_marked(struct buffer buffer, size_t written) {
-    return is_marked(buffer.bytes - buffer.before, buffer.before) &&
-           is_marked(buffer.bytes + written, buffer.size - written + buffer.after);
+  return is_marked(buffer.bytes - buffer.before, buffer.before) &&
+         is_marked(buffer.bytes + written, buffer.size - written + buffer.after);
 }
 
 /* ---- The runner ---- */
@@ -145,40 +148,40 @@ static size_t step = 1;
 
 /* Counts a check, and prints the first 20 that fail. */
 static inline void holds(bool fact, const char *what, size_t length, size_t detail) {
-    checks++;
-    if (!fact && failures++ < 20) {
-        printf("FAILED: %s: %s, at %zu, %zu\n", build->label, what, length, detail);
-    }
+  checks++;
+  if (!fact && failures++ < 20) {
+    printf("FAILED: %s: %s, at %zu, %zu\n", build->label, what, length, detail);
+  }
 }
 
 /* Begins a test, and adds it to those that main runs. */
-#define TEST(name)                                                                       \
-    static void name(void);                                                              \
-    __attribute__((constructor)) static void add_##name(void) {                          \
-        struct test test = {#name, name};                                                \
-        tests[tests_count++] = test;                                                     \
-    }                                                                                    \
-    static void name(void)
+#define TEST(name)                                                                                 \
+  static void name(void);                                                                          \
+  __attribute__((constructor)) static void add_##name(void) {                                      \
+    struct test test = {#name, name};                                                              \
+    tests[tests_count++] = test;                                                                   \
+  }                                                                                                \
+  static void name(void)
 static struct test {
-    const char *name;
-    void (*run)(void);
+  const char *name;
+  void (*run)(void);
 } tests[20];
 static size_t tests_count;
 
 int main(int words, char **argument) {
-    const struct build *end = builds_end();
-    areas.bytes = new_area();
-    areas.text = new_area();
-    areas.decoded = new_area();
-    step = words > 2 ? strtoul(argument[2], NULL, 10) : 1;
-    for (size_t test = 0; test < tests_count; test++) {
-        bool is_asked = words < 2 || strcmp(argument[1], tests[test].name) == 0;
-        for (build = BUILDS; is_asked && build < end; build++) {
-            tests[test].run();
-        }
+  const struct build *end = builds_end();
+  areas.bytes = new_area();
+  areas.text = new_area();
+  areas.decoded = new_area();
+  step = words > 2 ? strtoul(argument[2], NULL, 10) : 1;
+  for (size_t test = 0; test < tests_count; test++) {
+    bool is_asked = words < 2 || strcmp(argument[1], tests[test].name) == 0;
+    for (build = BUILDS; is_asked && build < end; build++) {
+      tests[test].run();
     }
-    printf("%lu checks, %lu failures\n", checks, failures);
-    return checks == 0 || failures > 0;
+  }
+  printf("%lu checks, %lu failures\n", checks, failures);
+  return checks == 0 || failures > 0;
 }
 
 #endif

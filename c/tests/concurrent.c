@@ -8,28 +8,30 @@ enum { THREADS = 8, COUNT = 100, LENGTH = 2 * COUNT };
 
 /* Encodes and decodes bytes of the thread's own. Returns NULL if each came back. */
 static void *work(void *number) {
-    unsigned char bytes[COUNT], back[COUNT];
-    char text[CONST_HEX_ENCODED_SIZE(COUNT, CONST_HEX_PREFIX)];
-    for (size_t turn = 0; turn < 2000; turn++) {
-        size_t count = turn % COUNT;
-        memset(bytes, (int)(turn + (size_t)number), count);
-        if (!const_hex_encode(bytes, count, text, sizeof text, CONST_HEX_PREFIX) ||
-            !const_hex_decode_exact(text, 2 * count + 2, back, count, NULL) || memcmp(bytes, back, count) != 0) {
-            return number;
-        }
+  unsigned char bytes[COUNT], back[COUNT];
+  char text[CONST_HEX_ENCODED_SIZE(COUNT, CONST_HEX_PREFIX)];
+  for (size_t turn = 0; turn < 2000; turn++) {
+    size_t count = turn % COUNT;
+    memset(bytes, (int)(turn + (size_t)number), count);
+    if (!const_hex_encode(bytes, count, text, sizeof text, CONST_HEX_PREFIX) ||
+        !const_hex_decode_exact(text, 2 * count + 2, back, count, NULL) ||
+        memcmp(bytes, back, count) != 0) {
+      return number;
     }
-    return NULL;
+  }
+  return NULL;
 }
 
 TEST(threads) {
-    pthread_t all[THREADS];
-    for (size_t which = 0; which < THREADS; which++) {
-        holds(pthread_create(&all[which], NULL, work, (void *)(which + 1)) == 0, "a thread begins", which, 0);
-    }
-    for (size_t which = 0; which < THREADS; which++) {
-        void *failed = all;
-        holds(pthread_join(all[which], &failed) == 0 && failed == NULL, "a thread", which, 0);
-    }
+  pthread_t all[THREADS];
+  for (size_t which = 0; which < THREADS; which++) {
+    holds(pthread_create(&all[which], NULL, work, (void *)(which + 1)) == 0, "a thread begins",
+          which, 0);
+  }
+  for (size_t which = 0; which < THREADS; which++) {
+    void *failed = all;
+    holds(pthread_join(all[which], &failed) == 0 && failed == NULL, "a thread", which, 0);
+  }
 }
 
 /* A text that another thread makes valid and invalid in turn, until it is told to stop. */
@@ -37,45 +39,46 @@ static volatile char changing[LENGTH];
 static volatile bool stops;
 
 static void *change(void *nothing) {
-    while (!stops) {
-        changing[77] = 'g';
-        changing[77] = '0';
-    }
-    return nothing;
+  while (!stops) {
+    changing[77] = 'g';
+    changing[77] = '0';
+  }
+  return nothing;
 }
 
 static bool read_once(size_t turn, struct output *output) {
-    const char *text = (const char *)changing;
-    struct const_hex_decoder decoder = {{0, 0}};
-    switch (turn % 5) {
-    case 0:
-        return const_hex_decode(text, LENGTH, output->buffer.bytes, COUNT, &output->written, &output->error);
-    case 1:
-        return const_hex_decode_exact(text, LENGTH, output->buffer.bytes, COUNT, &output->error);
-    case 2:
-        return const_hex_check(text, LENGTH, &output->error);
-    case 3:
-        update(output, &decoder, text, LENGTH);
-        return const_hex_decoder_finish(&decoder, &output->error);
-    default:
-        return const_hex_check_raw(text, LENGTH);
-    }
+  const char *text = (const char *)changing;
+  struct const_hex_decoder decoder = {{0, 0}};
+  switch (turn % 5) {
+  case 0:
+    return const_hex_decode(text, LENGTH, output->buffer.bytes, COUNT, &output->written,
+                            &output->error);
+  case 1:
+    return const_hex_decode_exact(text, LENGTH, output->buffer.bytes, COUNT, &output->error);
+  case 2:
+    return const_hex_check(text, LENGTH, &output->error);
+  case 3:
+    update(output, &decoder, text, LENGTH);
+    return const_hex_decoder_finish(&decoder, &output->error);
+  default:
+    return const_hex_check_raw(text, LENGTH);
+  }
 }
 
 /* Each function returns, whatever it returns, and writes only where it may. On one processor the other thread seldom
  * runs between two calls, so the results seldom change: after so many turns, once is enough. */
 TEST(changing_text) {
-    struct output output = new_output(COUNT, 0);
-    pthread_t writer;
-    memset((char *)changing, '0', LENGTH);
-    stops = pthread_create(&writer, NULL, change, NULL) != 0;
-    bool last = stops;
-    for (size_t turn = 0, changes = 0; !stops; turn++) {
-        bool result = read_once(turn, &output);
-        changes += result != last;
-        last = result;
-        stops = turn > 200000 && changes > (turn > 2000000 ? 0 : 10000);
-    }
-    holds(pthread_join(writer, NULL) == 0, "the other thread", 0, 0);
-    holds(is_rest_marked(output.buffer, COUNT), "a write outside", 0, 0);
+  struct output output = new_output(COUNT, 0);
+  pthread_t writer;
+  memset((char *)changing, '0', LENGTH);
+  stops = pthread_create(&writer, NULL, change, NULL) != 0;
+  bool last = stops;
+  for (size_t turn = 0, changes = 0; !stops; turn++) {
+    bool result = read_once(turn, &output);
+    changes += result != last;
+    last = result;
+    stops = turn > 200000 && changes > (turn > 2000000 ? 0 : 10000);
+  }
+  holds(pthread_join(writer, NULL) == 0, "the other thread", 0, 0);
+  holds(is_rest_marked(output.buffer, COUNT), "a write outside", 0, 0);
 }

@@ -8,8 +8,8 @@
 #include <valgrind/memcheck.h>
 
 static size_t public(size_t value) {
-    VALGRIND_MAKE_MEM_DEFINED(&value, sizeof value);
-    return value;
+  VALGRIND_MAKE_MEM_DEFINED(&value, sizeof value);
+  return value;
 }
 #define PUBLIC(value) public(value)
 #include PORTABLE
@@ -21,48 +21,46 @@ unsigned char bytes[MOST];
 char text[CONST_HEX_ENCODED_SIZE(MOST, CONST_HEX_PREFIX)];
 
 static void encode(size_t length, unsigned flags) {
-    for (size_t index = 0; index < length; index++) {
-        bytes[index] = (unsigned char)(37 * index + length);
-    }
-    VALGRIND_MAKE_MEM_UNDEFINED(bytes, length);
-    if (!const_hex_encode(bytes, length, text, sizeof text, flags)) {
-        exit(1);
-    }
+  for (size_t index = 0; index < length; index++) {
+    bytes[index] = (unsigned char)(37 * index + length);
+  }
+  VALGRIND_MAKE_MEM_UNDEFINED(bytes, length);
+  if (!const_hex_encode(bytes, length, text, sizeof text, flags)) {
+    exit(1);
+  }
 }
 
 /* Whether each function takes the text for what it is. */
 static bool decode(size_t length, const char *prefix) {
-    size_t written, start = strlen(prefix);
-    bool is_even = length % 2 == 0, is_right = true;
-    for (size_t index = 0; index < length; index++) {
-        text[index] = "0123456789abcdefABCDEF"[(7 * index + length) % 22];
-    }
-    memcpy(text, prefix, start);
-    VALGRIND_MAKE_MEM_UNDEFINED(text, length);
-    is_right &= const_hex_check_raw(text, length) == (start == 0);
-    is_right &= const_hex_check(text, length, NULL) == is_even;
-    is_right &= const_hex_decode(text, length, bytes, sizeof bytes, &written, NULL) == is_even;
-    is_right &= const_hex_decode_exact(text, length, bytes, (length - start) / 2, NULL) == is_even;
-    for (size_t cut = 0; cut <= length; cut += 1 + length / 8) {
-        struct const_hex_decoder decoder = {{0, 0}};
-        is_right &=
-            const_hex_decoder_update(&decoder, text, cut, bytes, sizeof bytes, &written, NULL);
-        is_right &= const_hex_decoder_update(&decoder, text + cut, length - cut, bytes,
-                                             sizeof bytes, &written, NULL);
-        is_right &= const_hex_decoder_finish(&decoder, NULL) == is_even;
-    }
-    return is_right;
+  size_t written, start = strlen(prefix);
+  bool is_even = length % 2 == 0, is_right = true;
+  for (size_t index = 0; index < length; index++) {
+    text[index] = "0123456789abcdefABCDEF"[(7 * index + length) % 22];
+  }
+  memcpy(text, prefix, start);
+  VALGRIND_MAKE_MEM_UNDEFINED(text, length);
+  is_right &= const_hex_check_raw(text, length) == (start == 0);
+  is_right &= const_hex_check(text, length, NULL) == is_even;
+  is_right &= const_hex_decode(text, length, bytes, sizeof bytes, &written, NULL) == is_even;
+  is_right &= const_hex_decode_exact(text, length, bytes, (length - start) / 2, NULL) == is_even;
+  for (size_t cut = 0; cut <= length; cut += 1 + length / 8) {
+    struct const_hex_decoder decoder = {{0, 0}};
+    is_right &= const_hex_decoder_update(&decoder, text, cut, bytes, sizeof bytes, &written, NULL);
+    is_right &= const_hex_decoder_update(&decoder, text + cut, length - cut, bytes, sizeof bytes,
+                                         &written, NULL);
+    is_right &= const_hex_decoder_finish(&decoder, NULL) == is_even;
+  }
+  return is_right;
 }
 
 int main(void) {
-    for (size_t length = 0; length <= MOST; length++) {
-        for (unsigned flags = 0; flags < 8; flags++) {
-            encode(length, flags);
-        }
-        if (!decode(length, "") ||
-            (length >= 2 && !(decode(length, "0x") && decode(length, "0X")))) {
-            return 1;
-        }
+  for (size_t length = 0; length <= MOST; length++) {
+    for (unsigned flags = 0; flags < 8; flags++) {
+      encode(length, flags);
     }
-    return 0;
+    if (!decode(length, "") || (length >= 2 && !(decode(length, "0x") && decode(length, "0X")))) {
+      return 1;
+    }
+  }
+  return 0;
 }

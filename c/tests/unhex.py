@@ -19,7 +19,9 @@ FULL = [(text, 2, b"unhex: the output cannot be written\n") for text in (b"6b", 
 for cases, name in (TEXTS, None), (FULL, "/dev/full"):
     for text, status, wanted in cases:
         output = open(name, "wb") if name else subprocess.PIPE
-        ran = subprocess.run(sys.argv[1:], input=text, stdout=output, stderr=subprocess.PIPE, timeout=60)
+        ran = subprocess.run(
+            sys.argv[1:], input=text, stdout=output, stderr=subprocess.PIPE, timeout=60
+        )
         found = ran.returncode, ran.stderr.replace(b"\r\n", b"\n") if status else ran.stdout
         if found != (status, wanted):
             sys.exit(f"{text[:20]}..: {str(found)[:200]}, and not {str((status, wanted))[:200]}")

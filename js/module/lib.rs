@@ -46,13 +46,22 @@ pub unsafe extern "C" fn const_hex_encode(
 /// Encodes bytes as the flags say. Returns `None`, and leaves the text unchanged, if it does not fit, or if a flag is
 /// not known.
 fn encode(bytes: &[u8], text: &mut [u8], flags: u32) -> Option<()> {
-    let length = bytes.len().checked_mul(2)?.checked_add((flags & PREFIX) as usize)?;
+    let length = bytes
+        .len()
+        .checked_mul(2)?
+        .checked_add((flags & PREFIX) as usize)?;
     match flags {
         0..=3 => *text.get_mut(length)? = 0,
         4..=7 => {}
         _ => return None,
     }
-    encode_full_to_slice(bytes, flags & PREFIX != 0, flags & UPPER != 0, text.get_mut(..length)?).ok()
+    encode_full_to_slice(
+        bytes,
+        flags & PREFIX != 0,
+        flags & UPPER != 0,
+        text.get_mut(..length)?,
+    )
+    .ok()
 }
 
 #[no_mangle]

@@ -20,64 +20,70 @@ extern unsigned char go[];
 #endif
 
 struct state {
-    uint64_t registers[GENERAL];
-    unsigned char vectors[512];
-    uint64_t flags, is_taken;
-    unsigned char scratch[SCRATCH_SIZE];
+  uint64_t registers[GENERAL];
+  unsigned char vectors[512];
+  uint64_t flags, is_taken;
+  unsigned char scratch[SCRATCH_SIZE];
 };
 
 static struct {
-    uint64_t place, next, target;
-    struct state state;
+  uint64_t place, next, target;
+  struct state state;
 } request;
 
 void enter(struct state *state, unsigned char *code);
 extern unsigned char back_next[], back_taken[];
 
 static void put(unsigned char *place, const unsigned char *bytes) {
-    memcpy(place, bytes, JUMP_SIZE);
-    __builtin___clear_cache((char *)place, (char *)place + JUMP_SIZE);
+  memcpy(place, bytes, JUMP_SIZE);
+  __builtin___clear_cache((char *)place, (char *)place + JUMP_SIZE);
 }
 
 static void put_jump(unsigned char *from, const unsigned char *to) {
 #ifdef __x86_64__
-    int32_t distance = (int32_t)(to - from - JUMP_SIZE);
-    unsigned char jump[JUMP_SIZE] = {0xE9};
-    memcpy(jump + 1, &distance, 4);
+  int32_t distance = (int32_t)(to - from - JUMP_SIZE);
+  unsigned char jump[JUMP_SIZE] = {0xE9};
+  memcpy(jump + 1, &distance, 4);
 #else
-    uint32_t code = 0x14000000 | ((uint32_t)((to - from) / 4) & 0x3FFFFFF);
-    unsigned char jump[JUMP_SIZE];
-    memcpy(jump, &code, 4);
+  uint32_t code = 0x14000000 | ((uint32_t)((to - from) / 4) & 0x3FFFFFF);
+  unsigned char jump[JUMP_SIZE];
+  memcpy(jump, &code, 4);
 #endif
-    put(from, jump);
+  put(from, jump);
 }
 
 static void map(void *place, size_t size, int protection) {
-    if (mmap(place, size, protection, MAP_PRIVATE | MAP_ANONYMOUS | MAP_FIXED, -1, 0) != place) exit(1);
+  if (mmap(place, size, protection, MAP_PRIVATE | MAP_ANONYMOUS | MAP_FIXED, -1, 0) != place)
+    exit(1);
 }
 
 int main(void) {
-    uint64_t size;
-    if (fread(&size, sizeof size, 1, stdin) != 1) return 1;
-    map(TEXT, size + 4096, PROT_READ | PROT_WRITE | PROT_EXEC);
-    map(SCRATCH, SCRATCH_SIZE, PROT_READ | PROT_WRITE);
-    if (fread(TEXT, 1, size, stdin) != size) return 1;
-    while (fread(&request, sizeof request, 1, stdin) == 1) {
-        unsigned char *next = TEXT + request.next, *target = TEXT + request.target;
-        unsigned char after[JUMP_SIZE], taken[JUMP_SIZE];
-        memcpy(after, next, JUMP_SIZE);
-        memcpy(taken, target, JUMP_SIZE);
-        put_jump(next, back_next);
-        if (request.target) put_jump(target, back_taken);
+  uint64_t size;
+  if (fread(&size, sizeof size, 1, stdin) != 1)
+    return 1;
+  map(TEXT, size + 4096, PROT_READ | PROT_WRITE | PROT_EXEC);
+  map(SCRATCH, SCRATCH_SIZE, PROT_READ | PROT_WRITE);
+  if (fread(TEXT, 1, size, stdin) != size)
+    return 1;
+  while (fread(&request, sizeof request, 1, stdin) == 1) {
+    unsigned char *next = TEXT + request.next, *target = TEXT + request.target;
+    unsigned char after[JUMP_SIZE], taken[JUMP_SIZE];
+    memcpy(after, next, JUMP_SIZE);
+    memcpy(taken, target, JUMP_SIZE);
+    put_jump(next, back_next);
+    if (request.target)
+      put_jump(target, back_taken);
 #ifndef __x86_64__
-        put_jump(go, TEXT + request.place);
+    put_jump(go, TEXT + request.place);
 #endif
-        memcpy(SCRATCH, request.state.scratch, SCRATCH_SIZE);
-        enter(&request.state, TEXT + request.place);
-        memcpy(request.state.scratch, SCRATCH, SCRATCH_SIZE);
-        if (request.target) put(target, taken);
-        put(next, after);
-        if (fwrite(&request.state, sizeof request.state, 1, stdout) != 1 || fflush(stdout)) return 1;
-    }
-    return 0;
+    memcpy(SCRATCH, request.state.scratch, SCRATCH_SIZE);
+    enter(&request.state, TEXT + request.place);
+    memcpy(request.state.scratch, SCRATCH, SCRATCH_SIZE);
+    if (request.target)
+      put(target, taken);
+    put(next, after);
+    if (fwrite(&request.state, sizeof request.state, 1, stdout) != 1 || fflush(stdout))
+      return 1;
+  }
+  return 0;
 }

@@ -45,7 +45,10 @@ impl<const N: usize, const PREFIX: bool> Buffer<N, PREFIX> {
     /// Returns a buffer with the prefix, if any, and `2 * N` NUL characters.
     #[inline]
     pub const fn new() -> Self {
-        Buffer { prefix: *b"0x", digits: Self::NO_DIGITS }
+        Buffer {
+            prefix: *b"0x",
+            digits: Self::NO_DIGITS,
+        }
     }
 
     /// Returns a buffer with the text of `array` in lowercase. At run time use [`format`](Self::format), since this

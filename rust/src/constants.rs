@@ -22,7 +22,8 @@ use crate::{const_decode_to_array, Buffer, FromHexError};
 macro_rules! hex {
     ($text:expr) => {{
         // The text may be a name of the user's, who would not write this one.
-        const __CONST_HEX_DECODED: [u8; $crate::decoded_length($text.as_bytes())] = $crate::bytes_of($text.as_bytes());
+        const __CONST_HEX_DECODED: [u8; $crate::decoded_length($text.as_bytes())] =
+            $crate::bytes_of($text.as_bytes());
         __CONST_HEX_DECODED
     }};
 }
@@ -93,6 +94,8 @@ const fn panic_at(position: usize) -> ! {
 /// assert_eq!(KIWI.as_str(), "0x6b697769");
 /// ```
 #[inline]
-pub const fn const_encode<const N: usize, const PREFIX: bool>(array: &[u8; N]) -> Buffer<N, PREFIX> {
+pub const fn const_encode<const N: usize, const PREFIX: bool>(
+    array: &[u8; N],
+) -> Buffer<N, PREFIX> {
     Buffer::of(array, false)
 }

@@ -47,7 +47,11 @@ impl Decoder {
     /// [`FromHexError::InvalidHexCharacter`] with a position in the whole text if the chunk has an invalid character.
     /// Then `output` may already contain decoded bytes, and each later call for this decoder returns the same error.
     #[inline]
-    pub fn decode<T: AsRef<[u8]>>(&mut self, chunk: T, output: &mut [u8]) -> Result<usize, FromHexError> {
+    pub fn decode<T: AsRef<[u8]>>(
+        &mut self,
+        chunk: T,
+        output: &mut [u8],
+    ) -> Result<usize, FromHexError> {
         self.0.decode(chunk.as_ref(), output)
     }
 
@@ -85,7 +89,9 @@ impl fmt::Debug for Decoder {
     #[inline]
     fn fmt(&self, f: &mut fmt::Formatter<'_>) -> fmt::Result {
         let mut shown = f.debug_struct("Decoder");
-        shown.field("position", &self.position()).finish_non_exhaustive()
+        shown
+            .field("position", &self.position())
+            .finish_non_exhaustive()
     }
 }
 

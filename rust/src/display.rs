@@ -40,7 +40,10 @@ printed! { Display false LowerHex false UpperHex true }
 /// 4096 characters. An empty text makes no call, and no call follows an error.
 // The prefix takes as much space as one byte. Text whose length LLVM knows is appended to a `String` without a call.
 #[inline(always)]
-pub(crate) fn print<const UPPER: bool, const PREFIX: bool>(bytes: &[u8], f: &mut fmt::Formatter<'_>) -> fmt::Result {
+pub(crate) fn print<const UPPER: bool, const PREFIX: bool>(
+    bytes: &[u8],
+    f: &mut fmt::Formatter<'_>,
+) -> fmt::Result {
     match bytes.len() + usize::from(PREFIX) {
         0 => Ok(()),
         1 => print_in::<2, UPPER, PREFIX>(bytes, f),
@@ -59,7 +62,10 @@ fn print_in<const N: usize, const UPPER: bool, const PREFIX: bool>(
 
 /// Does the same for more than 256 characters. Without optimization the space is copied, so up to 1024 have less.
 #[inline(never)]
-fn print_long<const UPPER: bool, const PREFIX: bool>(bytes: &[u8], f: &mut fmt::Formatter<'_>) -> fmt::Result {
+fn print_long<const UPPER: bool, const PREFIX: bool>(
+    bytes: &[u8],
+    f: &mut fmt::Formatter<'_>,
+) -> fmt::Result {
     if bytes.len() < 512 {
         return print_in::<1024, UPPER, PREFIX>(bytes, f);
     }

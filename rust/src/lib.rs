@@ -191,7 +191,12 @@ fn append(data: &[u8], prefix: bool, upper: bool, output: &mut String) {
 /// has no `&mut str`.
 #[allow(unsafe_code)]
 #[inline]
-fn text_in<'a>(data: &[u8], prefix: bool, upper: bool, output: &'a mut [u8]) -> Result<&'a mut str, FromHexError> {
+fn text_in<'a>(
+    data: &[u8],
+    prefix: bool,
+    upper: bool,
+    output: &'a mut [u8],
+) -> Result<&'a mut str, FromHexError> {
     encode_full_to_slice(data, prefix, upper, output)?;
     debug_assert!(output.is_ascii());
     // SAFETY: the encoder has filled the output, and it is proved that what it writes is ASCII.
@@ -217,7 +222,10 @@ pub fn decode<T: AsRef<[u8]>>(data: T) -> Result<Vec<u8>, FromHexError> {
         true => Ok(bytes),
         false => {
             let (c, index) = drop_and_locate(digits, bytes);
-            Err(FromHexError::InvalidHexCharacter { c, index: index + (text.len() - digits.len()) })
+            Err(FromHexError::InvalidHexCharacter {
+                c,
+                index: index + (text.len() - digits.len()),
+            })
         }
     }
 }

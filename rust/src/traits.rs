@@ -199,13 +199,19 @@ fn digits<const UPPER: bool, T: FromIterator<char>>(bytes: &[u8]) -> T {
         2 => {
             let [a, b] = digits_at::<true>(UPPER, bytes[0]);
             let [c, d] = digits_at::<true>(UPPER, bytes[1]);
-            [character(a), character(b), character(c), character(d)].iter().copied().collect()
+            [character(a), character(b), character(c), character(d)]
+                .iter()
+                .copied()
+                .collect()
         }
         3 => {
             let [a, b] = digits_at::<true>(UPPER, bytes[0]);
             let [c, d] = digits_at::<true>(UPPER, bytes[1]);
             let [e, f] = digits_at::<true>(UPPER, bytes[2]);
-            [a, b, c, d, e, f].iter().map(|digit| character(*digit)).collect()
+            [a, b, c, d, e, f]
+                .iter()
+                .map(|digit| character(*digit))
+                .collect()
         }
         4..=32 => digits_in::<64, UPPER, T>(bytes),
         33..=2048 => digits_in::<4096, UPPER, T>(bytes),
@@ -216,7 +222,11 @@ fn digits<const UPPER: bool, T: FromIterator<char>>(bytes: &[u8]) -> T {
             text.iter().map(|digit| character(*digit)).collect()
         }
         #[cfg(not(feature = "alloc"))]
-        _ => bytes.iter().flat_map(|byte| digits_at::<true>(UPPER, *byte)).map(character).collect(),
+        _ => bytes
+            .iter()
+            .flat_map(|byte| digits_at::<true>(UPPER, *byte))
+            .map(character)
+            .collect(),
     }
 }
 
@@ -224,7 +234,11 @@ fn digits<const UPPER: bool, T: FromIterator<char>>(bytes: &[u8]) -> T {
 // Not inlined, where it would make the calls for fewer digits save registers, too.
 #[inline(never)]
 fn digits_in<const COUNT: usize, const UPPER: bool, T: FromIterator<char>>(bytes: &[u8]) -> T {
-    Space::<COUNT>::new().text(bytes, false, UPPER).iter().map(|digit| character(*digit)).collect()
+    Space::<COUNT>::new()
+        .text(bytes, false, UPPER)
+        .iter()
+        .map(|digit| character(*digit))
+        .collect()
 }
 
 /// The digit as a character. A string that sees here that it is ASCII need not find out how many bytes it has.

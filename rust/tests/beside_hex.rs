@@ -9,11 +9,17 @@ use proved::FromHexError::{InvalidHexCharacter, InvalidStringLength, OddLength};
 use random::Random;
 
 /// A result of `hex` for what follows so many bytes of a text, as this package has it: with a position in the text.
-fn in_text<T>(prefix: usize, result: Result<T, hex::FromHexError>) -> Result<T, proved::FromHexError> {
+fn in_text<T>(
+    prefix: usize,
+    result: Result<T, hex::FromHexError>,
+) -> Result<T, proved::FromHexError> {
     result.map_err(|error| match error {
         hex::FromHexError::OddLength => OddLength,
         hex::FromHexError::InvalidStringLength => InvalidStringLength,
-        hex::FromHexError::InvalidHexCharacter { c, index } => InvalidHexCharacter { c, index: index + prefix },
+        hex::FromHexError::InvalidHexCharacter { c, index } => InvalidHexCharacter {
+            c,
+            index: index + prefix,
+        },
     })
 }
 

@@ -20,7 +20,11 @@ fn a_prefix_is_written_anew() {
 #[test]
 fn views() {
     let mut buffer = Buffer::<4>::default();
-    let lengths = [Buffer::<4>::LEN, Buffer::<4, true>::LEN, Buffer::<0, true>::LEN];
+    let lengths = [
+        Buffer::<4>::LEN,
+        Buffer::<4, true>::LEN,
+        Buffer::<0, true>::LEN,
+    ];
     assert_eq!(lengths, [8, 10, 2]);
     buffer.format_upper(&BYTES);
     // The one `as_ref`, as in const-hex, so that its type can be inferred.
@@ -44,7 +48,10 @@ fn standard_traits() {
     let mut buffer = Buffer::<2, true>::new().const_format(&[0xAB, 0xCD]);
     let (lower, text) = (buffer, "0xabcd");
     assert_eq!(buffer.as_bytes(), text.as_bytes());
-    assert_eq!(format!("{buffer}|{buffer:>8}|{buffer:-<7}"), "0xabcd|  0xabcd|0xabcd-");
+    assert_eq!(
+        format!("{buffer}|{buffer:>8}|{buffer:-<7}"),
+        "0xabcd|  0xabcd|0xabcd-"
+    );
     assert_eq!(buffer, lower);
     // Each character counts, that of the prefix too.
     for position in 1..text.len() {

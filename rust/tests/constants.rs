@@ -1,9 +1,9 @@
 //! The functions that constants call return what the functions at run time return.
 
 use const_hex_proved::{
-    bytes_of, check, check_raw, const_check, const_check_raw, const_decode_to_array, const_encode, decode_to_array,
-    encode_to_str, encode_to_str_upper, hex, Buffer, FromHexError, HEX_CHARS_LOWER, HEX_CHARS_UPPER, HEX_DECODE_LUT,
-    NIL,
+    bytes_of, check, check_raw, const_check, const_check_raw, const_decode_to_array, const_encode,
+    decode_to_array, encode_to_str, encode_to_str_upper, hex, Buffer, FromHexError,
+    HEX_CHARS_LOWER, HEX_CHARS_UPPER, HEX_DECODE_LUT, NIL,
 };
 
 macro_rules! same_array {

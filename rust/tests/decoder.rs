@@ -26,9 +26,19 @@ fn debug() {
 fn positions() {
     let mut decoder = Decoder::new();
     assert_eq!(decoder.position(), 0);
-    for (chunk, position) in [("0", 1), ("x6", 3), ("", 3), ("b6", 5), ("97z", 7), ("77", 7)] {
+    for (chunk, position) in [
+        ("0", 1),
+        ("x6", 3),
+        ("", 3),
+        ("b6", 5),
+        ("97z", 7),
+        ("77", 7),
+    ] {
         let result = decoder.decode(chunk, &mut [0; 2]);
-        assert_eq!((decoder.position(), result.is_err()), (position, position == 7));
+        assert_eq!(
+            (decoder.position(), result.is_err()),
+            (position, position == 7)
+        );
     }
 }
 

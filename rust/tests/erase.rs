@@ -12,14 +12,22 @@ const FOLDER: &str = env!("CARGO_MANIFEST_DIR");
 /// Runs the program.
 fn erase(argument: &Path) -> Output {
     let program = format!("{FOLDER}/erase");
-    Command::new("python3").arg(program).arg(argument).output().expect("python3")
+    Command::new("python3")
+        .arg(program)
+        .arg(argument)
+        .output()
+        .expect("python3")
 }
 
 /// This compares the numbers of places that each rule has changed, too.
 #[test]
 fn the_generated_source() {
     let output = erase(Path::new("--check"));
-    assert!(output.status.success(), "{}", String::from_utf8_lossy(&output.stdout));
+    assert!(
+        output.status.success(),
+        "{}",
+        String::from_utf8_lossy(&output.stdout)
+    );
 }
 
 /// Why a file at a place in the source is an error.
@@ -37,7 +45,11 @@ fn error(place: &str, source: &str) -> String {
 /// Erases the source of each row, at its place, and compares the error.
 fn check(rows: &[(&str, &str, &str)]) {
     for (place, source, wanted) in rows {
-        assert_eq!(error(place, source), format!("erase: {wanted}\n"), "{source}");
+        assert_eq!(
+            error(place, source),
+            format!("erase: {wanted}\n"),
+            "{source}"
+        );
     }
 }
 

@@ -1,6 +1,10 @@
 //! No call takes many more instructions than when its count was written down. Only in a release build for Linux: on
 //! x86-64 with valgrind, and on AArch64 with QEMU: `cargo test --release --test instructions`.
-#![cfg(all(not(debug_assertions), any(target_arch = "x86_64", target_arch = "aarch64"), target_os = "linux"))]
+#![cfg(all(
+    not(debug_assertions),
+    any(target_arch = "x86_64", target_arch = "aarch64"),
+    target_os = "linux"
+))]
 
 use const_hex_proved as hex;
 use std::fmt::{Error, Result, Write};
@@ -13,21 +17,44 @@ const LENGTHS: [usize; 7] = [1, 8, 20, 32, 64, 256, 2048];
 const COUNTS: [(&str, [[i64; 7]; 3]); 5] = [
     (
         "encode",
-        [[197, 208, 209, 209, 223, 314, 1296], [185, 225, 276, 333, 477, 1341, 9601], [0, 0, 242, 0, 0, 375, 0]],
+        [
+            [197, 208, 209, 209, 223, 314, 1296],
+            [185, 225, 276, 333, 477, 1341, 9601],
+            [0, 0, 242, 0, 0, 375, 0],
+        ],
     ),
     (
         "encode_to_slice",
-        [[30, 37, 36, 36, 56, 143, 928], [21, 58, 113, 169, 311, 1175, 9241], [0, 0, 39, 0, 0, 174, 0]],
+        [
+            [30, 37, 36, 36, 56, 143, 928],
+            [21, 58, 113, 169, 311, 1175, 9241],
+            [0, 0, 39, 0, 0, 174, 0],
+        ],
     ),
     (
         "decode",
-        [[220, 222, 228, 230, 267, 417, 2016], [200, 291, 450, 606, 1025, 3518, 27013], [0, 0, 281, 0, 0, 576, 0]],
+        [
+            [220, 222, 228, 230, 267, 417, 2016],
+            [200, 291, 450, 606, 1025, 3518, 27013],
+            [0, 0, 281, 0, 0, 576, 0],
+        ],
     ),
     (
         "decode_to_slice",
-        [[69, 73, 74, 72, 112, 262, 1661], [52, 143, 298, 453, 870, 3367, 26661], [0, 0, 78, 0, 0, 372, 0]],
+        [
+            [69, 73, 74, 72, 112, 262, 1661],
+            [52, 143, 298, 453, 870, 3367, 26661],
+            [0, 0, 78, 0, 0, 372, 0],
+        ],
     ),
-    ("check", [[53, 48, 53, 55, 75, 156, 885], [36, 120, 263, 407, 792, 3096, 24600], [0, 0, 73, 0, 0, 279, 0]]),
+    (
+        "check",
+        [
+            [53, 48, 53, 55, 75, 156, 885],
+            [36, 120, 263, 407, 792, 3096, 24600],
+            [0, 0, 73, 0, 0, 279, 0],
+        ],
+    ),
 ];
 
 #[test]
@@ -58,7 +85,11 @@ fn printing_that_fails() {
     }
     if cfg!(target_arch = "x86_64") {
         let found = counted("printing_that_fails", "display", 1 << 20);
-        let limit = if cfg!(feature = "force-generic") { 500_000 } else { 25_000 };
+        let limit = if cfg!(feature = "force-generic") {
+            500_000
+        } else {
+            25_000
+        };
         assert!(found > 0 && found <= limit, "{found} instructions");
     }
 }
@@ -70,7 +101,11 @@ fn is_called() -> bool {
         Err(_) => return false,
     };
     let words: Vec<_> = call.split(' ').collect();
-    make(words[0], words[1].parse().unwrap(), words[2].parse().unwrap());
+    make(
+        words[0],
+        words[1].parse().unwrap(),
+        words[2].parse().unwrap(),
+    );
     true
 }
 
@@ -79,14 +114,15 @@ fn make(call: &str, bytes: usize, times: usize) {
     let (mut data, mut text) = (vec![0xa5; bytes], vec![b'a'; 2 * bytes]);
     match call {
         "encode" => (0..times).for_each(|_| drop(black_box(hex::encode(black_box(&data))))),
-        "encode_to_slice" => {
-            (0..times).for_each(|_| hex::encode_to_slice(black_box(&data), black_box(&mut text)).unwrap())
+        "encode_to_slice" => (0..times)
+            .for_each(|_| hex::encode_to_slice(black_box(&data), black_box(&mut text)).unwrap()),
+        "decode" => {
+            (0..times).for_each(|_| drop(black_box(hex::decode(black_box(&text)).unwrap())))
         }
-        "decode" => (0..times).for_each(|_| drop(black_box(hex::decode(black_box(&text)).unwrap()))),
-        "decode_to_slice" => {
-            (0..times).for_each(|_| hex::decode_to_slice(black_box(&text), black_box(&mut data)).unwrap())
-        }
-        "display" => (0..times).for_each(|_| assert!(write!(Full, "{}", hex::display(black_box(&data))).is_err())),
+        "decode_to_slice" => (0..times)
+            .for_each(|_| hex::decode_to_slice(black_box(&text), black_box(&mut data)).unwrap()),
+        "display" => (0..times)
+            .for_each(|_| assert!(write!(Full, "{}", hex::display(black_box(&data))).is_err())),
         _ => (0..times).for_each(|_| hex::check(black_box(&text)).unwrap()),
     }
 }
@@ -128,8 +164,16 @@ fn run(test: &str, call: &str, bytes: usize, times: usize) -> i64 {
         .expect("valgrind or QEMU is installed");
     let said = String::from_utf8_lossy(&output.stderr);
     if cfg!(target_arch = "aarch64") {
-        return said.lines().filter(|line| line.starts_with("Trace")).count() as i64;
+        return said
+            .lines()
+            .filter(|line| line.starts_with("Trace"))
+            .count() as i64;
     }
-    let count = said.split("Collected : ").nth(1).and_then(|rest| rest.lines().next());
-    count.and_then(|count| count.parse().ok()).unwrap_or_else(|| panic!("{said}"))
+    let count = said
+        .split("Collected : ")
+        .nth(1)
+        .and_then(|rest| rest.lines().next());
+    count
+        .and_then(|count| count.parse().ok())
+        .unwrap_or_else(|| panic!("{said}"))
 }

@@ -27,7 +27,13 @@ struct Slow<T> {
 impl<T> Slow<T> {
     fn new(inner: T, most: usize, errors: &[(usize, ErrorKind)]) -> Slow<T> {
         let errors = errors.to_vec();
-        Slow { inner, most, calls: 0, flushes: 0, errors }
+        Slow {
+            inner,
+            most,
+            calls: 0,
+            flushes: 0,
+            errors,
+        }
     }
 
     fn count(&mut self) -> io::Result<()> {
@@ -89,9 +95,11 @@ fn inside(error: io::Error) -> FromHexError {
 /// A reader keeps its error, also if it is asked for no bytes, or the other reader has more.
 #[test]
 fn errors_of_the_text() {
-    for (text, error) in
-        [(&b"6b0x77"[..], invalid('x', 3)), (b"6b6", FromHexError::OddLength), (b"6b69\n", invalid('\n', 4))]
-    {
+    for (text, error) in [
+        (&b"6b0x77"[..], invalid('x', 3)),
+        (b"6b6", FromHexError::OddLength),
+        (b"6b69\n", invalid('\n', 4)),
+    ] {
         let mut reader = DecodeReader::new(Chunks(vec![text, b"", b"77"]));
         let found = reader.read_to_end(&mut Vec::new()).unwrap_err();
         assert_eq!(inside(found), error);
@@ -108,7 +116,10 @@ fn a_position_in_a_long_text() {
     let zeros = "0".repeat(20_000);
     let mut reader = DecodeReader::new(zeros.as_bytes().chain(&b"0x"[..]).chain(zeros.as_bytes()));
     let mut found = Vec::new();
-    assert_eq!(inside(reader.read_to_end(&mut found).unwrap_err()), invalid('x', 20_001));
+    assert_eq!(
+        inside(reader.read_to_end(&mut found).unwrap_err()),
+        invalid('x', 20_001)
+    );
     assert!(found.iter().all(|byte| *byte == 0));
 }
 
@@ -128,7 +139,9 @@ fn errors_of_the_other_reader() {
     let (bytes, text) = bytes_and_text(1000);
     let errors = [(1, ErrorKind::Interrupted), (5, ErrorKind::Interrupted)];
     let mut found = Vec::new();
-    DecodeReader::new(Slow::new(text.as_bytes(), 97, &errors)).read_to_end(&mut found).unwrap();
+    DecodeReader::new(Slow::new(text.as_bytes(), 97, &errors))
+        .read_to_end(&mut found)
+        .unwrap();
     assert_eq!(found, bytes);
 
     let errors = [(1, ErrorKind::WouldBlock), (5, ErrorKind::BrokenPipe)];
@@ -213,7 +226,10 @@ fn the_other_writer_is_flushed() {
     writer.flush().unwrap();
     writer.write_all(b"pear").unwrap();
     let other = writer.finish().unwrap();
-    assert_eq!((&other.inner[..], other.flushes), (&b"6b69776970656172"[..], 2));
+    assert_eq!(
+        (&other.inner[..], other.flushes),
+        (&b"6b69776970656172"[..], 2)
+    );
 }
 
 /// What waits is written when a writer is dropped.

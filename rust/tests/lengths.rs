@@ -1,9 +1,9 @@
 //! Each function at each short length, with an invalid character at each position.
 
 use const_hex_proved::{
-    check, check_raw, const_check, const_check_raw, const_decode_to_array, decode_to_front, decode_to_slice,
-    encode_to_slice, encode_to_slice_prefixed, encode_to_slice_upper, encode_to_slice_upper_prefixed, encode_to_str,
-    secret, strict, FromHexError,
+    check, check_raw, const_check, const_check_raw, const_decode_to_array, decode_to_front,
+    decode_to_slice, encode_to_slice, encode_to_slice_prefixed, encode_to_slice_upper,
+    encode_to_slice_upper_prefixed, encode_to_str, secret, strict, FromHexError,
 };
 
 /// More than four steps of the widest kernel.
@@ -74,10 +74,19 @@ fn secrets() {
             assert_eq!(back, bytes, "{text}");
         }
         #[cfg(feature = "alloc")]
-        assert_eq!([secret::encode(&bytes), secret::encode_upper(&bytes)], [lower, upper]);
+        assert_eq!(
+            [secret::encode(&bytes), secret::encode_upper(&bytes)],
+            [lower, upper]
+        );
     }
-    assert_eq!(secret::Error::InvalidStringLength.to_string(), "invalid string length");
-    assert_eq!(secret::Error::InvalidHexCharacter.to_string(), "invalid character");
+    assert_eq!(
+        secret::Error::InvalidStringLength.to_string(),
+        "invalid string length"
+    );
+    assert_eq!(
+        secret::Error::InvalidHexCharacter.to_string(),
+        "invalid character"
+    );
 }
 
 /// Each pair of characters, in a short text and in a long one, beside the function that rejects a prefix.
@@ -109,14 +118,18 @@ fn error_of_secret(error: FromHexError) -> secret::Error {
 #[test]
 fn appended() {
     use const_hex_proved::{
-        decode_append, encode_append, encode_append_prefixed, encode_append_upper, encode_append_upper_prefixed,
+        decode_append, encode_append, encode_append_prefixed, encode_append_upper,
+        encode_append_upper_prefixed,
     };
     for count in 0..=LONGEST {
         let bytes = bytes_of(count);
         let lower = text_of(&bytes);
         let upper = lower.to_uppercase();
         for (before, capacity) in [("", 0), ("é", 2), ("é", 3 + 2 * count)] {
-            let (mut text, mut back) = (String::with_capacity(capacity), Vec::with_capacity(capacity));
+            let (mut text, mut back) = (
+                String::with_capacity(capacity),
+                Vec::with_capacity(capacity),
+            );
             text.push_str(before);
             encode_append(&bytes, &mut text);
             encode_append_upper(&bytes, &mut text);
@@ -133,7 +146,10 @@ fn appended() {
     full.shrink_to_fit();
     let space = full.capacity();
     for (text, wanted) in [("0x", Ok(0)), ("0x7", Err(FromHexError::OddLength))] {
-        assert_eq!((decode_append(text, &mut full), full.capacity()), (wanted, space));
+        assert_eq!(
+            (decode_append(text, &mut full), full.capacity()),
+            (wanted, space)
+        );
     }
 }
 
@@ -146,8 +162,12 @@ fn other_lengths() {
             let encoded = encode_to_slice(bytes_of(count), &mut output);
             assert_eq!(encoded, Err(FromHexError::InvalidStringLength));
             assert!(output.iter().all(|byte| *byte == 0xEE));
-            clears(&output, |output| secret::encode_to_slice(bytes_of(count), output));
-            clears(&output, |output| secret::encode_to_slice_upper(bytes_of(count), output));
+            clears(&output, |output| {
+                secret::encode_to_slice(bytes_of(count), output)
+            });
+            clears(&output, |output| {
+                secret::encode_to_slice_upper(bytes_of(count), output)
+            });
             output.extend([0xEE; 2]);
             let encoded = encode_to_slice_prefixed(bytes_of(count), &mut output);
             assert_eq!(encoded, Err(FromHexError::InvalidStringLength));
@@ -162,11 +182,15 @@ fn other_lengths() {
                 assert_eq!(decoded, Err(FromHexError::InvalidStringLength));
             }
             assert!(output.iter().all(|byte| *byte == 0xEE));
-            clears(&output, |output| secret::decode_to_slice(text_of(&bytes_of(count)), output));
+            clears(&output, |output| {
+                secret::decode_to_slice(text_of(&bytes_of(count)), output)
+            });
         }
         for length in [1, 2 * count + 1] {
             let text = vec![b'0'; length];
-            clears(&vec![0xEE; length / 2], |output| secret::decode_to_slice(&text, output));
+            clears(&vec![0xEE; length / 2], |output| {
+                secret::decode_to_slice(&text, output)
+            });
         }
     }
 }
@@ -188,7 +212,14 @@ fn each_position_of_an_invalid_character() {
                 let mut text = [prefix.as_bytes(), &digits].concat();
                 let index = prefix.len() + position;
                 text[index] = invalid;
-                fails_with(&text, count, FromHexError::InvalidHexCharacter { c: invalid.into(), index });
+                fails_with(
+                    &text,
+                    count,
+                    FromHexError::InvalidHexCharacter {
+                        c: invalid.into(),
+                        index,
+                    },
+                );
             }
         }
     }
@@ -203,7 +234,10 @@ fn fails_with(text: &[u8], count: usize, error: FromHexError) {
         let rest = &bytes[(index - prefix) / 2..];
         assert!(rest.iter().all(|byte| *byte == 0xEE), "{error:?}");
         assert!(!check_raw(&text[prefix..]) && !const_check_raw(&text[prefix..]));
-        assert_eq!(secret::decode_to_slice(&text[prefix..], &mut bytes), Err(error_of_secret(error)));
+        assert_eq!(
+            secret::decode_to_slice(&text[prefix..], &mut bytes),
+            Err(error_of_secret(error))
+        );
         assert!(bytes.iter().all(|byte| *byte == 0), "{error:?}");
     }
     assert_eq!(check(text), Err(error));

@@ -27,7 +27,9 @@ struct Fields {
 #[derive(Debug, Default, PartialEq)]
 struct Held<T>(T);
 
-impl<T: const_hex_proved::traits::signed::FromHex> const_hex_proved::traits::signed::FromHex for Held<T> {
+impl<T: const_hex_proved::traits::signed::FromHex> const_hex_proved::traits::signed::FromHex
+    for Held<T>
+{
     type Error = T::Error;
 
     fn from_hex<U: AsRef<[u8]>>(hex: U) -> Result<Self, T::Error> {
@@ -44,7 +46,8 @@ fn all_forms() {
         upper: [0, 1, 0xAB, 0xFF],
         signed: Held(vec![-1]),
     };
-    let text = r#"{"prefixed":"0xdead","prefixed_upper":"0xBEEF","lower":"6b697769","upper":"0001ABFF"}"#;
+    let text =
+        r#"{"prefixed":"0xdead","prefixed_upper":"0xBEEF","lower":"6b697769","upper":"0001ABFF"}"#;
     assert_eq!(serde_json::to_string(&fields).unwrap(), text);
     let text = r#"{"prefixed":"DEAD","prefixed_upper":"beef","lower":"0x6B697769",
         "upper":"0X0001abff","signed":"ff"}"#;
@@ -93,17 +96,25 @@ fn options_and_vectors() {
     let text = text.replace('}', r#","signed_option":"0xff","signed_vec":["80"]}"#);
     (several.signed_option, several.signed_vec) = (Some([-1]), vec![[-128]]);
     assert_eq!(serde_json::from_str::<Several>(&text).unwrap(), several);
-    let empty =
-        r#"{"option":null,"vec":[],"bare_option":null,"bare_vec":[],"strict":"","strict_option":null,"strict_vec":[]}"#;
+    let empty = r#"{"option":null,"vec":[],"bare_option":null,"bare_vec":[],"strict":"","strict_option":null,"strict_vec":[]}"#;
     assert_eq!(serde_json::to_string(&Several::default()).unwrap(), empty);
     // A field may be missing or nothing, and a vector empty. A prefix may be there or not.
     for text in ["{}", empty, r#"{"signed_option":null}"#] {
-        assert_eq!(serde_json::from_str::<Several>(text).unwrap(), Several::default());
+        assert_eq!(
+            serde_json::from_str::<Several>(text).unwrap(),
+            Several::default()
+        );
     }
     let text = r#"{"option":"dead","bare_option":"0X6B","vec":["6b"],"bare_vec":["0x6b"]}"#;
     let several = serde_json::from_str::<Several>(text).unwrap();
-    assert_eq!((several.option, several.bare_option), (Some([0xDE, 0xAD]), Some(b"k".to_vec())));
-    assert_eq!((several.vec, several.bare_vec), (vec![b"k".to_vec()], vec![*b"k"]));
+    assert_eq!(
+        (several.option, several.bare_option),
+        (Some([0xDE, 0xAD]), Some(b"k".to_vec()))
+    );
+    assert_eq!(
+        (several.vec, several.bare_vec),
+        (vec![b"k".to_vec()], vec![*b"k"])
+    );
 }
 
 /// The errors of options, of vectors, and of prefixes.
@@ -111,13 +122,31 @@ fn options_and_vectors() {
 fn errors_in_options_and_vectors() {
     for (field, error) in [
         (r#""option":"6b""#, "invalid string length"),
-        (r#""option":7"#, "invalid type: integer `7`, expected a hex encoded string"),
-        (r#""vec":["6b","6g"]"#, "invalid character 'g' at position 1"),
-        (r#""vec":["6b",null]"#, "invalid type: null, expected a hex encoded string"),
-        (r#""vec":"6b""#, r#"invalid type: string "6b", expected a sequence"#),
+        (
+            r#""option":7"#,
+            "invalid type: integer `7`, expected a hex encoded string",
+        ),
+        (
+            r#""vec":["6b","6g"]"#,
+            "invalid character 'g' at position 1",
+        ),
+        (
+            r#""vec":["6b",null]"#,
+            "invalid type: null, expected a hex encoded string",
+        ),
+        (
+            r#""vec":"6b""#,
+            r#"invalid type: string "6b", expected a sequence"#,
+        ),
         (r#""strict":"0x6b""#, "invalid character 'x' at position 1"),
-        (r#""strict_option":"0X""#, "invalid character 'X' at position 1"),
-        (r#""strict_vec":["","0x6b"]"#, "invalid character 'x' at position 1"),
+        (
+            r#""strict_option":"0X""#,
+            "invalid character 'X' at position 1",
+        ),
+        (
+            r#""strict_vec":["","0x6b"]"#,
+            "invalid character 'x' at position 1",
+        ),
     ] {
         let found = serde_json::from_str::<Several>(&format!("{{{field}}}")).unwrap_err();
         let found = found.to_string();
@@ -144,7 +173,10 @@ fn errors() {
         assert_eq!(found.to_string(), error.to_string());
     }
     let found = hexadecimal::deserialize::<_, Vec<u8>>(serde_json::json!(7)).unwrap_err();
-    assert_eq!(found.to_string(), "invalid type: integer `7`, expected a hex encoded string");
+    assert_eq!(
+        found.to_string(),
+        "invalid type: integer `7`, expected a hex encoded string"
+    );
 }
 
 #[test]
@@ -180,5 +212,8 @@ impl<'de> Deserializer<'de> for Untagged {
 #[test]
 fn a_format_without_types() {
     assert_eq!(hexadecimal::deserialize(Untagged("6b69")), Ok(*b"ki"));
-    assert_eq!(hexadecimal::no_prefix::deserialize(Untagged("0x6b")), Ok(*b"k"));
+    assert_eq!(
+        hexadecimal::no_prefix::deserialize(Untagged("0x6b")),
+        Ok(*b"k")
+    );
 }

@@ -18,7 +18,9 @@ fn an_error_of_core() {
 #[test]
 fn printing() {
     assert_eq!(format!("{:>20}", display(BYTES)), TEXT);
-    for length in [127, 128, 129, 511, 512, 513, 2047, 2048, 2049, 5000, 16_384, 16_385, 40_000] {
+    for length in [
+        127, 128, 129, 511, 512, 513, 2047, 2048, 2049, 5000, 16_384, 16_385, 40_000,
+    ] {
         let bytes: Vec<u8> = (0..length).map(|at| (at * 73 + length) as u8).collect();
         let wanted: String = bytes.iter().map(|byte| format!("{byte:02X}")).collect();
         assert_eq!(format!("{:X}", display(&bytes)), wanted);
@@ -64,7 +66,10 @@ fn calls_of_a_formatter() {
             assert_eq!(space.1.pop(), last);
             assert!(space.1.iter().all(|length| *length == 4096));
             // Without space the first call fails.
-            assert_eq!(print(&mut Space(Some(0), Vec::new())).is_err(), last.is_some());
+            assert_eq!(
+                print(&mut Space(Some(0), Vec::new())).is_err(),
+                last.is_some()
+            );
         }
     }
     // A formatter's error ends the printing.
@@ -76,7 +81,10 @@ fn calls_of_a_formatter() {
 
 #[test]
 fn the_longest_message() {
-    let longest = FromHexError::InvalidHexCharacter { c: '\u{80}', index: usize::MAX };
+    let longest = FromHexError::InvalidHexCharacter {
+        c: '\u{80}',
+        index: usize::MAX,
+    };
     let message = format!("invalid character '\\u{{80}}' at position {}", usize::MAX);
     assert_eq!(longest.to_string(), message);
 }
@@ -85,7 +93,10 @@ fn the_longest_message() {
 fn collections_of_characters() {
     let bytes: Vec<u8> = (0..100).collect();
     let text: String = bytes.iter().map(|byte| format!("{byte:02x}")).collect();
-    assert_eq!(bytes.encode_hex::<Vec<char>>(), text.chars().collect::<Vec<char>>());
+    assert_eq!(
+        bytes.encode_hex::<Vec<char>>(),
+        text.chars().collect::<Vec<char>>()
+    );
     assert_eq!(bytes.encode_hex::<Box<[char]>>(), text.chars().collect());
     assert_eq!(bytes.encode_hex::<std::borrow::Cow<'_, str>>(), text);
     // types without a size
@@ -114,7 +125,10 @@ fn characters_one_by_one() {
     }
     let bytes: Vec<u8> = (0..2050).map(|index| index as u8).collect();
     for length in (0..100).chain(2046..2051) {
-        let text: String = bytes[..length].iter().map(|byte| format!("{byte:02x}")).collect();
+        let text: String = bytes[..length]
+            .iter()
+            .map(|byte| format!("{byte:02x}"))
+            .collect();
         assert_eq!(bytes[..length].encode_hex::<Split<0>>().0, text);
         assert_eq!(bytes[..length].encode_hex::<Split<1>>().0, text);
         assert_eq!(bytes[..length].encode_hex::<Split<64>>().0, text);
@@ -169,7 +183,10 @@ mod owned {
     fn an_unsized_type() {
         let bytes: &dyn AsRef<[u8]> = &BYTES;
         assert_eq!(ToHexExt::encode_hex(bytes), TEXT);
-        assert_eq!(ToHexExt::encode_hex_with_prefix(&BYTES[..]), format!("0x{TEXT}"));
+        assert_eq!(
+            ToHexExt::encode_hex_with_prefix(&BYTES[..]),
+            format!("0x{TEXT}")
+        );
     }
 
     /// The type of the elements need not be named.

@@ -3,7 +3,8 @@
 
 use const_hex::{FromHex, FromHexError, ToHexExt};
 
-const INVALID: Result<(), FromHexError> = Err(FromHexError::InvalidHexCharacter { c: 'z', index: 2 });
+const INVALID: Result<(), FromHexError> =
+    Err(FromHexError::InvalidHexCharacter { c: 'z', index: 2 });
 
 /// Each function of the crate, with a result that no other one has.
 #[test]
@@ -23,7 +24,10 @@ fn names() {
     }
     assert_eq!(const_hex::ToHex::encode_hex::<String>(b"kj"), "6b6a");
     assert_eq!(const_hex::ToHex::encode_hex_upper::<String>(b"kj"), "6B6A");
-    assert_eq!(format!("{0} {0:#X}", const_hex::display(b"kj")), "6b6a 0x6B6A");
+    assert_eq!(
+        format!("{0} {0:#X}", const_hex::display(b"kj")),
+        "6b6a 0x6B6A"
+    );
 
     let mut text = [0; 4];
     assert_eq!(const_hex::encode_to_slice(b"kj", &mut text), Ok(()));
@@ -31,7 +35,10 @@ fn names() {
     assert_eq!(const_hex::encode_to_slice_upper(b"kj", &mut text), Ok(()));
     assert_eq!(&text, b"6B6A");
     assert_eq!(const_hex::encode_to_str(b"kj", &mut text).unwrap(), "6b6a");
-    assert_eq!(const_hex::encode_to_str_upper(b"kj", &mut text).unwrap(), "6B6A");
+    assert_eq!(
+        const_hex::encode_to_str_upper(b"kj", &mut text).unwrap(),
+        "6B6A"
+    );
     assert_eq!(const_hex::const_encode::<2, true>(b"kj").as_str(), "0x6b6a");
     let mut buffer = const_hex::Buffer::<2, true>::new();
     assert_eq!(buffer.format(b"kj"), "0x6b6a");
@@ -52,9 +59,16 @@ fn names() {
         const_hex::const_check,
     ];
     for (row, check) in checks.iter().enumerate() {
-        assert_eq!((check(b"0x6b"), check(b"0xz0")), (Ok(()), INVALID), "row {row}");
+        assert_eq!(
+            (check(b"0x6b"), check(b"0xz0")),
+            (Ok(()), INVALID),
+            "row {row}"
+        );
     }
-    let checks: [fn(&[u8]) -> bool; 2] = [|text| const_hex::check_raw(text), const_hex::const_check_raw];
+    let checks: [fn(&[u8]) -> bool; 2] = [
+        |text| const_hex::check_raw(text),
+        const_hex::const_check_raw,
+    ];
     for (row, check) in checks.iter().enumerate() {
         assert_eq!([check(b"6b6"), check(b"0x6b")], [true, false], "row {row}");
     }
@@ -78,7 +92,10 @@ fn fields() {
         bytes: Vec<u8>,
         #[serde(with = "const_hex::serde::no_prefix")]
         digits: [u8; 2],
-        #[serde(serialize_with = "const_hex::serialize_upper", deserialize_with = "const_hex::deserialize")]
+        #[serde(
+            serialize_with = "const_hex::serialize_upper",
+            deserialize_with = "const_hex::deserialize"
+        )]
         numbers: Array,
     }
     #[derive(Debug, PartialEq)]
@@ -95,7 +112,11 @@ fn fields() {
             <[i8; 2]>::from_hex(hex).map(Array)
         }
     }
-    let fields = Fields { bytes: vec![1, 10, 100], digits: [1, 2], numbers: Array([-1, 1]) };
+    let fields = Fields {
+        bytes: vec![1, 10, 100],
+        digits: [1, 2],
+        numbers: Array([-1, 1]),
+    };
     let text = r#"{"bytes":"0x010a64","digits":"0102","numbers":"0xFF01"}"#;
     assert_eq!(serde_json::to_string(&fields).unwrap(), text);
     assert_eq!(serde_json::from_str::<Fields>(text).unwrap(), fields);

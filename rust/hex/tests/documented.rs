@@ -34,8 +34,14 @@ fn from_hex() {
     assert_eq!(error, InvalidHexCharacter { c: 'g', index: 3 });
     let error = Vec::from_hex("666f 6f62617").unwrap_err();
     assert_eq!(error, InvalidHexCharacter { c: ' ', index: 4 });
-    assert_eq!(<[u8; 12]>::from_hex("48656c6c6f20776f726c6421"), Ok(*b"Hello world!"));
-    assert_eq!(<[u8; 5]>::from_hex("666f6f626172"), Err(InvalidStringLength));
+    assert_eq!(
+        <[u8; 12]>::from_hex("48656c6c6f20776f726c6421"),
+        Ok(*b"Hello world!")
+    );
+    assert_eq!(
+        <[u8; 5]>::from_hex("666f6f626172"),
+        Err(InvalidStringLength)
+    );
 }
 
 #[cfg(feature = "serde")]
@@ -47,10 +53,17 @@ fn fields() {
         lower: Vec<u8>,
         #[serde(with = "hex::serde")]
         array: [u8; 2],
-        #[serde(serialize_with = "hex::serialize_upper", deserialize_with = "hex::deserialize")]
+        #[serde(
+            serialize_with = "hex::serialize_upper",
+            deserialize_with = "hex::deserialize"
+        )]
         upper: Vec<u8>,
     }
-    let fields = Fields { lower: vec![1, 10, 100], array: [1, 2], upper: vec![1, 10, 100] };
+    let fields = Fields {
+        lower: vec![1, 10, 100],
+        array: [1, 2],
+        upper: vec![1, 10, 100],
+    };
     let text = r#"{"lower":"010a64","array":"0102","upper":"010A64"}"#;
     assert_eq!(serde_json::to_string(&fields).unwrap(), text);
     assert_eq!(serde_json::from_str::<Fields>(text).unwrap(), fields);
@@ -77,8 +90,14 @@ fn prefixes() {
         assert_eq!(hex::decode_to_slice(text, &mut [0; 1]), single);
         #[cfg(feature = "serde")]
         {
-            assert_eq!(field::<Vec<u8>>(text), vector.map_err(|error| error.to_string()));
-            assert_eq!(field::<[u8; 2]>(text), array.map_err(|error| error.to_string()));
+            assert_eq!(
+                field::<Vec<u8>>(text),
+                vector.map_err(|error| error.to_string())
+            );
+            assert_eq!(
+                field::<[u8; 2]>(text),
+                array.map_err(|error| error.to_string())
+            );
         }
     }
 }

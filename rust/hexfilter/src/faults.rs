@@ -50,12 +50,23 @@ impl Write for Output<'_> {
 
 fn encode(size: usize, separator: u8) -> Mode {
     let groups = Groups { size, separator };
-    Mode::Encode { prefix: false, upper: false, groups }
+    Mode::Encode {
+        prefix: false,
+        upper: false,
+        groups,
+    }
 }
 
 fn decode(is_check: bool) -> Mode {
-    let groups = Groups { size: 0, separator: b' ' };
-    Mode::Decode(Reading { is_check, ignore_whitespace: false, groups })
+    let groups = Groups {
+        size: 0,
+        separator: b' ',
+    };
+    Mode::Decode(Reading {
+        is_check,
+        ignore_whitespace: false,
+        groups,
+    })
 }
 
 #[test]
@@ -70,9 +81,17 @@ fn each_call_fails() {
         (decode(false), b"6bz9", "rrwr", b"k"),
     ];
     for (mode, input, calls, output) in rows {
-        for kind in [ErrorKind::Interrupted, ErrorKind::TimedOut, ErrorKind::WriteZero] {
+        for kind in [
+            ErrorKind::Interrupted,
+            ErrorKind::TimedOut,
+            ErrorKind::WriteZero,
+        ] {
             for failing in 0..=calls.len() {
-                let log = RefCell::new(Log { calls: String::new(), failing, kind });
+                let log = RefCell::new(Log {
+                    calls: String::new(),
+                    failing,
+                    kind,
+                });
                 let mut written = Output(&log, Vec::new());
                 let found = match run(mode, &mut Input(&log, input), &mut written) {
                     Ok(()) | Err(RunError::Text(..)) => None,
@@ -83,11 +102,21 @@ fn each_call_fails() {
                 let writes = before.matches('w').count();
                 let (wanted, all, bytes) = match after.chars().next() {
                     None => (None, calls.to_string(), output),
-                    Some(call) if kind == ErrorKind::Interrupted => (None, format!("{before}{call}{after}"), output),
-                    Some(call) => (Some((call == 'r', kind)), format!("{before}{call}"), &output[..writes]),
+                    Some(call) if kind == ErrorKind::Interrupted => {
+                        (None, format!("{before}{call}{after}"), output)
+                    }
+                    Some(call) => (
+                        Some((call == 'r', kind)),
+                        format!("{before}{call}"),
+                        &output[..writes],
+                    ),
                 };
                 let row = format!("{mode:?}, call {failing}: {kind:?}");
-                assert_eq!((found, &written.1[..], &log.borrow().calls), (wanted, bytes, &all), "{row}");
+                assert_eq!(
+                    (found, &written.1[..], &log.borrow().calls),
+                    (wanted, bytes, &all),
+                    "{row}"
+                );
             }
         }
     }

@@ -32,7 +32,9 @@ fn main() -> ExitCode {
     };
     let streams = direct(stdin()).and_then(|input| Ok((input, direct(stdout())?)));
     match streams {
-        Ok((mut input, mut output)) => proved::program(&System, &arguments, &mut input, &mut output),
+        Ok((mut input, mut output)) => {
+            proved::program(&System, &arguments, &mut input, &mut output)
+        }
         Err(error) => {
             let _ = eprintln!(&System; "hexfilter: standard streams: {error}");
             ExitCode::from(3)

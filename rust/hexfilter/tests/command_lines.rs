@@ -17,8 +17,17 @@ fn folder(name: &str) -> PathBuf {
 fn run(folder: &Path, line: &str) -> (Option<i32>, Vec<u8>, String) {
     let programs = Path::new(env!("CARGO_BIN_EXE_hexfilter")).parent().unwrap();
     let path = format!("{}:{}", programs.display(), env::var("PATH").unwrap());
-    let output = Command::new("bash").args(["-c", line]).current_dir(folder).env("PATH", path).output().unwrap();
-    (output.status.code(), output.stdout, String::from_utf8(output.stderr).unwrap())
+    let output = Command::new("bash")
+        .args(["-c", line])
+        .current_dir(folder)
+        .env("PATH", path)
+        .output()
+        .unwrap();
+    (
+        output.status.code(),
+        output.stdout,
+        String::from_utf8(output.stderr).unwrap(),
+    )
 }
 
 /// The standard output. If the line fails, the test does.
@@ -33,8 +42,14 @@ const TOOLS: [(&str, &str); 5] = [
     ("xxd -p disk.img", "-w60"),
     ("basenc --base16 disk.img", "-uw 76"),
     ("basenc --base16 -w1 disk.img", "--upper --wrap=1"),
-    ("od -An -v -tx1 -w9999999 disk.img | cut -c2- | tr -d '\\n'", "-g1"),
-    ("xxd -p disk.img | tr -d '\\n' | sed 's/......../&-/g; s/-$//'", "-g4 -s-"),
+    (
+        "od -An -v -tx1 -w9999999 disk.img | cut -c2- | tr -d '\\n'",
+        "-g1",
+    ),
+    (
+        "xxd -p disk.img | tr -d '\\n' | sed 's/......../&-/g; s/-$//'",
+        "-g4 -s-",
+    ),
 ];
 
 /// Files that the manual names, how they are made, and what writes the bytes that they stand for.
@@ -64,7 +79,10 @@ fn other_tools() {
         .replace("\\(ha", "^")
         .replace("\\e", "\\");
     let (_, lines) = manual.split_once("Each of these lines").unwrap();
-    let lines: Vec<&str> = lines.lines().filter(|line| line.contains("| hexfilter -d")).collect();
+    let lines: Vec<&str> = lines
+        .lines()
+        .filter(|line| line.contains("| hexfilter -d"))
+        .collect();
     let page = include_str!("../README.md")
         .lines()
         .filter_map(|line| line.strip_prefix("    "))
@@ -75,21 +93,34 @@ fn other_tools() {
     }
     let decoded = lines.iter().map(|line| {
         let is_named = |(name, _, _): &&(&str, _, _)| line.contains(name);
-        (line.to_string(), FILES.iter().find(is_named).expect(line).2.to_string())
+        (
+            line.to_string(),
+            FILES.iter().find(is_named).expect(line).2.to_string(),
+        )
     });
-    let encoded = TOOLS.map(|(tool, options)| (tool.to_string(), format!("hexfilter {options} disk.img")));
+    let encoded =
+        TOOLS.map(|(tool, options)| (tool.to_string(), format!("hexfilter {options} disk.img")));
     let rows: Vec<_> = decoded.chain(encoded).collect();
     assert!(rows.len() > 15);
     for (_, make, _) in FILES {
         run(&folder, make);
     }
-    let bytes: Vec<u8> = (0..131_073_u32).map(|i| (i.wrapping_mul(i) >> 7) as u8).collect();
+    let bytes: Vec<u8> = (0..131_073_u32)
+        .map(|i| (i.wrapping_mul(i) >> 7) as u8)
+        .collect();
     for size in [0, 1, 29, 30, 31, 57, 131_073] {
         fs::write(folder.join("disk.img"), &bytes[..size]).unwrap();
         for (line, other) in &rows {
             let tool = line.split(' ').next().unwrap();
-            assert_eq!(run(&folder, &format!("command -v {tool}")).0, Some(0), "{tool} is missing");
-            assert!(made_by(&folder, line) == made_by(&folder, other), "{line}, at {size} bytes");
+            assert_eq!(
+                run(&folder, &format!("command -v {tool}")).0,
+                Some(0),
+                "{tool} is missing"
+            );
+            assert!(
+                made_by(&folder, line) == made_by(&folder, other),
+                "{line}, at {size} bytes"
+            );
         }
     }
 }
@@ -130,13 +161,33 @@ const INPUTS: [(&str, &str, i32, &str, &str); 28] = [
 
 /// An error of the arguments, the index of the argument that it names, and lists of arguments.
 const ARGUMENTS: [(&str, usize, &str); 8] = [
-    ("unknown option", 0, "-x|--decod|-D|-dx|---|--help=|--wrapx=1"),
+    (
+        "unknown option",
+        0,
+        "-x|--decod|-D|-dx|---|--help=|--wrapx=1",
+    ),
     ("unknown option", 1, "-d -x|-w7 -z --y|- --z"),
-    ("missing value after", 1, "-d -w|one --wrap|-p -dg|-d --separator"),
-    ("invalid number", 0, "-wd|--wrap=|--wrap=1x|--group=18446744073709551616"),
+    (
+        "missing value after",
+        1,
+        "-d -w|one --wrap|-p -dg|-d --separator",
+    ),
+    (
+        "invalid number",
+        0,
+        "-wd|--wrap=|--wrap=1x|--group=18446744073709551616",
+    ),
     ("invalid number", 1, "-w x|-w -1|--wrap +1|-g --"),
-    ("invalid separator", 0, "-sa|-s0|--separator=|--separator=F|-s::|--separator=ÿ"),
-    ("--wrap beside --group or --separator:", 1, "-w60 -g2|-s: -dw60|-g2 --wrap=0"),
+    (
+        "invalid separator",
+        0,
+        "-sa|-s0|--separator=|--separator=F|-s::|--separator=ÿ",
+    ),
+    (
+        "--wrap beside --group or --separator:",
+        1,
+        "-w60 -g2|-s: -dw60|-g2 --wrap=0",
+    ),
     ("second file", 1, "one two|- -|one two -x"),
 ];
 
@@ -181,16 +232,36 @@ const LINES: [(&str, i32, &str, &str); 25] = [
 fn statuses() {
     let folder = folder("statuses");
     let check = |line: &str, status, output: &str, place: &str, words: &str| {
-        let error = if words.is_empty() { String::new() } else { format!("hexfilter: {place}{words}\n") };
-        assert_eq!(run(&folder, line), (Some(status), output.into(), error), "{line}");
+        let error = if words.is_empty() {
+            String::new()
+        } else {
+            format!("hexfilter: {place}{words}\n")
+        };
+        assert_eq!(
+            run(&folder, line),
+            (Some(status), output.into(), error),
+            "{line}"
+        );
     };
     for (text, options, status, output, words) in INPUTS {
-        check(&format!("printf '{text}' | hexfilter {options}"), status, output, "standard input: ", words);
+        check(
+            &format!("printf '{text}' | hexfilter {options}"),
+            status,
+            output,
+            "standard input: ",
+            words,
+        );
     }
     for (words, index, rows) in ARGUMENTS {
         for arguments in rows.split('|') {
             let named = arguments.split(' ').nth(index).unwrap();
-            check(&format!("hexfilter {arguments}"), 2, "", "", &format!("{words} \"{named}\"; try --help"));
+            check(
+                &format!("hexfilter {arguments}"),
+                2,
+                "",
+                "",
+                &format!("{words} \"{named}\"; try --help"),
+            );
         }
     }
     for (line, status, output, words) in LINES {

@@ -11,7 +11,11 @@ type End = (Option<i32>, Vec<u8>, String);
 
 fn hexfilter(arguments: &[&str]) -> Command {
     let mut command = Command::new(env!("CARGO_BIN_EXE_hexfilter"));
-    command.args(arguments).stdin(Stdio::piped()).stdout(Stdio::piped()).stderr(Stdio::piped());
+    command
+        .args(arguments)
+        .stdin(Stdio::piped())
+        .stdout(Stdio::piped())
+        .stderr(Stdio::piped());
     command
 }
 
@@ -45,7 +49,10 @@ fn files() {
     let path = temp_dir().join(format!("hexfilter {} ÿ 猕猴桃", std::process::id()));
     let name = path.to_str().unwrap();
     let missing = format!("hexfilter: {name:?}: {}\n", File::open(name).unwrap_err());
-    assert_eq!(run(&mut hexfilter(&[name]), b""), (Some(3), vec![], missing));
+    assert_eq!(
+        run(&mut hexfilter(&[name]), b""),
+        (Some(3), vec![], missing)
+    );
     fs::write(&path, BYTES).unwrap();
     let encoded = run(&mut hexfilter(&[name]), b"");
     fs::remove_file(&path).unwrap();
@@ -66,7 +73,11 @@ fn streams_of_the_wrong_direction() {
     for (end, stream) in [(no_input, "input"), (no_output, "output")] {
         assert_eq!(end.0, Some(3));
         let start = format!("hexfilter: standard {stream}: ");
-        assert!(end.2.starts_with(&start) && end.2.ends_with(")\n"), "{}", end.2);
+        assert!(
+            end.2.starts_with(&start) && end.2.ends_with(")\n"),
+            "{}",
+            end.2
+        );
     }
 }
 
@@ -79,8 +90,16 @@ fn a_closed_pipe() {
     let _ = stdin.write_all(&[0; 1 << 20]);
     drop(stdin);
     let mut error = String::new();
-    child.stderr.take().unwrap().read_to_string(&mut error).unwrap();
-    assert_eq!((child.wait().unwrap().code(), error), (Some(3), String::new()));
+    child
+        .stderr
+        .take()
+        .unwrap()
+        .read_to_string(&mut error)
+        .unwrap();
+    assert_eq!(
+        (child.wait().unwrap().code(), error),
+        (Some(3), String::new())
+    );
 }
 
 #[test]
@@ -98,20 +117,38 @@ fn an_argument_that_is_no_text() {
 /// The manual page has each line of the help, without its markup.
 #[test]
 fn the_manual_page() {
-    let page = include_str!("../hexfilter.1").replace("\\fI", "").replace("\\fR", "").replace('\\', "");
+    let page = include_str!("../hexfilter.1")
+        .replace("\\fI", "")
+        .replace("\\fR", "")
+        .replace('\\', "");
     let page: String = page
         .lines()
-        .map(|line| line.strip_prefix(".BR ").or(line.strip_prefix(".B ")).unwrap_or(line))
+        .map(|line| {
+            line.strip_prefix(".BR ")
+                .or(line.strip_prefix(".B "))
+                .unwrap_or(line)
+        })
         .flat_map(|line| [line, " "])
         .collect();
-    let words = |text: &str| text.replace(['"', ','], "").split_whitespace().collect::<Vec<_>>().join(" ");
+    let words = |text: &str| {
+        text.replace(['"', ','], "")
+            .split_whitespace()
+            .collect::<Vec<_>>()
+            .join(" ")
+    };
     let page = words(&page);
     let help = String::from_utf8(run(&mut hexfilter(&["--help"]), b"").1).unwrap();
     let (_, parts) = help.split_once("\n\n").unwrap();
     let parts = parts.replace("Exit status: ", "");
-    for part in parts.replace("\n                           ", " ").split('\n') {
+    for part in parts
+        .replace("\n                           ", " ")
+        .split('\n')
+    {
         for column in part.split("  ").filter(|column| !column.ends_with(':')) {
-            assert!(page.contains(&words(column)), "{column:?} is not in the manual page");
+            assert!(
+                page.contains(&words(column)),
+                "{column:?} is not in the manual page"
+            );
         }
     }
 }

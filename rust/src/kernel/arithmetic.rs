@@ -11,13 +11,25 @@ use core::slice::{from_raw_parts, from_raw_parts_mut};
 /// Safety: there are so many bytes, and twice as many of the text, which are initialized.
 pub unsafe fn fill_lower(bytes: *const u8, length: usize, text: *mut u8) {
     // SAFETY: the caller promises these slices.
-    unsafe { fill(from_raw_parts(bytes, length), b'a' - 10 - b'0', from_raw_parts_mut(text, length << 1)) }
+    unsafe {
+        fill(
+            from_raw_parts(bytes, length),
+            b'a' - 10 - b'0',
+            from_raw_parts_mut(text, length << 1),
+        )
+    }
 }
 
 /// As `fill_lower`, in uppercase. Safety: the same.
 pub unsafe fn fill_upper(bytes: *const u8, length: usize, text: *mut u8) {
     // SAFETY: the same.
-    unsafe { fill(from_raw_parts(bytes, length), b'A' - 10 - b'0', from_raw_parts_mut(text, length << 1)) }
+    unsafe {
+        fill(
+            from_raw_parts(bytes, length),
+            b'A' - 10 - b'0',
+            from_raw_parts_mut(text, length << 1),
+        )
+    }
 }
 
 /// Decodes the text to the bytes, and returns whether every character is a digit.
@@ -25,7 +37,12 @@ pub unsafe fn fill_upper(bytes: *const u8, length: usize, text: *mut u8) {
 /// Safety: as for `fill_lower`.
 pub unsafe fn read(text: *const u8, bytes: *mut u8, length: usize) -> bool {
     // SAFETY: the caller promises these slices.
-    unsafe { decode(from_raw_parts(text, length << 1), from_raw_parts_mut(bytes, length)) }
+    unsafe {
+        decode(
+            from_raw_parts(text, length << 1),
+            from_raw_parts_mut(bytes, length),
+        )
+    }
 }
 
 /// Fills the text with digits. A letter comes so much later than it would if the letters followed the `9`.
@@ -52,14 +69,18 @@ fn decode(text: &[u8], bytes: &mut [u8]) -> bool {
 #[inline(always)]
 fn digit(value: u8, gap: u8) -> u8 {
     let is_letter = value.wrapping_add(6) >> 4;
-    value.wrapping_add(b'0').wrapping_add(gap & 0u8.wrapping_sub(is_letter))
+    value
+        .wrapping_add(b'0')
+        .wrapping_add(gap & 0u8.wrapping_sub(is_letter))
 }
 
 /// The value of a digit: its last four bits, and 9 more for a letter, which is above 63.
 #[inline(always)]
 fn value(digit: u8) -> u8 {
     let is_letter = digit >> 6;
-    (digit & 15).wrapping_add(is_letter << 3).wrapping_add(is_letter)
+    (digit & 15)
+        .wrapping_add(is_letter << 3)
+        .wrapping_add(is_letter)
 }
 
 /// A number whose highest bit is set if the character is not a digit.

@@ -46,5 +46,10 @@ impl Kernel for Vectors {
 #[inline(never)]
 unsafe fn read(text: *const u8, bytes: *mut u8, length: usize) -> bool {
     // SAFETY: the caller promises that.
-    unsafe { Portable::decode_all(from_raw_parts(text, 2 * length), from_raw_parts_mut(bytes, length)) }
+    unsafe {
+        Portable::decode_all(
+            from_raw_parts(text, 2 * length),
+            from_raw_parts_mut(bytes, length),
+        )
+    }
 }

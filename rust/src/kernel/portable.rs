@@ -51,7 +51,8 @@ pub unsafe fn read(text: *const u8, bytes: *mut u8, length: usize) -> bool {
         let decoded = &mut block[..size];
         // SAFETY: the caller promises space for so many bytes, and two bytes of the text for each.
         unsafe {
-            if !Portable::decode_checked(slice::from_raw_parts(text.add(2 * at), 2 * size), decoded) {
+            if !Portable::decode_checked(slice::from_raw_parts(text.add(2 * at), 2 * size), decoded)
+            {
                 return false;
             }
             ptr::copy_nonoverlapping(decoded.as_ptr(), bytes.add(at), size);
@@ -72,7 +73,10 @@ fn what_is_refused_is_not_written() {
             assert!(!unsafe { read(text.as_ptr(), bytes.as_mut_ptr(), length) });
             let written = bytes.iter().take_while(|byte| **byte == 0xAA).count();
             let is_kept = bytes[written..].iter().all(|byte| *byte == 0);
-            assert!(written <= invalid / 2 && is_kept, "character {invalid} of {length} bytes");
+            assert!(
+                written <= invalid / 2 && is_kept,
+                "character {invalid} of {length} bytes"
+            );
         }
     }
 }

@@ -14,7 +14,9 @@ impl Random {
     /// Mostly few bytes, sometimes some thousand.
     pub fn bytes(&mut self) -> Vec<u8> {
         let limit = [4_000, 600, 140, 140, 40, 40, 40, 40][self.below(8)];
-        (0..self.below(limit)).map(|_| self.below(256) as u8).collect()
+        (0..self.below(limit))
+            .map(|_| self.below(256) as u8)
+            .collect()
     }
 
     /// A text in both cases, with or without a prefix, sometimes with an invalid character or an odd length.
@@ -24,7 +26,9 @@ impl Random {
         }
         let mut text = ["", "", "0x", "0X"][self.below(4)].as_bytes().to_vec();
         text.extend(hex::encode(self.bytes()).bytes());
-        text.iter_mut().filter(|_| self.below(2) == 0).for_each(|byte| byte.make_ascii_uppercase());
+        text.iter_mut()
+            .filter(|_| self.below(2) == 0)
+            .for_each(|byte| byte.make_ascii_uppercase());
         if self.below(2) == 0 && !text.is_empty() {
             let position = self.below(text.len());
             text[position] = [b"/:@G`gxX0 "[self.below(10)], self.below(256) as u8][self.below(2)];

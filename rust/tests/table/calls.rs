@@ -2,9 +2,9 @@
 
 use super::codec::traits::signed;
 use super::codec::{
-    check, check_raw, decode, decode_to_array, decode_to_slice, encode, encode_prefixed, encode_to_slice,
-    encode_to_slice_upper, encode_to_str, encode_to_str_upper, encode_upper, encode_upper_prefixed, FromHex,
-    FromHexError, ToHex,
+    check, check_raw, decode, decode_to_array, decode_to_slice, encode, encode_prefixed,
+    encode_to_slice, encode_to_slice_upper, encode_to_str, encode_to_str_upper, encode_upper,
+    encode_upper_prefixed, FromHex, FromHexError, ToHex,
 };
 use super::lines::{shown_answer, Line};
 
@@ -92,13 +92,19 @@ pub fn answers(line: &Line) -> Answers {
         ("read", None) => vec![
             ("decode", bytes(decode(input))),
             ("from_hex", bytes(Vec::<u8>::from_hex(input))),
-            ("from_hex", signed(<Vec<i8> as signed::FromHex>::from_hex(input))),
+            (
+                "from_hex",
+                signed(<Vec<i8> as signed::FromHex>::from_hex(input)),
+            ),
             ("from_hex", bytes(<Box<[u8]>>::from_hex(input))),
             ("check", checked(line, check(input))),
         ],
         ("read-into", Some(length)) => read_into(input, length),
         ("digits", None) => vec![("check_raw", check_raw(input).to_string())],
-        ("message", None) => vec![("decode", message(decode(input))), ("check", message(check(input)))],
+        ("message", None) => vec![
+            ("decode", message(decode(input))),
+            ("check", message(check(input))),
+        ],
         ("message", Some(length)) => {
             let answer = decode_to_slice(input, &mut vec![0; length]);
             vec![("decode_to_slice", message(answer))]
@@ -110,7 +116,12 @@ pub fn answers(line: &Line) -> Answers {
 /// The text of bytes in its four forms, and whether each reads back.
 fn written(line: &Line) -> Answers {
     let input = &line.input[..];
-    let texts = [encode(input), encode_upper(input), encode_prefixed(input), encode_upper_prefixed(input)];
+    let texts = [
+        encode(input),
+        encode_upper(input),
+        encode_prefixed(input),
+        encode_upper_prefixed(input),
+    ];
     let reads_back = |text: &String| decode(text).as_deref() == Ok(input);
     let unread = texts.iter().find(|text| !reads_back(text));
     let [lower, upper, prefixed, upper_prefixed] = &texts;
@@ -119,9 +130,18 @@ fn written(line: &Line) -> Answers {
         ("encode_upper", formed(upper, "", true)),
         ("encode_prefixed", formed(prefixed, "0x", false)),
         ("encode_upper_prefixed", formed(upper_prefixed, "0x", true)),
-        ("encode_hex", formed(ToHex::encode_hex::<String>(&input), "", false)),
-        ("encode_hex_upper", formed(ToHex::encode_hex_upper::<String>(&input), "", true)),
-        ("decode", unread.map_or(line.result.clone(), |text| format!("{text} is not read"))),
+        (
+            "encode_hex",
+            formed(ToHex::encode_hex::<String>(&input), "", false),
+        ),
+        (
+            "encode_hex_upper",
+            formed(ToHex::encode_hex_upper::<String>(&input), "", true),
+        ),
+        (
+            "decode",
+            unread.map_or(line.result.clone(), |text| format!("{text} is not read")),
+        ),
     ]
 }
 
@@ -135,7 +155,10 @@ fn written_into(input: &[u8], length: usize) -> Answers {
         ("encode_to_slice", formed_answer(lower, false)),
         ("encode_to_slice_upper", formed_answer(upper, true)),
         ("encode_to_str", formed_answer(bytes(lent), false)),
-        ("encode_to_str_upper", formed_answer(bytes(lent_upper), true)),
+        (
+            "encode_to_str_upper",
+            formed_answer(bytes(lent_upper), true),
+        ),
     ]
 }
 
@@ -147,5 +170,8 @@ fn read_into(input: &[u8], length: usize) -> Answers {
         ("from_hex", signed(<[i8; N] as signed::FromHex>::from_hex(input))),
     ]);
     let arrays = arrays.into_iter().flatten();
-    Some(("decode_to_slice", slice)).into_iter().chain(arrays).collect()
+    Some(("decode_to_slice", slice))
+        .into_iter()
+        .chain(arrays)
+        .collect()
 }

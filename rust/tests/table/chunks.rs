@@ -23,7 +23,10 @@ pub fn answers(line: &Line) -> Answers {
     let cuts = cuts.map(|cut| decoded(&[&input[..cut], &input[cut..]]));
     let single: Vec<&[u8]> = input.chunks(1).collect();
     let answers = cuts.chain([decoded(&single)]);
-    answers.map(|answer| ("Decoder", bytes(answer))).chain([("DecodeReader", read(input))]).collect()
+    answers
+        .map(|answer| ("Decoder", bytes(answer)))
+        .chain([("DecodeReader", read(input))])
+        .collect()
 }
 
 /// What a reader of the text returns.

@@ -15,9 +15,18 @@ pub fn answers(line: &Line) -> Answers {
     match &*line.question {
         "write" => vec![
             ("serialize", text(serialize(input, Serializer), "0x", false)),
-            ("serialize_upper", text(serialize_upper(input, Serializer), "0x", true)),
-            ("no_prefix::serialize", text(no_prefix::serialize(input, Serializer), "", false)),
-            ("no_prefix::serialize_upper", text(no_prefix::serialize_upper(input, Serializer), "", true)),
+            (
+                "serialize_upper",
+                text(serialize_upper(input, Serializer), "0x", true),
+            ),
+            (
+                "no_prefix::serialize",
+                text(no_prefix::serialize(input, Serializer), "", false),
+            ),
+            (
+                "no_prefix::serialize_upper",
+                text(no_prefix::serialize_upper(input, Serializer), "", true),
+            ),
         ],
         "json" => vec![("deserialize", read(input))],
         _ => Vec::new(),
@@ -36,6 +45,8 @@ fn read(json: &[u8]) -> String {
         _ => return "!NotText".to_string(),
     };
     let results = [decode(&text), check(&text).map(|()| Vec::new())];
-    let named = results.into_iter().find(|result| matches!(result, Err(error) if error.to_string() == printed));
+    let named = results
+        .into_iter()
+        .find(|result| matches!(result, Err(error) if error.to_string() == printed));
     named.map_or(printed, bytes)
 }

@@ -19,13 +19,22 @@ impl Line {
             return None;
         }
         let mut cells = text.split('\t');
-        let mut cell = || cells.next().unwrap_or_else(|| panic!("a cell is missing: {text}"));
+        let mut cell = || {
+            cells
+                .next()
+                .unwrap_or_else(|| panic!("a cell is missing: {text}"))
+        };
         let (question, input, result) = (cell(), cell(), cell());
         let (question, number) = match question.split_once(' ') {
             Some((question, number)) => (question, Some(number.parse().unwrap())),
             None => (question, None),
         };
-        Some(Line { question: question.to_string(), number, input: bytes_of(input), result: result.to_string() })
+        Some(Line {
+            question: question.to_string(),
+            number,
+            input: bytes_of(input),
+            result: result.to_string(),
+        })
     }
 }
 
@@ -39,7 +48,11 @@ pub fn ask(left_out: &[&str], calls: impl Fn(&Line) -> Vec<(&'static str, String
         if let Some(line) = Line::read(text) {
             let answers = calls(&line);
             let is_left_out = left_out.contains(&&*line.question);
-            assert_ne!(answers.is_empty(), !is_left_out, "{place}: whether it is asked");
+            assert_ne!(
+                answers.is_empty(),
+                !is_left_out,
+                "{place}: whether it is asked"
+            );
             for (call, answer) in &answers {
                 assert_eq!(*answer, line.result, "{call}, {place}");
             }

@@ -1,7 +1,9 @@
 //! Buffers, printing, `ToHexExt` and the functions for constants, and what each returns for a line.
 
 use super::calls::{bytes, checked, formed, message, Answers};
-use super::codec::{const_check, const_check_raw, const_decode_to_array, const_encode, display, Buffer, ToHexExt};
+use super::codec::{
+    const_check, const_check_raw, const_decode_to_array, const_encode, display, Buffer, ToHexExt,
+};
 use super::lines::Line;
 
 /// The answer of each call that can answer the line.
@@ -16,7 +18,10 @@ pub fn answers(line: &Line) -> Answers {
         ("read", None) => vec![("const_check", checked(line, const_check(input)))],
         ("read-into", Some(length)) => {
             let array = at!(length, N => bytes(const_decode_to_array::<N>(input)));
-            array.map(|array| ("const_decode_to_array", array)).into_iter().collect()
+            array
+                .map(|array| ("const_decode_to_array", array))
+                .into_iter()
+                .collect()
         }
         ("digits", None) => vec![("const_check_raw", const_check_raw(input).to_string())],
         ("message", None) => vec![("const_check", message(const_check(input)))],
@@ -31,15 +36,39 @@ fn buffered<const N: usize>(array: &[u8; N]) -> Answers {
     let constant_prefixed = prefixed.const_format_upper(array);
     vec![
         ("Buffer::format", formed(plain.format(array), "", false)),
-        ("Buffer::format_upper", formed(plain.format_upper(array), "", true)),
-        ("Buffer::format", formed(prefixed.format(array), "0x", false)),
-        ("Buffer::format_upper", formed(prefixed.format_upper(array), "0x", true)),
-        ("Buffer::format_slice", formed(plain.format_slice(array), "", false)),
-        ("Buffer::format_slice_upper", formed(plain.format_slice_upper(array), "", true)),
+        (
+            "Buffer::format_upper",
+            formed(plain.format_upper(array), "", true),
+        ),
+        (
+            "Buffer::format",
+            formed(prefixed.format(array), "0x", false),
+        ),
+        (
+            "Buffer::format_upper",
+            formed(prefixed.format_upper(array), "0x", true),
+        ),
+        (
+            "Buffer::format_slice",
+            formed(plain.format_slice(array), "", false),
+        ),
+        (
+            "Buffer::format_slice_upper",
+            formed(plain.format_slice_upper(array), "", true),
+        ),
         ("Buffer::const_format", formed(constant.as_str(), "", false)),
-        ("Buffer::const_format_upper", formed(constant_prefixed.as_str(), "0x", true)),
-        ("const_encode", formed(const_encode::<N, false>(array).as_str(), "", false)),
-        ("const_encode", formed(const_encode::<N, true>(array).as_str(), "0x", false)),
+        (
+            "Buffer::const_format_upper",
+            formed(constant_prefixed.as_str(), "0x", true),
+        ),
+        (
+            "const_encode",
+            formed(const_encode::<N, false>(array).as_str(), "", false),
+        ),
+        (
+            "const_encode",
+            formed(const_encode::<N, true>(array).as_str(), "0x", false),
+        ),
     ]
 }
 
@@ -54,8 +83,17 @@ fn printed(input: &[u8]) -> Answers {
         ("display", formed(format!("{shown:X}"), "", true)),
         ("display", formed(format!("{shown:#X}"), "0x", true)),
         ("ToHexExt", formed(ToHexExt::encode_hex(&input), "", false)),
-        ("ToHexExt", formed(ToHexExt::encode_hex_upper(&input), "", true)),
-        ("ToHexExt", formed(input.encode_hex_with_prefix(), "0x", false)),
-        ("ToHexExt", formed(input.encode_hex_upper_with_prefix(), "0x", true)),
+        (
+            "ToHexExt",
+            formed(ToHexExt::encode_hex_upper(&input), "", true),
+        ),
+        (
+            "ToHexExt",
+            formed(input.encode_hex_with_prefix(), "0x", false),
+        ),
+        (
+            "ToHexExt",
+            formed(input.encode_hex_upper_with_prefix(), "0x", true),
+        ),
     ]
 }
