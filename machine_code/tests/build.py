@@ -102,8 +102,15 @@ def for_macos(folder, processor):
 
 def for_windows(folder):
     """A DLL with the C library, by mingw."""
-    sources = [*(str(ASM / f"{name}.S") for name in SOURCES[X86_64]), str(ASM.parent / "windows.c")]
-    return made("x86_64-w64-mingw32-gcc", "-shared", *sources, folder=folder, name="made.dll")
+    sources = [str(ASM / f"{name}.S") for name in SOURCES[X86_64]]
+    return made(
+        "x86_64-w64-mingw32-gcc",
+        "-shared",
+        f"{ASM}/../windows.c",
+        *sources,
+        folder=folder,
+        name="made.dll",
+    )
 
 
 def kernels_for_windows(folder):
