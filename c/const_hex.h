@@ -55,21 +55,22 @@
  *    process that shares the memory, the function still returns and writes only to its own arguments, but the
  *    result is unspecified. This is tested and not verified.
  *
- * The next four sections are about the verified machine code, for Linux, macOS and BSD on x86-64 and AArch64. Elsewhere
+ * The next four sections are about the verified machine code, for Linux, macOS and BSD on x86-64 and AArch64, and for
+ * Windows on x86-64 with MinGW, where windows.c calls it and nothing is proved of the linked file. Elsewhere
  * the library is portable.c, whose source is verified against the contracts below, which are comments in ACSL:
  * c/README.md says what holds for it.
  *
  * FORMAL VERIFICATION
  *
- * But for c/asm/dispatch.S, the functions are written in Rattle, a dialect of Rust, and a prover has checked that every
- * function meets its contract: it is memory-safe, terminates, and returns and writes what the contract
+ * Except for c/asm/dispatch.S, the functions are written in Rattle, a dialect of Rust, and a prover has checked that
+ * every function meets its contract: it is memory-safe, terminates, and returns and writes what the contract
  * says, for all inputs. The contracts are in crates/const_hex_c; this header states them in prose.
  *
  * The machine code, which the folders c/asm and rust/src/asm contain as assembly, is verified too, against this
  * header, by the separate tool in machine_code: every function, on x86-64 with both kernels that it may call (for
  * SSE4.2 and for AVX2), for every length that an object can have and every position of a decoder. This is a proof
  * about the shared library as it is linked; a program that libconst_hex.a is linked into can be proved in the same
- * way. That this header agrees with the contracts of crates/const_hex_c and of machine_code was reviewed.
+ * way. That this header says in prose what the contracts say is tested, by a model in C, and not proved.
  *
  * CONSTANT TIME
  *

@@ -304,7 +304,7 @@ def reported(instruction, leaf, register):
 
 
 def cpuid(s, i):
-    """Anything, but for the same leaf always the same, except for the number of the processor in
+    """Anything, for the same leaf always the same, except for the number of the processor in
     leaf 1. Of the leaves here, only 7 has parts by ecx."""
     leaf, part = [simple(z3.Extract(31, 0, s.general[name])) for name in ("rax", "rcx")]
     is_known = z3.is_bv_value(leaf) and leaf.as_long() in (0, 1, 7, 0x80000000, 0x80000001)

@@ -96,7 +96,7 @@ class Facts:
         return self.sums[term.get_id()]
 
     def _sum(self, term):
-        """An integer that is the same but for a multiple of the power of two."""
+        """An integer that is the same except for a multiple of the power of two."""
         kind, children = term.decl().kind(), term.children()
         if z3.is_bv_value(term):
             return z3.IntVal(term.as_signed_long())

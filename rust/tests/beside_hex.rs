@@ -1,4 +1,4 @@
-//! The same inputs to this package and to the crate `hex`. Every result is equal but for what the README
+//! The same inputs to this package and to the crate `hex`. Every result is equal, except for what the README
 //! of the package `hex` lists, and for prefixes, which the module `strict` alone rejects.
 #![cfg(feature = "alloc")]
 
