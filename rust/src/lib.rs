@@ -16,8 +16,8 @@
 //! ```
 //!
 //! A text may begin with one prefix, `0x` or `0X`, except for [`check_raw`], [`const_check_raw`] and the modules
-//! [`secret`] and [`strict`]. Errors are checked in this order: an odd length, a length that does not match the output, an invalid
-//! character.
+//! [`secret`] and [`strict`]. Errors are checked in this order: an odd length, a length that does not match the
+//! output, an invalid character.
 //!
 //! Features: `alloc` adds what returns a `String` or a vector; `std` (by default) adds `alloc`, `DecodeReader`,
 //! `EncodeWriter` and `std::error::Error`; `serde` adds `#[serde(with = "const_hex_proved")]`; `core-error` implements
