@@ -97,8 +97,10 @@ class Memory:
 
     def known(self, term):
         """A term in which the base of the object is known."""
+        if z3.is_bv_value(term):
+            return term
         first = word(TEXT + self.code.object.first)
-        return simple(z3.substitute(simple(term), (self.code.constants.base, first)))
+        return simple(z3.substitute(term, (self.code.constants.base, first)))
 
 
 class Processor:
@@ -173,8 +175,11 @@ class Processor:
 
     def _packed(self, state):
         """A state as run.c has it."""
-        bits = self.kind.flags.items()
-        flags = sum(1 << bit for name, bit in bits if z3.is_true(simple(state.flags[name])))
+        flags = sum(
+            1 << bit
+            for name, bit in self.kind.flags.items()
+            if z3.is_true(simple(state.flags[name]))
+        )
         numbers = [state.general[name].as_long() for name in self.kind.registers]
         content = struct.pack(f"<{len(numbers)}Q", *numbers) + b"".join(state.raw.values())
         return content + struct.pack("<QQ", flags, 0) + state.scratch
@@ -183,8 +188,9 @@ class Processor:
         """What differs between the processor and the meaning for one random state."""
         state = self._start(i, random.Random(seed))
         target, request, old = self._target(i), self._packed(state), state.vectors.copy()
-        addresses = struct.pack("<QQQ", i.address, i.address + i.size, target)
-        self.process.stdin.write(addresses + request)
+        self.process.stdin.write(
+            struct.pack("<QQQ", i.address, i.address + i.size, target) + request
+        )
         self.process.stdin.flush()
         after = self.process.stdout.read(len(request))
         to = rejected_or(self.meanings.HANDLERS[i.mnemonic], state, i)
