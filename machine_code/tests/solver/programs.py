@@ -105,12 +105,16 @@ def program(level, call, **changes):
     )
 
 
+def lines_of(text):
+    """The lines of some text, each without spaces around it."""
+    return "\n".join(" ".join(line.split()) for line in text.splitlines()) + "\n\n"
+
+
 @functools.cache
 def text_of(build):
-    """The text of a build, each line without spaces around it."""
+    """The lines of a build."""
     if build != WASM:
-        text = "\n".join(path.read_text() for path in COMMITTED[build][0])
-        return "\n".join(" ".join(line.split()) for line in text.splitlines()) + "\n\n"
+        return lines_of("\n".join(path.read_text() for path in COMMITTED[build][0]))
     command = ["wasm2wat", "--no-debug-names", MODULE]
     text = subprocess.run(command, check=True, capture_output=True, text=True).stdout
     return re.sub(r"^ +| +$", "", re.sub(r"\(;@?\d+;\)|;; .*$", "", text, flags=re.M), flags=re.M)
