@@ -103,7 +103,11 @@ def step(code, state):
     require(not instruction.rejected, instruction.rejected)
     require(instruction.mnemonic in code.processor.HANDLERS, "an unsupported instruction")
     state.next = instruction.address + instruction.size
-    to = code.processor.HANDLERS[instruction.mnemonic](state, *instruction.operands)
+    try:
+        to = code.processor.HANDLERS[instruction.mnemonic](state, *instruction.operands)
+    except TypeError as error:
+        # More operands than its meaning has, or fewer, or another kind of one.
+        raise Rejected(f"unsupported operands: {error}") from None
     state.drop_below()
     if isinstance(to, Branch):
         return [*branches(state, to)]

@@ -10,7 +10,7 @@ import re
 import z3
 
 from execution import state
-from execution.terms import byte, fresh_public, joined, simple, split, word
+from execution.terms import byte, fresh_public, joined, simple, split
 from meanings.lanes import (
     ADD,
     AND,
