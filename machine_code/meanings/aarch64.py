@@ -194,12 +194,12 @@ def move_part(s, to, number, *by):
     s.put(to, simple(s.number(to) & ~(0xFFFF << bit) | number.value << bit))
 
 
-def insert_bits(s, to, at, by, low, count):
-    """So many bits of a register, from the lowest one on, replace those of another at a bit."""
+def insert_bits(s, to, by, low, count):
+    """So many bits from anywhere in a register replace the lowest of another."""
     require(count.value < 8 * to.size, "all bits")
-    kept = z3.Extract(8 * to.size - 1, count.value, z3.RotateRight(s.number(to), at))
-    new = z3.Extract(low + count.value - 1, low, s.number(by, to.size))
-    s.put(to, simple(z3.RotateLeft(z3.Concat(kept, new), at)))
+    rest = z3.Extract(8 * to.size - 1, count.value, s.number(to))
+    new = z3.Extract(low.value + count.value - 1, low.value, s.number(by, to.size))
+    s.put(to, simple(z3.Concat(rest, new)))
 
 
 def shift(function):
@@ -271,11 +271,6 @@ def duplicate(s, to, by):
     s.put_lane(to, s.lane(by)[: to.lane] * (to.size // to.lane))
 
 
-def reverse_pairs(s, to, by):
-    """Each two bytes by turns."""
-    s.put_lane(to, each(lambda a: z3.RotateLeft(a, 8), 2, s.lane(by)))
-
-
 def narrow(s, to, by):
     s.put_lane(to, bytes_of(z3.Extract(8 * to.lane - 1, 0, a) for a in units(s.lane(by), by.lane)))
 
@@ -294,11 +289,6 @@ def mixed(function):
         s.put_lane(to, bytes_of(function(a, b)))
 
     return handler
-
-
-def pairs(a, b):
-    """The numbers of two vectors by turns."""
-    return [number for pair in zip(a, b) for number in pair]
 
 
 def extract(s, to, one, other, first):
@@ -360,13 +350,6 @@ def load(size=None):
     return handler
 
 
-def load_repeated(s, to, o):
-    address, moved = accessed(s, o)
-    lane = s.load(address, to.lane)
-    s.general |= moved
-    s.put_lane(to, lane * (to.size // to.lane))
-
-
 def store(size=None):
     """One that moves the stack pointer first makes space for what it stores."""
 
@@ -381,10 +364,10 @@ def store(size=None):
 
 def store_interleaved(s, one, other, o):
     same(one, other)
-    a, b = units(s.lane(one), one.lane), units(s.lane(other), other.lane)
+    pairs = zip(units(s.lane(one), one.lane), units(s.lane(other), other.lane))
     address, moved = accessed(s, o)
     s.general |= moved
-    s.store(address, bytes_of(pairs(a, b)))
+    s.store(address, bytes_of(number for pair in pairs for number in pair))
 
 
 HANDLERS = {
@@ -403,8 +386,7 @@ HANDLERS = {
     "msub": general(lambda a, b, c: c - a * b),
     "umulh": upper_product,
     "movk": move_part,
-    "bfi": lambda s, to, by, at, count: insert_bits(s, to, at.value, by, 0, count),
-    "bfxil": lambda s, to, by, low, count: insert_bits(s, to, 0, by, low.value, count),
+    "bfxil": insert_bits,
     "lsl": shift(SHIFT_LEFT),
     "lsr": shift(z3.LShR),
     "adr": lambda s, to, by: s.put(to, s.code.placed(by.value)),
@@ -426,7 +408,6 @@ HANDLERS = {
     "ushr": shifted(z3.LShR),
     "shl": shifted(lambda a, count: a << count),
     "sli": shift_left_and_insert,
-    "rev16": reverse_pairs,
     "movi": constant,
     "mov": move,
     "fmov": move,
@@ -438,12 +419,9 @@ HANDLERS = {
     "tbl": look_up,
     "uzp1": mixed(lambda a, b: (a + b)[::2]),
     "uzp2": mixed(lambda a, b: (a + b)[1::2]),
-    "zip1": mixed(lambda a, b: pairs(a, b)[: len(a)]),
-    "zip2": mixed(lambda a, b: pairs(a, b)[len(a) :]),
     **dict.fromkeys(("ldr", "ldur", "ldp", "ld1"), load()),
     **dict.fromkeys(("ldrb", "ldurb"), load(1)),
     "ldrh": load(2),
-    "ld1r": load_repeated,
     **dict.fromkeys(("str", "stur", "stp", "st1"), store()),
     **dict.fromkeys(("strb", "sturb"), store(1)),
     "strh": store(2),

@@ -1,7 +1,7 @@
 """What instructions of several processors have in common. A vector is a list of its bytes, the
 lowest first. Each meaning is compared with the processor by test_meanings.py."""
 
-from dataclasses import dataclass, field
+from dataclasses import dataclass
 
 import z3
 
@@ -19,7 +19,7 @@ class Operand:
     name: object = None
     value: int = None
     # Of an address: registers with their scales, and what is added.
-    terms: list = field(default_factory=list)
+    terms: tuple = ()
     offset: int = 0
     # On AArch64: the bytes of a vector's lane, where an element begins, whether an address is
     # written back to its base, and what is added to the base afterwards.

@@ -19,7 +19,6 @@ from meanings.lanes import (
     OR,
     SHIFT_LEFT,
     SUBTRACT,
-    XOR,
     each,
     saturated,
     units,
@@ -210,7 +209,6 @@ computes("i32.sub", "ii", SUBTRACT)
 computes("i32.mul", "ii", MULTIPLY)
 computes("i32.and", "ii", AND)
 computes("i32.or", "ii", OR)
-computes("i32.xor", "ii", XOR)
 computes("i32.shl", "in", lambda a, b: SHIFT_LEFT(a, _count(b, 32)))
 computes("i32.shr_u", "nn", lambda a, b: z3.LShR(a, _count(b, 32)))
 computes("i32.shr_s", "nn", lambda a, b: z3.ZeroExt(32, _lower(a) >> _count(b, 32)))
@@ -223,7 +221,6 @@ compares("i32.lt_u", "nn", z3.ULT)
 compares("i32.le_u", "nn", z3.ULE)
 compares("i32.gt_u", "nn", z3.UGT)
 compares("i32.ge_u", "nn", z3.UGE)
-compares("i32.lt_s", "nn", lambda a, b: _lower(a) < _lower(b))
 compares("i32.le_s", "nn", lambda a, b: _lower(a) <= _lower(b))
 accesses("i32.const", "", lambda s, numbers: word(numbers[0]))
 accesses("i64.const", "", lambda s, numbers: word(numbers[0]))
@@ -362,6 +359,11 @@ stores("v128.store64_lane", "nv", lambda lane, index: lane[8 * index :][:8])
 
 
 # Vectors
+def _shift_units(a, b):
+    count = _count(b, 16)
+    return each(lambda part: z3.LShR(part, count), 2, a)
+
+
 def by_units(name, size, function):
     computes(name, "vv", lambda a, b: each(function, size, a, b))
 
@@ -373,7 +375,7 @@ by_units("i8x16.sub", 1, SUBTRACT)
 by_units("i8x16.min_u", 1, MINIMUM)
 by_units("i8x16.max_u", 1, MAXIMUM)
 by_units("i16x8.mul", 2, MULTIPLY)
-computes("i16x8.shr_u", "vn", lambda a, b: each(lambda part: z3.LShR(part, _count(b, 16)), 2, a))
+computes("i16x8.shr_u", "vn", _shift_units)
 computes("i16x8.splat", "i", lambda a: split(z3.Extract(15, 0, a)) * 8)
 computes("i32x4.splat", "i", lambda a: split(_lower(a)) * 4)
 computes(
@@ -394,11 +396,6 @@ computes(
 )
 compares("v128.any_true", "v", lambda a: z3.Or(*[part != 0 for part in a]))
 accesses("i8x16.shuffle", "vv", lambda s, numbers, a, b: [(a + b)[index] for index in numbers])
-accesses(
-    "i8x16.replace_lane",
-    "vi",
-    lambda s, numbers, a, b: [*a[: numbers[0]], simple(z3.Extract(7, 0, b)), *a[numbers[0] + 1 :]],
-)
 accesses("i8x16.extract_lane_u", "v", lambda s, numbers, a: z3.ZeroExt(56, a[numbers[0]]))
 accesses(
     "i16x8.extract_lane_u",

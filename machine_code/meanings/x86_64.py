@@ -70,14 +70,14 @@ def _operand(text):
 
 
 def _address(text, size):
-    address = Operand("memory", size)
+    terms, offset = [], 0
     for sign, part in re.findall(r"([+-]?)([^+-]+)", text):
         name, _, scale = part.partition("*")
         if name == "rip" or name in GENERAL and GENERAL[name][1] == 8:
-            address.terms.append((name, int(scale or 1)))
+            terms.append((name, int(scale or 1)))
         else:
-            address.offset += int(sign + part, 16)
-    return address
+            offset += int(sign + part, 16)
+    return Operand("memory", size, terms=terms, offset=offset)
 
 
 def _operands(text):

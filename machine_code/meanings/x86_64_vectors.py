@@ -8,7 +8,6 @@ from meanings.lanes import (
     AND,
     AND_NOT,
     MINIMUM,
-    MULTIPLY,
     OR,
     SUBTRACT,
     SUBTRACT_SATURATED,
@@ -59,12 +58,6 @@ def shift_units(size, function):
 
 def looked_up(table, index):
     return simple(z3.If(z3.Extract(7, 7, index) == 1, byte(0), chosen(table, index)))
-
-
-def interleaved(size):
-    return by_halves(
-        lambda a, b: [x for first in range(0, 8, size) for x in a[first:][:size] + b[first:][:size]]
-    )
 
 
 def move_vector(is_aligned):
@@ -143,11 +136,9 @@ VECTORS = {
     "pminub": by_units(1, MINIMUM),
     "por": by_units(1, OR),
     "pxor": by_units(1, XOR),
-    "pmullw": by_units(2, MULTIPLY),
-    "punpckldq": interleaved(4),
     "psllw": shift_units(2, lambda a, by: a << by),
     "psrlw": shift_units(2, z3.LShR),
-    "punpcklqdq": interleaved(8),
+    "punpcklqdq": by_halves(lambda a, b: a[:8] + b[:8]),
     "pshufb": by_halves(lambda a, b: [looked_up(a, index) for index in b]),
     "packuswb": by_halves(lambda a, b: saturated(units(a + b, 2))),
     "movdqu": move_vector(False),
@@ -157,7 +148,6 @@ VECTORS = {
     "xorps": by_units(1, XOR),
     "movd": move_low(4),
     "movq": move_low(8),
-    "pinsrb": insert(1),
     "pinsrw": insert(2),
     "pinsrd": insert(4),
     "pextrw": extract(2),
@@ -184,7 +174,6 @@ def legacy(handler):
 VECTOR_HANDLERS = {
     **{name: legacy(handler) for name, handler in VECTORS.items()},
     **{f"v{name}": handler for name, handler in VECTORS.items()},
-    "vpbroadcastb": broadcast(1),
     "vpbroadcastd": broadcast(4),
     "vpbroadcastq": broadcast(8),
     "vbroadcasti128": broadcast(16),

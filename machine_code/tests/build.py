@@ -63,11 +63,12 @@ def linked_module(text):
 
 
 @functools.lru_cache(None)
-def objects(compiler, *options):
-    """The objects of the C library, in a folder that stays."""
+def objects(compiler, *command):
+    """The objects of the C library for a processor, by its compiler or by another command, in a
+    folder that stays."""
     folder = tempfile.TemporaryDirectory()
     sources = [str(ASM / f"{name}.S") for name in SOURCES[compiler]]
-    run(compiler, *options, "-c", *sources, folder=folder.name)
+    run(*(command or (compiler,)), "-c", *sources, folder=folder.name)
     return folder, [f"{folder.name}/{name}.o" for name in SOURCES[compiler]]
 
 
@@ -93,31 +94,22 @@ def for_macos(folder, processor):
     """A dylib for macOS, by ld64.lld."""
     linkers = sorted(pathlib.Path("/usr/lib").glob("llvm-*/bin/ld64.lld"))
     compiler = {"x86_64": X86_64, "arm64": AARCH64}[processor]
-    sources = [str(ASM / f"{name}.S") for name in SOURCES[compiler]]
-    run("clang", f"--target={processor}-apple-macos11", "-c", *sources, folder=folder)
+    _, names = objects(compiler, "clang", f"--target={processor}-apple-macos11")
     command = [str(linkers[-1]) if linkers else "ld64.lld", "-arch", processor, "-dylib"]
     command += ["-platform_version", "macos", "11.0", "11.0"]
-    return made(*command, *(f"{name}.o" for name in SOURCES[compiler]), folder=folder)
+    return made(*command, *names, folder=folder)
 
 
 def for_windows(folder):
     """A DLL with the C library, by mingw."""
-    sources = [str(ASM / f"{name}.S") for name in SOURCES[X86_64]]
-    return made(
-        "x86_64-w64-mingw32-gcc",
-        "-shared",
-        f"{ASM}/../windows.c",
-        *sources,
-        folder=folder,
-        name="made.dll",
-    )
+    mingw = "x86_64-w64-mingw32-gcc"
+    _, names = objects(X86_64, mingw)
+    return made(mingw, "-shared", C / "windows.c", *names, folder=folder, name="made.dll")
 
 
 def for_windows_on_aarch64(folder):
     """A DLL with the C library, by lld-link."""
-    sources = [str(ASM / f"{name}.S") for name in SOURCES[AARCH64]]
-    run("clang", "--target=aarch64-windows-gnu", "-c", *sources, folder=folder)
-    names = [f"{name}.o" for name in SOURCES[AARCH64]]
+    _, names = objects(AARCH64, "clang", "--target=aarch64-windows-gnu")
     run("lld-link", "/dll", "/noentry", "/debug:symtab", "/out:made.dll", *names, folder=folder)
     return pathlib.Path(folder, "made.dll")
 

@@ -86,14 +86,8 @@ def test_what_is_called_is_proved(tmp_path):
 
 
 def test_only_proofs_use_hints():
-    folders = [
-        FOLDER / name for name in ("contracts", "execution", "meanings", "reading", "solver")
-    ]
-    files = [file for folder in folders for file in folder.glob("*.py")]
-    users = [
-        file.name for file in files if re.search("^(from|import) hints", file.read_text(), re.M)
-    ]
-    assert users == ["proofs.py"]
+    files = FOLDER.glob("*/*.py")
+    assert [file.name for file in files if "\nfrom hints" in file.read_text()] == ["proofs.py"]
 
 
 def test_contracts_of_functions():

@@ -13,7 +13,7 @@ from execution.terms import byte
 from programs import edited
 from solver.questions import public
 
-CALLS = {contract.function: contract for contract in reversed(FUNCTIONS)}
+CONTRACT = next(each for each in FUNCTIONS if each.function == "decoder_update")
 SOME = random.Random(1)
 
 
@@ -37,13 +37,10 @@ def is_start(state, text, decoder):
     return solver.check() == z3.sat
 
 
-def starts_of(call):
-    code = Code(edited("functions_x86_64", call, "", ""), PROCESSORS, CALLS[call].symbol, {})
-    return CALLS[call].starts(code)
-
-
 def test_decoders(tmp_path):
-    library, starts = ctypes.CDLL(str(build.shared(tmp_path))), starts_of("decoder_update")
+    library = ctypes.CDLL(str(build.shared(tmp_path)))
+    content = edited("functions_x86_64", "decoder_update", "", "")
+    starts = CONTRACT.starts(Code(content, PROCESSORS, CONTRACT.symbol, {}))
     for _ in range(8):
         decoder, is_ok = ctypes.create_string_buffer(16), 1
         for chunk in [some_text()[SOME.randrange(3) :] for _ in range(5)]:
