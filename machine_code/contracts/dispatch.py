@@ -57,7 +57,7 @@ class Dispatched(Function):
     level = "dispatch"
     is_in_module = False
     ends = ("_nonnull",)
-    is_unrolled = is_keeping = is_any_valid = True
+    is_unrolled = uses_static = is_any_valid = True
 
     def __init__(self, function, parameters):
         self.function = function
@@ -79,7 +79,7 @@ class Dispatched(Function):
         ):
             self.prove_passed(state, index, given, wanted)
         state.forget_arguments(len(self.arguments))
-        state.result_of_call, state.stored = fresh_secret(64), len(state.kept)
+        state.result_of_call, state.stored_at_call = fresh_secret(64), len(state.stored)
         yield state, state.result_of_call
 
     def prove_passed(self, state, index, given, wanted):
@@ -88,7 +88,7 @@ class Dispatched(Function):
     def returns(self, state):
         require(state.result_of_call is not None, "it calls nothing")
         state.prove(state.result(64) == state.result_of_call, "the result is another")
-        require(len(state.kept) == state.stored, "a byte is stored after the call")
+        require(len(state.stored) == state.stored_at_call, "a byte is stored after the call")
 
 
 class Kernel(Dispatched):
@@ -103,7 +103,7 @@ class Kernel(Dispatched):
 
     def prove_choice(self, state, end):
         number = self.builds[end]
-        if not state.kept:
+        if not state.stored:
             return state.prove(
                 z3.Or(*[read == number for read in state.seen]), "not the one that is stored"
             )
@@ -112,7 +112,7 @@ class Kernel(Dispatched):
                 z3.Or(*[read != named for read in state.seen]),
                 "the CPU is asked although a kernel is stored",
             )
-        for stored in state.kept:
+        for stored in state.stored:
             state.prove(stored == number, "another kernel is stored")
         state.prove(for_this_cpu() == number, "the kernel is not the one for this CPU")
 
@@ -144,7 +144,7 @@ class OrNull(Dispatched):
         return state.STACK_OF_DISPATCH, state.STACK
 
     def prove_choice(self, state, end):
-        require(not state.kept, "a byte is stored")
+        require(not state.stored, "a byte is stored")
 
     def prove_passed(self, state, index, given, wanted):
         if index != self.error or not self.is_null:

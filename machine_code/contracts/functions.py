@@ -108,9 +108,8 @@ class Function:
 
     is_called = is_local = is_declassified = is_unrolled = False
     is_in_module = True
-    # Whether it may use what is kept between calls, which is no secret then; and whether every
-    # input is valid.
-    is_keeping = is_any_valid = False
+    # Whether it may use the static byte, which is no secret then; and whether every input is valid.
+    uses_static = is_any_valid = False
     is_digit = staticmethod(is_digit)
     regions = empty = requires = passed = ()
     name = "every call"

@@ -48,6 +48,8 @@ UPPER = 1
 PREFIX = 2
 NO_NUL = 4
 TEXT = Region("input", N)
+OUTPUT = Region("output", SIZE)
+BUFFERS = ("input", N), ("output", SIZE)
 # By how many bytes a size_t has.
 ERROR = lambda size: Region("error", word(8 + size), size)
 WRITTEN = lambda size: Region("written", word(size), size)
@@ -98,9 +100,9 @@ class Encode(Exported):
     """encode(bytes, bytes_length, text, text_size, flags), for some flags, or all unknown ones."""
 
     function = "encode"
-    regions = (Region("input", N), Region("output", SIZE))
+    regions = TEXT, OUTPUT
     is_any_valid = True
-    empty = ("input", N), ("output", SIZE)
+    empty = BUFFERS
 
     def __init__(self, flags):
         self.name = "unknown flags" if flags is None else f"flags {flags}"
@@ -159,7 +161,8 @@ class CheckRaw(CheckKernel):
     imported = None
     regions = (TEXT,)
     empty = (("input", N),)
-    function, symbol = "check_raw", "const_hex_check_raw"
+    function = "check_raw"
+    symbol = "const_hex_check_raw"
 
 
 class FirstInvalid(Function):
@@ -171,7 +174,8 @@ class FirstInvalid(Function):
     function = "locate_invalid"
     name = "any text"
     requires = (z3.ULT(N, 1 << 63),)
-    regions, arguments = (TEXT,), (base("input"), N)
+    regions = (TEXT,)
+    arguments = base("input"), N
 
     def returns(self, state):
         index, character = first_invalid(state)
@@ -254,9 +258,10 @@ class DecodeExact(Text):
     """decode_exact(text, length, bytes, bytes_length, error): the bytes that the text decodes to,
     which are as many."""
 
-    function, regions = "decode_exact", (TEXT, Region("output", SIZE), ERROR)
+    function = "decode_exact"
+    regions = TEXT, OUTPUT, ERROR
     arguments = base("input"), N, base("output"), SIZE, base("error")
-    empty = ("input", N), ("output", SIZE)
+    empty = BUFFERS
 
     def errors(self, state):
         return [
@@ -270,8 +275,8 @@ class Decode(Text):
     larger."""
 
     function = "decode"
-    regions = (*DecodeExact.regions, WRITTEN)
-    empty = DecodeExact.empty
+    regions = TEXT, OUTPUT, ERROR, WRITTEN
+    empty = BUFFERS
     arguments = base("input"), N, base("output"), SIZE, base("written"), base("error")
 
     def errors(self, state):
@@ -333,7 +338,7 @@ class DecoderUpdate(Text):
     function = "decoder_update"
     name = "every decoder and chunk"
     parts = 6
-    regions = DECODER, TEXT, Region("output", SIZE), WRITTEN, ERROR
+    regions = DECODER, TEXT, OUTPUT, WRITTEN, ERROR
     arguments = (
         base("decoder"),
         base("input"),
@@ -343,7 +348,7 @@ class DecoderUpdate(Text):
         base("written"),
         base("error"),
     )
-    empty, requires = (("input", N), ("output", SIZE)), (z3.ULT(N, 1 << 63),)
+    empty = BUFFERS
 
     def kinds(self, state):
         """What a decoder may be: at the start; after one digit, which may be the first half of a

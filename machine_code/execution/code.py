@@ -21,7 +21,7 @@ class Code:
         self.object = library.read(content)
         self.processor = processors[self.object.machine]
         self.level = level or symbol.rpartition("_")[2]
-        self.start, self.kept = self.object.symbols[symbol], None
+        self.start, self.static = self.object.symbols[symbol], None
         self.callees = {
             self.object.symbols[name]: effect
             for name, effect in effects.items()
@@ -44,17 +44,16 @@ class Code:
         """An address of the file, wherever that lies."""
         return self.constants.base + (address - self.object.first)
 
-    def keeps(self, offset, count):
-        """Whether it is the only byte that a function keeps between calls, which all threads
-        have."""
+    def is_static(self, offset, count):
+        """Whether it is the only static byte of a function, which all threads share."""
         if (
             count != 1
             or not z3.is_bv_value(offset)
-            or not self.object.is_kept(self.object.first + offset.as_long())
+            or not self.object.is_choice(self.object.first + offset.as_long())
         ):
             return False
-        self.kept = offset.as_long() if self.kept is None else self.kept
-        return self.kept == offset.as_long()
+        self.static = offset.as_long() if self.static is None else self.static
+        return self.static == offset.as_long()
 
     def name_at(self, address):
         instruction = self.instruction(address)

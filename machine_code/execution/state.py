@@ -32,7 +32,7 @@ from solver.questions import (
 
 class Region:
     """So many bytes of memory at an unknown base that is a multiple of `align`. The constants are
-    those of a file. The "input", the "output" and what is "kept" between calls have these names;
+    those of a file. The "input", the "output" and the "static" byte have these names;
     each other region is an object.
     """
 
@@ -43,19 +43,19 @@ class Region:
         self.data = data
         self.base = public(name, 64)
         self.is_writable = is_writable and data is None and name != "input"
-        self.is_object = data is None and name not in ("input", "output", "kept")
+        self.is_object = data is None and name not in ("input", "output", "static")
 
 
-# What is kept between calls; and how many values the offset of a constant may have, or a jump.
-KEPT, MOST = Region("kept", word(1)), 64
+STATIC = Region("static", word(1))  # which lasts from call to call
+MOST = 64  # values that the offset of a constant may have, or a jump
 
 
 @dataclass
 class State:
     """What is known at an instruction. A processor adds its registers, which of them have the stack
-    pointer, arguments and the result, and which of them a function keeps: see `meanings`."""
+    pointer, arguments and the result, and which of them are callee-saved: see `meanings`."""
 
-    # How many of the lowest bytes of a vector a function keeps, and the bytes of an address.
+    # How many of the lowest bytes of a vector are callee-saved, and the bytes of an address.
     CALLEE_SAVED_VECTORS, WORD = {}, 8
 
     code: object = None
@@ -82,9 +82,9 @@ class State:
     reads: list = field(default_factory=list)
     writes: list = field(default_factory=list)
     digits: dict = field(default_factory=dict)
-    # What was read of the byte that is kept between calls, and what was stored there.
+    # What was read of the static byte, and what was stored there.
     seen: list = field(default_factory=list)
-    kept: list = field(default_factory=list)
+    stored: list = field(default_factory=list)
     # Where the digits of the input begin, and the digit that waits before them, if there is one.
     body: object = word(0)
     waiting: object = None
@@ -232,12 +232,12 @@ class State:
         require(
             not aligned or self.is_valid(address & count - 1 == 0), "an access may be misaligned"
         )
-        is_kept = (
+        is_static = (
             region is self.code.constants
-            and self.contract.is_keeping
-            and self.code.keeps(offset, count)
+            and self.contract.uses_static
+            and self.code.is_static(offset, count)
         )
-        return KEPT if is_kept else region, offset
+        return STATIC if is_static else region, offset
 
     def load(self, address, count, aligned=False):
         region, offset = self._place(address, count, aligned)
@@ -246,7 +246,7 @@ class State:
         if region.name == "input":
             self.reads.append((offset, count))
             return [self.byte_of_input(offset + index) for index in range(count)]
-        if region.name == "kept":
+        if region.name == "static":
             # Another thread may have written it since it was read before.
             self.seen += [fresh_public(8) for _ in range(count)]
             return self.seen[-count:]
@@ -298,8 +298,8 @@ class State:
         require(region.is_writable, f"{region.name} is written")
         if region.is_object:
             self.put_cells(region.name, self._offset_in(region, offset), lane)
-        elif region.name == "kept":
-            self.kept += lane
+        elif region.name == "static":
+            self.stored += lane
         else:
             self.contract.store(self, offset, lane)
             self.writes.append((offset, len(lane)))

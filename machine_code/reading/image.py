@@ -90,7 +90,7 @@ class Image:
         """The constants at an offset, which may be fewer."""
         return self.bytes_at(self.first + offset, count)
 
-    def is_kept(self, address):
+    def is_choice(self, address):
         """Whether it is the byte of a dispatcher, which is 0 at the start, and belongs to nothing
         else."""
         part = self.part_at(address) if address in self.choices else None

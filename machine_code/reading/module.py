@@ -39,7 +39,7 @@ class Module:
     def read(self, offset, count):
         return self.data[0].content[offset : offset + count]
 
-    def is_kept(self, address):
+    def is_choice(self, address):
         return False
 
     def code_at(self, address):

@@ -147,7 +147,7 @@ def test_honest_builds_are_read(make, tmp_path):
     assert {f"const_hex_{name}" for name in FUNCTIONS} <= file.symbols.keys()
     assert len(contracts) == (44 if file.machine == 62 else 36)
     assert all(file.code_at(file.symbols[name]) for name, _ in contracts)
-    assert [file.is_kept(address) for address in file.choices] == [True] * (file.machine == 62)
+    assert [file.is_choice(address) for address in file.choices] == [True] * (file.machine == 62)
 
 
 def test_a_program_for_avx2_alone_is_read():
