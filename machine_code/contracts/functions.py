@@ -129,13 +129,17 @@ class Function:
         for condition in self.requires:
             state.assume(condition)
         nulls = [(base(name) != 0, z3.And(base(name) == 0, size == 0)) for name, size in self.empty]
-        paths = [state.branch(z3.And(*choice)) for choice in itertools.product(*nulls)]
-        return [start for path in paths if path for start in self._all_cases(path)]
+        starts = []
+        for choice in itertools.product(*nulls):
+            if path := state.branch(z3.And(*choice)):
+                starts += self._all_cases(path)
+        return starts
 
     def _all_cases(self, state):
         paths = list(self.cases(state))
-        known = [z3.And(*[fact.term for fact in path.facts[len(state.facts) :]]) for path in paths]
-        state.prove(z3.Implies(self.is_for(state), z3.Or(*known)), "a start is missing")
+        known = [[fact.term for fact in path.facts[len(state.facts) :]] for path in paths]
+        is_start = z3.Or(*[z3.And(*terms) for terms in known])
+        state.prove(z3.Implies(self.is_for(state), is_start), "a start is missing")
         return paths
 
     def stacks(self, state):
@@ -189,7 +193,7 @@ def prove_true_if(state, condition, message):
 
 def prove_unchanged(state, name):
     same = all(
-        value.eq(state.cells[key]) for key, value in state.first_cells.items() if key[0] == name
+        value.eq(state.cells[key]) for key, value in state.entry.cells.items() if key[0] == name
     )
     require(same, f"{name} is changed")
 

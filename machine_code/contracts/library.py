@@ -7,6 +7,7 @@ size that is passed has no limit.
 """
 
 import re
+from collections import namedtuple
 
 import z3
 
@@ -310,16 +311,19 @@ def with_decoder(state):
     secret."""
     state.put_cells("decoder", 0, split(public(f"position_{state.WORD}", 8 * state.WORD)))
     state.put_cells("decoder", state.WORD + 1, [public("kind", 8)])
-    state.first_cells = state.cells.copy()
+    state.entry = state.copy()
     return state
 
 
 def decoder_of(state):
     """What a decoder had at the call."""
     *position, character, kind = [
-        state.first_cells["decoder", offset] for offset in range(state.WORD + 2)
+        state.entry.cells["decoder", offset] for offset in range(state.WORD + 2)
     ]
     return simple(z3.ZeroExt(64 - 8 * state.WORD, joined(position))), character, kind
+
+
+Kinds = namedtuple("Kinds", "start one_digit complete waiting failed")
 
 
 class DecoderUpdate(Text):
@@ -346,31 +350,31 @@ class DecoderUpdate(Text):
         prefix; later, where no digit waits, or one; after an error."""
         position, character, kind = decoder_of(with_decoder(state))
         waits, later = z3.And(kind == 1, is_digit(character)), z3.UGE(position, 2)
-        return (
-            z3.And(position == 0, kind == 0),
-            z3.And(position == 1, waits),
-            z3.And(later, kind == 0),
-            z3.And(later, waits),
-            z3.UGT(kind, 1),
+        return Kinds(
+            start=z3.And(position == 0, kind == 0),
+            one_digit=z3.And(position == 1, waits),
+            complete=z3.And(later, kind == 0),
+            waiting=z3.And(later, waits),
+            failed=z3.UGT(kind, 1),
         )
 
     def is_for(self, state):
         return z3.Or(*self.kinds(state))
 
     def cases(self, state):
-        start, one, complete, waits, failed = self.kinds(state)
+        kinds = self.kinds(state)
         is_rest = z3.And(
             z3.UGE(N, 1), is_prefix(decoder_of(state)[1], state.byte_of_input(word(0)))
         )
-        yield from with_prefix_or_without(state.branch(start))
+        yield from with_prefix_or_without(state.branch(kinds.start))
         # Whether a digit waits that belongs to the first byte, and where the digits of this chunk
         # begin.
         for condition, is_waiting, body in (
-            (z3.And(one, is_rest), False, 1),
-            (z3.And(one, z3.Not(is_rest)), True, 0),
-            (complete, False, 0),
-            (waits, True, 0),
-            (failed, False, 0),
+            (z3.And(kinds.one_digit, is_rest), False, 1),
+            (z3.And(kinds.one_digit, z3.Not(is_rest)), True, 0),
+            (kinds.complete, False, 0),
+            (kinds.waiting, True, 0),
+            (kinds.failed, False, 0),
         ):
             if path := state.branch(condition):
                 path.waiting, path.body = decoder_of(path)[1] if is_waiting else None, word(body)

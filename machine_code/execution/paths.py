@@ -93,26 +93,27 @@ class Loop:
 
 
 def step(code, state):
-    """Runs one instruction, and gives the states after it; none after a return."""
+    """Runs one instruction, and returns the states after it; none after a return."""
     if state.address in code.callees:
         return called(state, code.callees[state.address])
     instruction = code.instruction(state.address)
-    require(instruction, "it leaves the code")
+    require(instruction, "control flow leaves the code")
     state.steps += 1
     require(state.steps < STEPS, "a loop without an invariant")
     require(not instruction.rejected, instruction.rejected)
-    require(
-        instruction.mnemonic in code.processor.HANDLERS, "an instruction without a meaning here"
-    )
+    require(instruction.mnemonic in code.processor.HANDLERS, "an unsupported instruction")
     state.next = instruction.address + instruction.size
-    to = code.processor.HANDLERS[instruction.mnemonic](state, *instruction.operands)
+    try:
+        to = code.processor.HANDLERS[instruction.mnemonic](state, *instruction.operands)
+    except TypeError as error:
+        # More operands than its meaning has, or fewer, or another kind of one.
+        raise Rejected(f"unsupported operands: {error}") from None
     state.drop_below()
     if isinstance(to, Branch):
         return [*branches(state, to)]
     if isinstance(to, list):
-        return [
-            path for path in (state.branch(condition, target) for condition, target in to) if path
-        ]
+        paths = [state.branch(condition, target) for condition, target in to]
+        return [path for path in paths if path]
     if z3.is_expr(to):
         return returned(state, to)
     state.address = state.next if to is None else to
@@ -123,11 +124,8 @@ def branches(state, to):
     """The states after a jump on a condition. Time may depend on the input where it is surely
     invalid."""
     certain = state.choose(to.choice)
-    for truth, condition, target in (True, to.choice, to.target), (
-        False,
-        z3.Not(to.choice),
-        state.next,
-    ):
+    taken, not_taken = (True, to.choice, to.target), (False, z3.Not(to.choice), state.next)
+    for truth, condition, target in taken, not_taken:
         if path := state.branch(condition, target):
             path.is_declassified |= certain is not None and truth is not certain
             yield path
@@ -166,7 +164,7 @@ def called(state, effect):
 
 
 def run(code, starts, loop_headers, infer_invariant):
-    """Runs a function from each of some states. Gives how many paths have ended."""
+    """Runs a function from each of some states. Returns how many paths have ended."""
     count, work = 0, list(starts)
     try:
         while work:

@@ -5,6 +5,8 @@ If a contract were left out here, or a function were called by a contract that i
 one, wrong code could be accepted.
 """
 
+import itertools
+import itertools
 import os
 import re
 import textwrap
@@ -46,12 +48,8 @@ def contracts_of(obj):
             contract.symbol, symbol
         )
 
-    return [
-        (symbol, number)
-        for symbol in sorted(obj.symbols)
-        for number, contract in enumerate(CONTRACTS)
-        if is_of(symbol, contract)
-    ]
+    pairs = itertools.product(sorted(obj.symbols), range(len(CONTRACTS)))
+    return [(symbol, number) for symbol, number in pairs if is_of(symbol, CONTRACTS[number])]
 
 
 def functions_of(content):
@@ -79,7 +77,7 @@ def effects_of(symbol, contract):
 
 
 def prove(content, symbol, contract, which=slice(None)):
-    """Proves a function of a file, from all starts or from some. Gives how many paths have
+    """Proves a function of a file, from all starts or from some. Returns how many paths have
     ended."""
     code = Code(content, PROCESSORS, symbol, effects_of(symbol, contract), contract.level)
     starts = contract.starts(code)
@@ -92,8 +90,8 @@ def prove(content, symbol, contract, which=slice(None)):
 
 
 def task(job):
-    """Proves a function of a file from one part of its starts. Gives which function it is, whether
-    it is rejected, and what is to be said of it in a line."""
+    """Proves a function of a file from one part of its starts. Returns which function it is, whether
+    it is rejected, and a line about it."""
     (file, symbol, number), content, part, is_whole = job
     contract, fault = CONTRACTS[number], None
     try:

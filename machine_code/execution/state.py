@@ -56,7 +56,7 @@ class State:
     pointer, arguments and the result, and which of them a function keeps: see `meanings`."""
 
     # How many of the lowest bytes of a vector a function keeps, and the bytes of an address.
-    KEPT_VECTORS, WORD = {}, 8
+    CALLEE_SAVED_VECTORS, WORD = {}, 8
 
     code: object = None
     contract: object = None
@@ -76,10 +76,7 @@ class State:
     regions: dict = field(default_factory=dict)
     cells: dict = field(default_factory=dict)
     input: dict = field(default_factory=dict)
-    # The registers and bytes of objects at the call.
-    first: dict = field(default_factory=dict)
-    first_vectors: dict = field(default_factory=dict)
-    first_cells: dict = field(default_factory=dict)
+    entry: object = None  # the state at the call
     # Offset and count of what was read of the input and written to the output, and whether reads
     # are of digits, by these terms themselves: two keys are the same only if their terms are.
     reads: list = field(default_factory=list)
@@ -130,8 +127,7 @@ class State:
         for index, argument in enumerate(on_stack):
             self.put_cells("stack", self.STACK + self.RETURN + 8 * index, split(argument))
         self.enter()
-        self.first, self.first_vectors = self.general.copy(), self.vectors.copy()
-        self.first_cells = self.cells.copy()
+        self.entry = self.copy()
 
     def copy(self):
         other = object.__new__(type(self))
@@ -234,7 +230,7 @@ class State:
             f"an access may lie outside of {region.name}: {offset}",
         )
         require(
-            not aligned or self.is_valid(address & count - 1 == 0), "an access may not be aligned"
+            not aligned or self.is_valid(address & count - 1 == 0), "an access may be misaligned"
         )
         is_kept = (
             region is self.code.constants
@@ -257,7 +253,7 @@ class State:
         require(region.is_object, f"{region.name} is read")
         first = self._offset_in(region, offset)
         known = [self.cells.get((region.name, first + index)) for index in range(count)]
-        require(None not in known, "a byte of the stack that was not written")
+        require(None not in known, "an uninitialized byte of the stack is read")
         return known
 
     def _constants(self, region, offset, count):
@@ -290,7 +286,7 @@ class State:
         if address.decl().name() in self.contract.passed:
             return address
         base = self.code.constants.base
-        require(base.decl().name() in names(address), "a jump to an address that is not fixed")
+        require(base.decl().name() in names(address), "a jump target that is not known")
         offset = simple(address - base)
         return [
             (offset == value, self.code.object.first + value)
@@ -350,16 +346,12 @@ class State:
         """That two values are the same, where bytes of the input are the same that have the same
         offset."""
         about = {*names(value == wanted)}
-        used = [
-            (offset, name) for offset, name in self.input.values() if about.issuperset(names(name))
-        ]
-        same = [
-            fact
-            for (first, one), (second, other) in itertools.combinations(used, 2)
-            if self.is_valid(first == second)
-            for fact in facts_of(one == other)
-        ]
-        require(is_valid(self.facts + same, value == wanted, self.near), message)
+        used = [each for each in self.input.values() if about.issuperset(names(each[1]))]
+        facts = self.facts.copy()
+        for (first, one), (second, other) in itertools.combinations(used, 2):
+            if self.is_valid(first == second):
+                facts += facts_of(one == other)
+        require(is_valid(facts, value == wanted, self.near), message)
 
     # Digits. What is known of a part of the input does not say which names lie in it, so that is
     # asked.
@@ -419,11 +411,11 @@ class State:
 
     def returned(self):
         """What a return out of the function needs."""
-        for name in self.KEPT:
-            self.prove(self.general[name] == self.first[name], f"{name} is not as before")
-        for number, count in self.KEPT_VECTORS.items():
-            for byte_now, first in zip(self.vectors[number][:count], self.first_vectors[number]):
-                self.prove(byte_now == first, f"v{number} is not as before")
+        for name in self.CALLEE_SAVED:
+            self.prove(self.general[name] == self.entry.general[name], f"{name} is not preserved")
+        for number, count in self.CALLEE_SAVED_VECTORS.items():
+            for byte_now, before in zip(self.vectors[number][:count], self.entry.vectors[number]):
+                self.prove(byte_now == before, f"v{number} is not preserved")
 
     def arguments(self, count):
         """So many arguments, at the first instruction of a function: in registers, and then in the
@@ -456,13 +448,13 @@ class State:
 
     def forget(self):
         """A function that was called has changed all registers that it need not keep."""
-        kept = (*self.KEPT, self.TOP)
+        kept = (*self.CALLEE_SAVED, self.TOP)
         self.general = {
             name: value if name in kept else fresh_secret(64)
             for name, value in self.general.items()
         }
         for number, lane in self.vectors.items():
-            count = self.KEPT_VECTORS.get(number, 0)
+            count = self.CALLEE_SAVED_VECTORS.get(number, 0)
             self.vectors[number] = lane[:count] + [fresh_secret(8) for _ in lane[count:]]
         self.flags = None
 

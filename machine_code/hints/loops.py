@@ -75,14 +75,13 @@ class Invariant:
             by = simple(end.general[name] - entry.general[name] - added[name])
             return by.as_signed_long() if z3.is_bv_value(by) else None
 
+        def is_same(number):
+            return all(a.eq(b) for a, b in zip(entry.vectors[number], end.vectors[number]))
+
         steps = {name: difference(name) for name in entry.general}
         self.added = added
         self.steps = {name: step for name, step in steps.items() if step is not None}
-        self.unchanged = [
-            number
-            for number, lane in entry.vectors.items()
-            if all(a.eq(b) for a, b in zip(lane, end.vectors[number]))
-        ]
+        self.unchanged = [number for number in entry.vectors if is_same(number)]
         self.is_clean = entry.is_clean and end.is_clean
         self.first_read, self.first_written = _least(end.reads), _least(end.writes)
         unknown = {added[name].decl().name() for name in added if name not in self.steps}
@@ -105,11 +104,8 @@ class Invariant:
     def _keep(self, rest, entry, facts):
         """Finds registers that a round changes only if it is the last one."""
         state, k = entry.copy(), fresh_public(64)
-        for fact in [
-            z3.ULE(k, self.bound(entry)),
-            *self.guards(k),
-            *[self._at(fact.term, k) for fact in facts],
-        ]:
+        guards = [z3.ULE(k, self.bound(entry)), *self.guards(k)]
+        for fact in [*guards, *[self._at(fact.term, k) for fact in facts]]:
             state.assume(fact)
         self.steps |= {name: 0 for name, same in rest.items() if state.is_valid(self._at(same, k))}
 

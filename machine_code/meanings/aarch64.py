@@ -113,8 +113,8 @@ class State(state.State):
     GENERAL = *(f"x{number}" for number in range(31)), "sp"
     ARGUMENTS = tuple(f"x{number}" for number in range(8))
     RESULTS, BOOL = ("x0", "x1"), 32
-    KEPT = "sp", *(f"x{number}" for number in range(19, 30))
-    KEPT_VECTORS = dict.fromkeys(range(8, 16), 8)
+    CALLEE_SAVED = "sp", *(f"x{number}" for number in range(19, 30))
+    CALLEE_SAVED_VECTORS = dict.fromkeys(range(8, 16), 8)
     IS_FIRST_SOURCE = False
 
     def enter(self):

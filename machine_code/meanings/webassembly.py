@@ -43,7 +43,7 @@ class State(state.State):
     GENERAL = ()
     ARGUMENTS = tuple(f"argument {index}" for index in range(7))
     RESULTS, BOOL = ("result",), 32
-    KEPT = ("global 0",)
+    CALLEE_SAVED = ("global 0",)
 
     def enter(self):
         module, given = self.code.object, len(self.contract.arguments)
@@ -93,7 +93,7 @@ class State(state.State):
         self.general[f"return {number}"] = back
 
     def leave_function(self):
-        """Gives where a function returns to."""
+        """Returns where a function returns to."""
         number = self.address // SPACE
         back = self.general.pop(f"return {number}")
         own = f"local {number}.", f"operand {number}."
@@ -151,7 +151,7 @@ class State(state.State):
 
 
 # What each does with the number of operands before it, its numbers, and where it leads; and the
-# operands that it takes, with how many it gives. Of these: i, an i32 of which the lower half
+# operands that it takes, with how many it leaves. Of these: i, an i32 of which the lower half
 # counts; n, a number; l, an i64; v, a vector.
 HANDLERS = {}
 EFFECTS = {

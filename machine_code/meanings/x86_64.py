@@ -10,7 +10,7 @@ import re
 import z3
 
 from execution import state
-from execution.terms import byte, fresh_public, joined, simple, split, word
+from execution.terms import byte, fresh_public, joined, simple, split
 from meanings.lanes import (
     ADD,
     AND,
@@ -115,7 +115,7 @@ class State(state.State):
     GENERAL = tuple(dict.fromkeys(name for name, _ in GENERAL.values()))
     ARGUMENTS = "rdi", "rsi", "rdx", "rcx", "r8", "r9"
     RESULTS, BOOL = ("rax", "rdx"), 8
-    KEPT = "rbx", "rbp", "r12", "r13", "r14", "r15"
+    CALLEE_SAVED = "rbx", "rbp", "r12", "r13", "r14", "r15"
     IS_FIRST_SOURCE = True  # the first operand is a source, too
 
     def enter(self):
@@ -127,7 +127,7 @@ class State(state.State):
         return popped(self)
 
     def returned(self):
-        require(self.top() == self.STACK + self.RETURN, "the stack pointer is not as before")
+        require(self.top() == self.STACK + self.RETURN, "the stack pointer is not preserved")
         super().returned()
         require(self.is_clean, "vzeroupper is missing")
 
@@ -210,7 +210,7 @@ def shift(function):
 
 
 def multiply(s, by):
-    require(by.size == 8, "another size")
+    require(by.size == 8, "an unsupported operand size")
     product = s.product(s.general["rax"], s.number(by))
     s.general["rax"] = simple(z3.Extract(63, 0, product))
     s.general["rdx"] = simple(z3.Extract(127, 64, product))
@@ -239,7 +239,7 @@ def pushed(s, lane):
 
 
 def push(s, o):
-    require(o.size == 8, "another size")
+    require(o.size == 8, "an unsupported operand size")
     pushed(s, s.lane(o))
 
 
@@ -250,12 +250,12 @@ def popped(s):
 
 
 def pop(s, o):
-    require(o.kind == "general" and o.size == 8, "another size")
+    require(o.kind == "general" and o.size == 8, "an unsupported operand size")
     s.general[o.name] = popped(s)
 
 
 def target(o):
-    require(o.kind == "number", "a jump to an address that is not fixed")
+    require(o.kind == "number", "a jump target that is not known")
     return o.value
 
 

@@ -14,7 +14,7 @@ LOCAL = {"const_hex_decoder_fail": ([4] * 5, []), "const_hex_kernel_read": ([4] 
 # What a module may have beside functions, data, globals and exports.
 OTHERS = (")", "(module", "(type", "(memory (;0;) 1 1)")
 Data = namedtuple("Data", "address content")
-# The sizes of what it takes, gives and keeps, and a line for each instruction.
+# The sizes of its parameters, results and locals, and a line for each instruction.
 Function = namedtuple("Function", "name address parameters results locals content")
 
 
@@ -66,13 +66,15 @@ def read(data):
     # Each part begins in a line with two spaces, and the instructions of a function follow.
     for part in re.split(r"\n  (?=\()", made.stdout.decode().rstrip().removesuffix(")")):
         _add(module, part if part.startswith("(data") else re.sub(r" *;;.*", "", part))
-    module.symbols |= {
-        name: function.address
-        for function in module.functions
-        for name, sizes in LOCAL.items()
-        if (function.parameters, function.results) == sizes
-    }
+    for function in module.functions:
+        _name_local(module, function)
     return module
+
+
+def _name_local(module, function):
+    for name, sizes in LOCAL.items():
+        if (function.parameters, function.results) == sizes:
+            module.symbols[name] = function.address
 
 
 def _add(module, part):
@@ -102,16 +104,21 @@ def _add(module, part):
         raise ValueError(f"a part of a module that is not known here: {part[:60]}")
 
 
+def _sizes(header, kind):
+    """Those of the parameters, the results or the locals."""
+    types = " ".join(re.findall(rf"\({kind}([^)]*)\)", header))
+    return [SIZES[type_] for type_ in types.split()]
+
+
+def _sizes(header, kind):
+    """Those of the parameters, the results or the locals."""
+    types = " ".join(re.findall(rf"\({kind}([^)]*)\)", header))
+    return [SIZES[type_] for type_ in types.split()]
+
+
 def _function(number, part):
     lines = [line.strip() for line in re.sub(r"\(;.*?;\)", "", part.removesuffix(")")).split("\n")]
     header = 1 + (len(lines) > 1 and lines[1].startswith("(local"))
-    sizes = [
-        [
-            SIZES[type_]
-            for types in re.findall(rf"\({kind}([^)]*)\)", " ".join(lines[:header]))
-            for type_ in types.split()
-        ]
-        for kind in ("param", "result", "local")
-    ]
+    sizes = [_sizes(" ".join(lines[:header]), kind) for kind in ("param", "result", "local")]
     # The end of a function returns.
     return Function(f"function {number}", SPACE * (number + 1), *sizes, [*lines[header:], "return"])

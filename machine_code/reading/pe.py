@@ -2,6 +2,8 @@
 kind."""
 
 import struct
+from collections import namedtuple
+from collections import namedtuple
 
 import pefile
 
@@ -13,10 +15,9 @@ MACHINES = {
 }
 IMAGE_REL_BASED_ABSOLUTE = pefile.RELOCATION_TYPE["IMAGE_REL_BASED_ABSOLUTE"]
 IMAGE_DIRECTORY_ENTRY_IAT = pefile.DIRECTORY_ENTRY["IMAGE_DIRECTORY_ENTRY_IAT"]
-IMAGE_SYM_CLASS_EXTERNAL, IMAGE_SYM_CLASS_STATIC = 2, 3
-SYMBOL = struct.Struct(
-    "<8sIhHBB"
-)  # IMAGE_SYMBOL: a name, a value, a section, a type, a class, and more entries
+CLASSES = 2, 3  # IMAGE_SYM_CLASS_EXTERNAL, IMAGE_SYM_CLASS_STATIC
+SYMBOL = struct.Struct("<8sIhHBB")
+ImageSymbol = namedtuple("ImageSymbol", "name value section type storage_class aux_count")
 
 
 def read(data):
@@ -52,11 +53,12 @@ def _symbols(data, file):
     first, count = file.FILE_HEADER.PointerToSymbolTable, file.FILE_HEADER.NumberOfSymbols
     strings, number = first + SYMBOL.size * count, 0
     while number < count:
-        name, value, section, _, kind, more = SYMBOL.unpack_from(data, first + SYMBOL.size * number)
+        symbol = ImageSymbol(*SYMBOL.unpack_from(data, first + SYMBOL.size * number))
+        name = symbol.name
         if name.startswith(bytes(4)):
             start = strings + int.from_bytes(name[4:], "little")
             name = data[start : data.index(b"\0", start)]
-        if section > 0 and kind in (IMAGE_SYM_CLASS_EXTERNAL, IMAGE_SYM_CLASS_STATIC):
-            address = file.sections[section - 1].VirtualAddress + value
+        if symbol.section > 0 and symbol.storage_class in CLASSES:
+            address = file.sections[symbol.section - 1].VirtualAddress + symbol.value
             yield name.rstrip(b"\0").decode(errors="replace"), address
-        number += 1 + more
+        number += 1 + symbol.aux_count

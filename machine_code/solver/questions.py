@@ -6,6 +6,8 @@ be left out, and so may be which constants these are: both only make a proof har
 among those that were made already.
 """
 
+import itertools
+
 import z3
 
 from solver import integers
@@ -143,15 +145,15 @@ def relevant(facts, goal, steps=None):
         return [fact.term for fact in facts if fact.names <= seen]
     while seen != before and steps != 0:
         before, steps = {*seen}, steps and steps - 1
-        seen |= {name for fact in facts if not before.isdisjoint(fact.names) for name in fact.names}
+        near = [fact.names for fact in facts if not before.isdisjoint(fact.names)]
+        seen = seen.union(*near)
     return [fact.term for fact in facts if not seen.isdisjoint(fact.names)]
 
 
 def _renamed(facts):
     """The facts with constants that are named in the order in which they occur."""
-    olds = [
-        _constants[name] for name in dict.fromkeys(name for fact in facts for name in names(fact))
-    ]
+    used = dict.fromkeys(itertools.chain(*map(names, facts)))
+    olds = [_constants[name] for name in used]
     new = [(old, z3.Const(f"x{number}", old.sort())) for number, old in enumerate(olds)]
     return [z3.simplify(z3.substitute(fact, *new)) for fact in facts]
 
@@ -223,10 +225,11 @@ def is_valid(facts, goal, steps=None):
     """Whether a goal follows from facts; perhaps from those alone that are so many steps from it,
     or nearer."""
     limits = (0, steps) if steps else (None,)
-    return all(
-        any(is_impossible([*relevant(facts, part, limit), z3.Not(part)]) for limit in limits)
-        for part in conjuncts(goal)
-    )
+
+    def follows(part):
+        return any(is_impossible([*relevant(facts, part, limit), z3.Not(part)]) for limit in limits)
+
+    return all(map(follows, conjuncts(goal)))
 
 
 def values(facts, term, most):

@@ -22,19 +22,12 @@ _tenths = {}
 def lemma(factor=FACTOR):
     """Conditions that contradict each other if and only if an upper half is always 8 tenths and
     less than 8 more."""
-    x, upper, lower, tenth, more = z3.Ints("x upper lower tenth more")
-    product = [
-        x * factor == upper * (1 << 64) + lower,
-        0 <= lower,
-        lower < 1 << 64,
-        upper == 8 * tenth + more,
-    ]
+    x, lower = z3.Ints("x lower")
+    tenth, more = z3.Ints("tenth more")
+    ranges = (x, 1 << 64), (lower, 1 << 64), (more, 8)
     return [
-        0 <= x,
-        x < 1 << 64,
-        *product,
-        0 <= more,
-        more < 8,
+        *[z3.And(0 <= number, number < limit) for number, limit in ranges],
+        x * factor == (8 * tenth + more) * (1 << 64) + lower,
         z3.Not(z3.And(10 * tenth <= x, x < 10 * tenth + 10)),
     ]
 

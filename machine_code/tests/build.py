@@ -113,14 +113,6 @@ def for_windows(folder):
     )
 
 
-def kernels_for_windows(folder):
-    """A DLL with the kernels of the Rust crate, by mingw."""
-    names = "coff", "x86_64_v2", "x86_64_v3", "dispatch", "end"
-    text = "".join((RUST / f"{name}.s").read_text() for name in names)
-    pathlib.Path(folder, "kernels.s").write_text(f".intel_syntax noprefix\n{text}")
-    return made("x86_64-w64-mingw32-gcc", "-shared", "kernels.s", folder=folder, name="made.dll")
-
-
 def for_windows_on_aarch64(folder):
     """A DLL with the C library, by lld-link."""
     sources = [str(ASM / f"{name}.S") for name in SOURCES[AARCH64]]

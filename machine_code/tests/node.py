@@ -133,16 +133,10 @@ class Concrete:
 
     def known(self, term):
         term = simple(term)
-        return (
-            term
-            if z3.is_bv_value(term)
-            else simple(
-                z3.substitute(
-                    term,
-                    *[(name, BYTES[self.before[address]]) for address, name in UNKNOWN.items()],
-                )
-            )
-        )
+        if z3.is_bv_value(term):
+            return term
+        values = [(name, BYTES[self.before[address]]) for address, name in UNKNOWN.items()]
+        return simple(z3.substitute(term, *values))
 
     def is_right(self):
         return all(z3.is_true(self.known(fact.term)) for fact in self.facts)
@@ -160,15 +154,11 @@ class Node:
 
     def __init__(self):
         code = Code(pathlib.Path(MODULE).read_bytes(), {None: webassembly}, "const_hex_encode", {})
-        texts = sorted(
-            {
-                i.text
-                for function in code.object.functions
-                for i in webassembly.instructions(code, function, None).values()
-                if i.mnemonic not in CONTROL
-            }
-        )
-        self.names = {text: f"f{number}" for number, text in enumerate(texts)}
+        texts = set()
+        for function in code.object.functions:
+            instructions = webassembly.instructions(code, function, None).values()
+            texts |= {i.text for i in instructions if i.mnemonic not in CONTROL}
+        self.names = {text: f"f{number}" for number, text in enumerate(sorted(texts))}
         functions = " ".join(_function(name, text) for text, name in self.names.items())
         self.names |= {name: name for name in re.findall(r'export "(\w+)"', FUNCTIONS)}
         text = f'(module (memory 1 1) (global (mut i32) (i32.const {SIZE})) (export "memory" (memory 0))'
@@ -184,18 +174,13 @@ class Node:
     def close(self):
         self.process.communicate()
 
-    def difference(self, text, seed):
-        """What differs between Node and the meaning after a run of a function on a random
-        memory."""
+    def differs(self, text, seed):
+        """Whether Node and the meaning differ after a run of a function on a random memory."""
         before = _memory(random.Random(seed), re.search(r"\.(load|store)", text))
         name = self.names[text]
         self.process.stdin.write(struct.pack("<Q", len(name)) + name.encode() + before)
         self.process.stdin.flush()
-        return (
-            "memory"
-            if self.process.stdout.read(SIZE) != self._by_the_meanings(name, before)
-            else None
-        )
+        return self.process.stdout.read(SIZE) != self._by_the_meanings(name, before)
 
     def _by_the_meanings(self, name, before):
         state = type("State", (Concrete, webassembly.State), {})()

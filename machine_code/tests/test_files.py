@@ -19,7 +19,6 @@ from build import (
 )
 from contracts.names import FUNCTIONS
 from execution import proofs
-from reading import library
 
 VERSIONS = "V1 { global: const_hex_*; local: *; };"
 UNSHARED = "V1 { global: const_hex_*; local: const_hex_check_raw; };"
@@ -149,12 +148,6 @@ def test_honest_builds_are_read(make, tmp_path):
     assert len(contracts) == (44 if file.machine == 62 else 36)
     assert all(file.code_at(file.symbols[name]) for name, _ in contracts)
     assert [file.is_kept(address) for address in file.choices] == [True] * (file.machine == 62)
-
-
-def test_a_dll_is_read(tmp_path):
-    file, contracts = proofs.functions_of(build.kernels_for_windows(tmp_path).read_bytes())
-    assert len(contracts) == 12
-    assert all(map(file.is_kept, file.choices)) and len(file.choices) == 1
 
 
 def test_a_program_for_avx2_alone_is_read():

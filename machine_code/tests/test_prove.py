@@ -37,7 +37,7 @@ LEFT_OUT = "; --call has left out"
 
 @pytest.fixture
 def prove(tmp_path, monkeypatch, capsys):
-    """Runs `prove` where each proof succeeds but that of one function; gives whether it fails, and
+    """Runs `prove` where each proof succeeds but that of one function; returns whether it fails, and
     what it prints."""
     script = types.ModuleType("prove")
     SourceFileLoader("prove", str(FOLDER / "prove")).exec_module(script)

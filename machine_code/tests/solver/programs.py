@@ -75,18 +75,21 @@ AFTER = """
     .section .text.helper, "ax"; helper: {helper} ret
 """
 PROGRAMS = {"check": CHECK, "fill_lower": FILL, "read": READ}
+
+
+def of_rust(name):
+    return [RUST / f"{part}.s" for part in ("elf", name, "end")]
+
+
 # What is committed: the files of each build, and the contracts of its functions.
 COMMITTED = {
-    **{
-        level: ([RUST / f"{part}.s" for part in ("elf", name, "end")], KERNELS)
-        for level, name in (("v2", "x86_64_v2"), ("v3", "x86_64_v3"), ("aarch64", "aarch64"))
-    },
-    "dispatch": ([RUST / "elf.s", RUST / "dispatch.s", RUST / "end.s"], CHOICES),
+    "v2": (of_rust("x86_64_v2"), KERNELS),
+    "v3": (of_rust("x86_64_v3"), KERNELS),
+    "aarch64": (of_rust("aarch64"), KERNELS),
+    "dispatch": (of_rust("dispatch"), CHOICES),
     "dispatch for AArch64": ([ASM / "dispatch.S"], OR_NULL),
-    **{
-        build: ([ASM / f"{build}.S"], (*FUNCTIONS, *MESSAGES))
-        for build in ("functions_x86_64", "functions_aarch64")
-    },
+    "functions_x86_64": ([ASM / "functions_x86_64.S"], (*FUNCTIONS, *MESSAGES)),
+    "functions_aarch64": ([ASM / "functions_aarch64.S"], (*FUNCTIONS, *MESSAGES)),
 }
 WASM, SEARCH = "wasm", "i32.store8 offset=5"
 
@@ -105,12 +108,16 @@ def program(level, call, **changes):
     )
 
 
+def lines_of(text):
+    """The lines of some text, each without spaces around it."""
+    return "\n".join(" ".join(line.split()) for line in text.splitlines()) + "\n\n"
+
+
 @functools.cache
 def text_of(build):
-    """The text of a build, each line without spaces around it."""
+    """The lines of a build."""
     if build != WASM:
-        text = "\n".join(path.read_text() for path in COMMITTED[build][0])
-        return "\n".join(" ".join(line.split()) for line in text.splitlines()) + "\n\n"
+        return lines_of("\n".join(path.read_text() for path in COMMITTED[build][0]))
     command = ["wasm2wat", "--no-debug-names", MODULE]
     text = subprocess.run(command, check=True, capture_output=True, text=True).stdout
     return re.sub(r"^ +| +$", "", re.sub(r"\(;@?\d+;\)|;; .*$", "", text, flags=re.M), flags=re.M)

@@ -63,9 +63,8 @@ def test_integers(monkeypatch):
     linear = 0
     for _ in range(150):
         values = [SOME.randrange(1 << BITS) for _ in NAMES]
-        facts = [
-            fact for fact in (z3.simplify(condition()) for _ in range(5)) if is_true(fact, values)
-        ]
+        facts = [z3.simplify(condition()) for _ in range(5)]
+        facts = [fact for fact in facts if is_true(fact, values)]
         goal = z3.simplify(condition())
         known = integers.Facts(questions.is_impossible_in_integers)
         for fact in [*facts, goal]:

@@ -31,7 +31,7 @@ def is_start(state, text, decoder):
     for offset, name in state.input.values():
         if offset.as_long() < len(text):
             solver.add(name == byte(text[offset.as_long()]))
-    for (region, offset), cell in state.first_cells.items():
+    for (region, offset), cell in state.entry.cells.items():
         if region == "decoder":
             solver.add(cell == byte(decoder[offset]))
     return solver.check() == z3.sat

@@ -1,6 +1,8 @@
 """The meanings of WebAssembly are compared with Node: each form that occurs in the module, and what
 branches."""
 
+import itertools
+
 import pytest
 from node import Node
 
@@ -16,7 +18,5 @@ def node():
 
 def test_each_form_of_an_instruction(node):
     assert len(node.names) > 60
-    seeds = range(STATES)
-    assert [
-        text for text in node.names for n in seeds if node.difference(text, f"{text} {n}")
-    ] == []
+    runs = itertools.product(node.names, range(STATES))
+    assert [text for text, n in runs if node.differs(text, f"{text} {n}")] == []

@@ -1,0 +1,110 @@
+"""What makes a file of each row of the tables in the folder mutants. A section's name has what is changed and, after
+a colon, what is wrong; its lines have the change, the name of a contract, if it is not the first one, and the message."""
+
+import configparser
+import functools
+import pathlib
+import re
+
+from build import ASM, RUST, linked, linked_module
+from contracts.dispatch import CHOICES, OR_NULL
+from contracts.kernels import KERNELS
+from contracts.library import FUNCTIONS, HEADER, Version
+from contracts.messages import MESSAGES
+from programs import COMMITTED, COMPILERS, WASM, edited, lines_of, program, text_of
+
+FOLDER = pathlib.Path(__file__).parent / "mutants"
+VERSION = re.search(r"#define CONST_HEX_VERSION (\d+)", HEADER.read_text())[1]
+FORM = """
+    .intel_syntax noprefix
+    .globl const_hex_version; const_hex_version: {0}; mov eax, {1}; ret
+    helper: ud2
+    .section .rodata; .balign 16; table: .skip 32
+    .data; kept: .byte 0
+"""
+FORM_ON_AARCH64 = """
+    .globl const_hex_version; const_hex_version: {0}; mov w0, #{1}; ret
+    .section .rodata; .balign 16; table: .skip 32
+    .section .text.other, "ax"; other: ret
+"""
+MESSAGE = """
+    .intel_syntax noprefix
+    .section .text.const_hex_error_message, "ax"; .globl const_hex_error_message
+    const_hex_error_message: {}; 9: ud2
+    .section .text.const_hex_message_write_ended, "ax"
+    const_hex_message_write_ended: ret
+    .section .rodata.text, "a"; text: .ascii "odd number of digits"; .skip 80
+"""
+# A variable of the program, of the same size, lies before the byte of the dispatcher.
+VARIABLE = ".bss\n.size choice, 1\nchoice: .zero 1\n"
+INCLUDED = '#include "../../rust/src/asm/dispatch.s"'
+# A function that asks whether all characters are digits, one after the other.
+MODULE = """(module (memory (export "memory") 1 1) (global (mut i32) (i32.const 4096))
+  (global i32 (i32.const 4800)) (export "__data_end" (global 1)) (export "__heap_base" (global 1)) {part}
+  (func (export "const_hex_check_raw") (param i32 i32) (result i32) (local i32 i32)
+    {start} block block local.get 1 i32.eqz br_if 0
+    loop
+      local.get 0 i32.load8_u local.tee 3 {character} i32.const 48 i32.sub i32.const 10 i32.lt_u
+      local.get 3 i32.const 32 i32.or i32.const 97 i32.sub i32.const 6 i32.lt_u i32.or i32.eqz br_if 2
+      local.get 0 i32.const 1 i32.add local.set 0
+      local.get 1 i32.const 1 i32.sub local.tee 1 {round} br_if 0
+    end end {end} i32.const 1 return end {invalid} i32.const 0)
+  (func (param i32) (result i32) local.get 0 i32.const 1 i32.add)
+  (data (i32.const 4096) "{data}"))"""
+PLACES = "part", "start", "character", "round", "end", "invalid"
+
+
+def functions(group, old="", new="", within=None):
+    build, _, call = group.rpartition(" ")
+    contracts = FUNCTIONS if build == WASM else COMMITTED[build][1]
+    return edited(build, within or call, old, new), call, contracts
+
+
+def programs(group, **changes):
+    level, call = group.split()
+    return program(level, call, **changes), call, KERNELS
+
+
+def forms(level, code):
+    contract = Version()
+    contract.level = level
+    template = FORM_ON_AARCH64 if level == "aarch64" else FORM
+    content = linked(template.format(code, VERSION), COMPILERS.get(level, "cc"))
+    return content, "version", [contract]
+
+
+def messages(call, code):
+    return linked(MESSAGE.format(code)), call, MESSAGES
+
+
+def dispatchers(group, old, new):
+    call, name = group.split(", ")
+    choices = [each for each in (*OR_NULL, *CHOICES) if (each.function, each.name) == (call, name)]
+    text = text_of("dispatch")
+    if not choices[0].passed:
+        of_rust = (RUST / "dispatch.s").read_text()
+        text = lines_of((ASM / "dispatch.S").read_text().replace(INCLUDED, of_rust))
+    old, new = (lines.replace("; ", "\n") for lines in (old, new))
+    assert old in text, old
+    return linked(VARIABLE + text.replace(old, new)), call, choices
+
+
+def modules(call, old="", new="", **changes):
+    text = MODULE
+    for before, after in zip(old.split("\n"), new.split("\n")):
+        assert before in text, before
+        text = text.replace(before, after) if before else text
+    places = dict.fromkeys(PLACES, "") | {"data": "\\00" * 600} | changes
+    return linked_module(text.format_map(places)), call, FUNCTIONS
+
+
+def rows():
+    """Of each row its name, what makes its file, its contract and its message, if it is wrong."""
+    for make in (functions, programs, forms, messages, dispatchers, modules):
+        table = configparser.RawConfigParser()
+        table.read(FOLDER / f"{make.__name__}.ini")
+        for section in table.sections():
+            changes = dict(table[section])
+            contract, message = changes.pop("contract", None), changes.pop("message", None)
+            group = section.partition(": ")[0]
+            yield section, functools.partial(make, group, **changes), contract, message

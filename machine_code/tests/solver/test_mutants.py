@@ -1,0 +1,32 @@
+"""Wrong code is rejected by the check that is meant, and right code that looks alike is proved.
+
+A row of the tables in the folder mutants runs alone by a part of its name:
+`/usr/bin/python3 -m pytest machine_code/tests/solver -k "digit of a table"`.
+"""
+
+import contextlib
+
+import mutants
+import pytest
+from contracts.functions import N
+from contracts.library import CheckRaw
+from programs import edited, prove
+from solver.questions import Rejected
+
+ROWS = [pytest.param(*row, id=name) for name, *row in mutants.rows()]
+
+
+@pytest.mark.parametrize("make, contract, message", ROWS)
+def test_mutant(make, contract, message):
+    is_wrong = pytest.raises((Rejected, ValueError), match=message) if message else None
+    with is_wrong or contextlib.nullcontext():
+        prove(*make(), contract)
+
+
+def test_a_start_that_is_missing():
+    class Empty(CheckRaw):
+        def cases(self, state):
+            return [state.branch(N == 0)]
+
+    with pytest.raises(Rejected, match="a start is missing"):
+        prove(edited("functions_x86_64", "check_raw", "", ""), "check_raw", contracts=[Empty()])
