@@ -73,14 +73,12 @@ fn readers_of_any_speed() {
             let mut reader = DecodeReader::new(Slow::new(text.as_bytes(), most, &[]));
             let (mut found, mut output) = (Vec::new(), vec![0; length]);
             assert_eq!(reader.read(&mut []).unwrap(), 0);
-            loop {
-                match reader.read(&mut output).unwrap() {
-                    0 => break,
-                    count => found.extend_from_slice(&output[..count]),
-                }
+            let mut count = 1;
+            while count > 0 {
+                count = reader.read(&mut output).unwrap();
+                found.extend_from_slice(&output[..count]);
             }
             assert!(found == bytes, "{most} at a time, into {length}");
-            assert_eq!(reader.read(&mut output).unwrap(), 0);
         }
     }
 }
@@ -186,28 +184,24 @@ fn a_writer_that_takes_nothing() {
     assert_eq!(writer.finish().err().unwrap().kind(), ErrorKind::WriteZero);
 }
 
-/// The other reader has the rest of its text, and the other writer what was flushed.
+/// The other reader has the rest of its text, and the other writer, which may have a buffer, what was flushed.
 #[test]
 fn the_other_reader_and_writer() {
     let text = "6b697769".repeat(10_000);
     let mut reader = DecodeReader::new(text.as_bytes());
     assert_eq!(reader.get_ref().len(), text.len());
     assert_eq!(reader.read(&mut [0; 4]).unwrap(), 4);
-    let left = reader.get_ref().len();
-    assert!(left < text.len() && text.ends_with(std::str::from_utf8(reader.into_inner()).unwrap()));
-    assert!(left > 0);
+    let left = reader.into_inner();
+    assert!((1..text.len()).contains(&left.len()) && text.as_bytes().ends_with(left));
 
-    let mut writer = EncodeWriter::new(Vec::new());
+    let mut writer = EncodeWriter::new(Slow::new(Vec::new(), 9, &[]));
     writer.write_all(b"ki").unwrap();
     writer.flush().unwrap();
     writer.write_all(b"wi").unwrap();
-    assert_eq!(writer.get_ref(), b"6b69");
-    assert_eq!(writer.into_inner(), b"6b69");
-
-    // The other writer may have a buffer, too.
-    let mut writer = EncodeWriter::new(Slow::new(Vec::new(), 9, &[]));
-    writer.flush().unwrap();
-    assert_eq!(writer.finish().unwrap().flushes, 2);
+    assert_eq!(writer.get_ref().inner, b"6b69");
+    let other = writer.into_inner();
+    assert_eq!((&other.inner[..], other.flushes), (&b"6b69"[..], 1));
+    assert_eq!(EncodeWriter::new(other).finish().unwrap().flushes, 2);
 }
 
 /// What waits is written when a writer is dropped.
