@@ -69,7 +69,7 @@
  * header, by the separate tool in machine_code: every function, on x86-64 with both kernels that it may call (for
  * SSE4.2 and for AVX2), for every length that an object can have and every position of a decoder. This is a proof
  * about the shared library as it is linked; a program that libconst_hex.a is linked into can be proved in the same
- * way. That this header says in prose what the contracts say is tested, by a model in C, and not proved.
+ * way. That this header says in prose what the contracts say is tested, by test vectors, and not proved.
  *
  * CONSTANT TIME
  *

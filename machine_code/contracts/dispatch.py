@@ -54,15 +54,15 @@ def for_this_cpu():
 class Dispatched(Function):
     """A function that calls another one, with its own arguments, and returns what that one does."""
 
-    level, is_in_module, ends = "dispatch", False, ("_nonnull",)
+    level = "dispatch"
+    is_in_module = False
+    ends = ("_nonnull",)
     is_unrolled = is_keeping = is_any_valid = True
 
     def __init__(self, function, parameters):
-        self.function, self.symbol, self.parameters = (
-            function,
-            f"const_hex_{function}",
-            parameters.split(),
-        )
+        self.function = function
+        self.symbol = f"const_hex_{function}"
+        self.parameters = parameters.split()
         self.arguments = [secret(f"argument_{name}", 64) for name in self.parameters]
         self.imported = {end: functools.partial(self.calls, end) for end in self.ends}
 
@@ -96,12 +96,10 @@ class Kernel(Dispatched):
     byte names; another thread may store it at any time. If it names none, the CPU is asked, and
     the byte is stored."""
 
-    is_called, ends, requires, builds = (
-        True,
-        ("_v2", "_v3"),
-        (reports(FEATURES_OF_V2),),
-        {"_v2": 2, "_v3": 3},
-    )
+    is_called = True
+    ends = ("_v2", "_v3")
+    requires = (reports(FEATURES_OF_V2),)
+    builds = {"_v2": 2, "_v3": 3}
 
     def prove_choice(self, state, end):
         number = self.builds[end]
@@ -127,9 +125,8 @@ class OfRust(Kernel):
 
     def __init__(self, function, parameters):
         super().__init__(function.removeprefix("kernel_"), f"{parameters} portable")
-        self.symbol, self.arguments[-1] = rf"const_hex_\d+_\d+_\d+_{self.function}", public(
-            "portable", 64
-        )
+        self.symbol = rf"const_hex_\d+_\d+_\d+_{self.function}"
+        self.arguments[-1] = public("portable", 64)
         self.passed = {"portable": functools.partial(self.calls, "portable")}
 
 
@@ -155,9 +152,8 @@ class OrNull(Dispatched):
         # The local error lies in the stack, above what belongs to the call, and may be anything
         # afterwards.
         state.prove(given & 7 == 0, "the local error is not aligned")
-        offset, lowest = given - state.regions["stack"].base, state.top() + state.frame(
-            len(self.arguments)
-        )
+        offset = given - state.regions["stack"].base
+        lowest = state.top() + state.frame(len(self.arguments))
         state.prove(
             z3.UGE(offset, lowest), "the local error is not above the arguments in the stack"
         )

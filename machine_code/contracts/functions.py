@@ -12,7 +12,9 @@ from execution.terms import byte, simple, word
 from solver.questions import public, require, secret
 
 N, INDEX = public("n", 64), public("index", 64)
-ODD_LENGTH, INVALID_LENGTH, INVALID_CHARACTER = 1, 2, 3
+ODD_LENGTH = 1
+INVALID_LENGTH = 2
+INVALID_CHARACTER = 3
 # The kind of an invalid character within the library, and what a decoder waits for after one.
 FOUND = FAILED = 2
 

@@ -28,7 +28,9 @@ from solver.questions import is_valid, require
 class Kernel(Function):
     """A function with a text of 2n characters or n bytes, and perhaps an output."""
 
-    is_called, name, imported = True, "any text", {}
+    is_called = True
+    name = "any text"
+    imported = {}
     # Each of the two has less than 2^63 bytes.
     requires = (z3.ULT(N, 1 << 62),)
     input_size, output_size = simple(2 * N), N
@@ -62,7 +64,9 @@ class Fill(Kernel):
     """fill_lower(bytes, n, text), or fill_upper: the text has the two digits of each byte. There is
     no result."""
 
-    is_any_valid, name, arguments = True, "any bytes", (base("input"), N, base("output"))
+    is_any_valid = True
+    name = "any bytes"
+    arguments = (base("input"), N, base("output"))
     input_size, output_size = N, simple(2 * N)
 
     def __init__(self, is_upper):

@@ -43,12 +43,13 @@ from execution.terms import byte, fresh_secret, joined, simple, split, word
 from solver.questions import names, public, require
 
 FLAGS, SIZE = public("flags", 32), public("size", 64)
-UPPER, PREFIX, NO_NUL = 1, 2, 4
+UPPER = 1
+PREFIX = 2
+NO_NUL = 4
 TEXT = Region("input", N)
 # By how many bytes a size_t has.
-ERROR, WRITTEN = lambda size: Region("error", word(8 + size), size), lambda size: Region(
-    "written", word(size), size
-)
+ERROR = lambda size: Region("error", word(8 + size), size)
+WRITTEN = lambda size: Region("written", word(size), size)
 DECODER = lambda size: Region("decoder", word(2 * size), size)
 
 
@@ -95,7 +96,9 @@ class EncodedSize(Exported):
 class Encode(Exported):
     """encode(bytes, bytes_length, text, text_size, flags), for some flags, or all unknown ones."""
 
-    function, regions, is_any_valid = "encode", (Region("input", N), Region("output", SIZE)), True
+    function = "encode"
+    regions = (Region("input", N), Region("output", SIZE))
+    is_any_valid = True
     empty = ("input", N), ("output", SIZE)
 
     def __init__(self, flags):
@@ -151,7 +154,10 @@ class Encode(Exported):
 class CheckRaw(CheckKernel):
     """check_raw(text, length): whether all characters are digits."""
 
-    is_called, imported, regions, empty = False, None, (TEXT,), (("input", N),)
+    is_called = False
+    imported = None
+    regions = (TEXT,)
+    empty = (("input", N),)
     function, symbol = "check_raw", "const_hex_check_raw"
 
 
@@ -160,7 +166,9 @@ class FirstInvalid(Function):
     there is none."""
 
     is_called = is_local = is_declassified = True
-    symbol, function, name = "const_hex_body_locate_invalid", "locate_invalid", "any text"
+    symbol = "const_hex_body_locate_invalid"
+    function = "locate_invalid"
+    name = "any text"
     requires = (z3.ULT(N, 1 << 63),)
     regions, arguments = (TEXT,), (base("input"), N)
 
@@ -178,7 +186,9 @@ class Text(Exported):
     """A function that returns true for a text of digits, whose bytes it writes if it has an output,
     and false for another one."""
 
-    name, empty, requires = "any text", (("input", N),), (z3.ULT(N, 1 << 63),)
+    name = "any text"
+    empty = (("input", N),)
+    requires = (z3.ULT(N, 1 << 63),)
 
     def cases(self, state):
         return with_prefix_or_without(state)
@@ -234,7 +244,9 @@ class Text(Exported):
 class Check(Text):
     """check(text, length, error): whether a text can be decoded."""
 
-    function, regions, arguments = "check", (TEXT, ERROR), (base("input"), N, base("error"))
+    function = "check"
+    regions = (TEXT, ERROR)
+    arguments = (base("input"), N, base("error"))
 
 
 class DecodeExact(Text):
@@ -256,7 +268,9 @@ class Decode(Text):
     """decode(text, length, bytes, bytes_size, written, error): the same, in a buffer that may be
     larger."""
 
-    function, regions, empty = "decode", (*DecodeExact.regions, WRITTEN), DecodeExact.empty
+    function = "decode"
+    regions = (*DecodeExact.regions, WRITTEN)
+    empty = DecodeExact.empty
     arguments = base("input"), N, base("output"), SIZE, base("written"), base("error")
 
     def errors(self, state):
@@ -270,7 +284,9 @@ class DecoderFinish(Exported):
     """decoder_finish(decoder, error): whether no digit waits for its second half, and there was no
     error."""
 
-    function, name, arguments = "decoder_finish", "any decoder", (base("decoder"), base("error"))
+    function = "decoder_finish"
+    name = "any decoder"
+    arguments = (base("decoder"), base("error"))
     regions = lambda size: Region("decoder", word(2 * size), size, is_writable=False), ERROR
 
     def cases(self, state):
@@ -310,7 +326,9 @@ class DecoderUpdate(Text):
     """decoder_update(decoder, text, length, bytes, bytes_size, written, error): the bytes of a
     chunk's digits, with the one before that waits for its second half."""
 
-    function, name, parts = "decoder_update", "every decoder and chunk", 6
+    function = "decoder_update"
+    name = "every decoder and chunk"
+    parts = 6
     regions = DECODER, TEXT, Region("output", SIZE), WRITTEN, ERROR
     arguments = (
         base("decoder"),
@@ -397,7 +415,10 @@ class DecoderUpdate(Text):
 class ChangedDecoder(DecoderUpdate):
     """The same with a decoder that a program has changed: it is safe, and may do anything else."""
 
-    name, parts, is_declassified, is_in_module = "a decoder that was changed", 1, True, False
+    name = "a decoder that was changed"
+    parts = 1
+    is_declassified = True
+    is_in_module = False
 
     def is_for(self, state):
         return z3.Not(super().is_for(state))
@@ -416,7 +437,9 @@ class DecoderFail(FirstInvalid):
     """decoder_fail(result, decoder, before, text, length), of a chunk, before which come some
     characters: the decoder moves to the invalid one, and keeps the error."""
 
-    symbol, function, name = "const_hex_decoder_fail", "decoder_fail", "every decoder and chunk"
+    symbol = "const_hex_decoder_fail"
+    function = "decoder_fail"
+    name = "every decoder and chunk"
     before = public("before", 64)
     regions = (
         *[lambda size, name=name: Region(name, word(2 * size)) for name in ("result", "decoder")],

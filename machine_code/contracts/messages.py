@@ -17,11 +17,9 @@ TEXTS = {
     4: b"out of memory",
 }
 ESCAPES = {ord("'"): "\\'", ord("\\"): "\\\\", 0: "\\0", 9: "\\t", 10: "\\n", 13: "\\r"}
-KIND, CHARACTER, POSITION = (
-    secret("error_kind", 32),
-    secret("error_character", 32),
-    secret("error_position", 64),
-)
+KIND = secret("error_kind", 32)
+CHARACTER = secret("error_character", 32)
+POSITION = secret("error_position", 64)
 SIZE = secret("message_size", 64)
 MOST = 64  # the greatest length of a text that is written
 
@@ -84,7 +82,9 @@ class Ended(Function):
     """A function that writes a text, or as much of it as fits, and a NUL to its output, and returns
     how many bytes stand before the NUL. It writes nothing to an output of size 0."""
 
-    is_declassified, is_unrolled, near = True, True, 2
+    is_declassified = True
+    is_unrolled = True
+    near = 2
 
     def store(self, state, offset, lane):
         (offset,) = values(state.facts, offset, 1)
@@ -108,12 +108,11 @@ class WriteEnded(Ended):
     """message_write_ended(source, length, output, size): the text is the source."""
 
     is_called = is_local = True
-    function, name, symbol = (
-        "write_ended",
-        "every source of up to 64 bytes",
-        "const_hex_message_write_ended",
-    )
-    regions, arguments = (Region("input", N), Region("output", SIZE)), (
+    function = "write_ended"
+    name = "every source of up to 64 bytes"
+    symbol = "const_hex_message_write_ended"
+    regions = (Region("input", N), Region("output", SIZE))
+    arguments = (
         base("input"),
         N,
         base("output"),
@@ -139,7 +138,9 @@ class WriteEnded(Ended):
 class ErrorMessage(Ended):
     """error_message(error, message, message_size): the text is the message for the error."""
 
-    function, name, symbol = "error_message", "every error", "const_hex_error_message"
+    function = "error_message"
+    name = "every error"
+    symbol = "const_hex_error_message"
     regions = Region("error", word(16), 8, is_writable=False), Region("output", SIZE)
     # An output of size 0 may have any address.
     arguments = base("error"), z3.If(SIZE == 0, secret("any", 64), base("output")), SIZE

@@ -19,10 +19,8 @@ class Code:
 
     def __init__(self, content, processors, symbol, effects, level=None):
         self.object = library.read(content)
-        self.processor, self.level = (
-            processors[self.object.machine],
-            level or symbol.rpartition("_")[2],
-        )
+        self.processor = processors[self.object.machine]
+        self.level = level or symbol.rpartition("_")[2]
         self.start, self.kept = self.object.symbols[symbol], None
         self.callees = {
             self.object.symbols[name]: effect

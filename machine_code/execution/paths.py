@@ -84,12 +84,10 @@ class Loop:
         # What was written before the loop stays written.
         state.writes = [*state.writes, (word(0), self.written)]
         state.digits = dict.fromkeys(state.reads, True)
-        state.flags, state.steps, state.loops, state.loop = (
-            None,
-            0,
-            state.loops | {state.address: self},
-            self,
-        )
+        state.flags = None
+        state.steps = 0
+        state.loops = state.loops | {state.address: self}
+        state.loop = self
         state.is_clean = self.is_clean
         return state
 
@@ -107,7 +105,7 @@ def step(code, state):
         instruction.mnemonic in code.processor.HANDLERS, "an instruction without a meaning here"
     )
     state.next = instruction.address + instruction.size
-    to = code.processor.HANDLERS[instruction.mnemonic](state, instruction)
+    to = code.processor.HANDLERS[instruction.mnemonic](state, *instruction.operands)
     state.drop_below()
     if isinstance(to, Branch):
         return [*branches(state, to)]

@@ -37,7 +37,10 @@ class Region:
     """
 
     def __init__(self, name, size, align=1, data=None, is_writable=True):
-        self.name, self.size, self.align, self.data = name, size, align, data
+        self.name = name
+        self.size = size
+        self.align = align
+        self.data = data
         self.base = public(name, 64)
         self.is_writable = is_writable and data is None and name != "input"
         self.is_object = data is None and name not in ("input", "output", "kept")
@@ -103,7 +106,10 @@ class State:
     def start(self, code, contract, address, regions, arguments):
         """Before the first instruction of a function, nothing is known of registers but the
         arguments. A function that others call by its contract has less of the stack."""
-        self.code, self.contract, self.address, self.near = code, contract, address, contract.near
+        self.code = code
+        self.contract = contract
+        self.address = address
+        self.near = contract.near
         self.is_declassified = contract.is_declassified
         self.STACK, self.STACK_OF_CALLED = contract.stacks(self)
         on_stack = arguments[len(self.ARGUMENTS) :]
@@ -204,6 +210,11 @@ class State:
         return simple(z3.ZeroExt(64, a) * z3.ZeroExt(64, b))
 
     # Memory
+    def address_of(self, o):
+        """The address that an operand has: registers by their scales, and a number."""
+        terms = [self.general[name] * scale for name, scale in o.terms]
+        return simple(sum(terms, word(o.offset)))
+
     def _place(self, address, count, aligned):
         """The region of an access, and its offset."""
         address = simple(address)
@@ -373,7 +384,9 @@ class State:
         """This state where a part of the input has digits alone, or None if it can't: what is known
         to be no digit lies elsewhere, and what is known to lie in the part is a digit, which
         only some callers ask."""
-        other, offset, count = self.copy(), simple(offset), simple(count)
+        other = self.copy()
+        offset = simple(offset)
+        count = simple(count)
         other.reads.append((offset, count))
         other.digits[offset, count] = True
         for index, character in self.input.values():

@@ -36,7 +36,9 @@ def follows(i):
 
 def loop_headers(code, start):
     """The targets of edges back to an instruction that is being visited, in calls, too."""
-    targets, done, work = set(), set(), [(start, frozenset())]
+    targets = set()
+    done = set()
+    work = [(start, frozenset())]
     while work:
         address, above = work.pop()
         targets |= {address} & above
@@ -74,9 +76,8 @@ class Invariant:
             return by.as_signed_long() if z3.is_bv_value(by) else None
 
         steps = {name: difference(name) for name in entry.general}
-        self.added, self.steps = added, {
-            name: step for name, step in steps.items() if step is not None
-        }
+        self.added = added
+        self.steps = {name: step for name, step in steps.items() if step is not None}
         self.unchanged = [
             number
             for number, lane in entry.vectors.items()

@@ -17,16 +17,22 @@ from meanings.lanes import (
     ADD,
     AND,
     MINIMUM,
+    MULTIPLY,
     OR,
+    SHIFT_LEFT,
     SUBTRACT,
     SUBTRACT_SATURATED,
     XOR,
+    Operand,
     bytes_of,
     conditions,
     difference_flags,
     each,
+    general,
     holds,
+    jump_if,
     logic_flags,
+    set_if,
     sum_flags,
     units,
 )
@@ -41,53 +47,36 @@ SIZES = {"b": 1, "h": 2, "s": 4, "d": 8, "q": 16}
 NUMBER = r"(?!18\b)\d+"
 
 
-class Operand:
+def _operand(text):
     """A register of so many bytes, of which a vector has lanes; an element of a vector; a number;
     an address; how another operand is shifted; or a condition."""
-
-    def __init__(self, text):
-        self.text, self.lane, self.size = text, None, None
-        if match := re.fullmatch(rf"([xw])({NUMBER}|zr)|(w?sp)", text):
-            self.kind, self.name, self.size = (
-                "general",
-                match[3] and "sp" or f"x{match[2]}",
-                4 if text[0] == "w" else 8,
-            )
-        elif match := re.fullmatch(r"([bhsdq])(\d+)", text):
-            self.kind, self.name, self.size = "vector", int(match[2]), SIZES[match[1]]
-        elif match := re.fullmatch(r"\{?v(\d+)\.(\d+)([bhsd])\}?", text):
-            self.kind, self.name, self.lane = "vector", int(match[1]), SIZES[match[3]]
-            self.size = int(match[2]) * self.lane
-        elif match := re.fullmatch(r"\{?v(\d+)\.([bhsd])\}?\[(\d+)\]", text):
-            self.kind, self.name, self.size = "element", int(match[1]), SIZES[match[2]]
-            self.first = int(match[3]) * self.size
-        elif match := re.fullmatch(rf"\[(x{NUMBER}|sp)(?:, (?:#(-?\d+)|(x{NUMBER})))?\](!?)", text):
-            self.kind, self.base, self.offset, self.index = (
-                "memory",
-                match[1],
-                int(match[2] or 0),
-                match[3],
-            )
-            self.is_moved, self.after = bool(match[4]), None
-        elif match := re.fullmatch(r"(lsl|lsr) #(\d+)|(uxtw)", text):
-            self.kind, self.how, self.count = (
-                "shift",
-                match[1] or match[3],
-                match[2] and int(match[2]),
-            )
-        elif text in CONDITIONS:
-            self.kind = "condition"
-        else:
-            self.kind, self.value = "number", int(
-                text.removeprefix("#"), 0 if text.startswith("#") else 16
-            )
+    if match := re.fullmatch(rf"([xw])({NUMBER}|zr)|(w?sp)", text):
+        name = "sp" if match[3] else f"x{match[2]}"
+        return Operand("general", 4 if text[0] == "w" else 8, name)
+    if match := re.fullmatch(r"([bhsdq])(\d+)", text):
+        return Operand("vector", SIZES[match[1]], int(match[2]))
+    if match := re.fullmatch(r"\{?v(\d+)\.(\d+)([bhsd])\}?", text):
+        lane = SIZES[match[3]]
+        return Operand("vector", int(match[2]) * lane, int(match[1]), lane=lane)
+    if match := re.fullmatch(r"\{?v(\d+)\.([bhsd])\}?\[(\d+)\]", text):
+        size = SIZES[match[2]]
+        return Operand("element", size, int(match[1]), first=int(match[3]) * size)
+    if match := re.fullmatch(rf"\[(x{NUMBER}|sp)(?:, (?:#(-?\d+)|(x{NUMBER})))?\](!?)", text):
+        terms = [(name, 1) for name in (match[1], match[3]) if name]
+        return Operand("memory", terms=terms, offset=int(match[2] or 0), is_moved=bool(match[4]))
+    if match := re.fullmatch(r"(lsl|lsr) #(\d+)|(uxtw)", text):
+        return Operand("shift", name=match[1] or match[3], value=int(match[2] or 0))
+    if text in CONDITIONS:
+        return Operand("condition", name=text)
+    number = text.removeprefix("#")
+    return Operand("number", value=int(number, 16 if number == text else 0))
 
 
 def _operands(text):
     """Those of an instruction. What stands after an address is added to its base afterwards."""
     # Two registers in braces, which are loaded or stored, are two operands.
     operands = [
-        Operand(part.strip())
+        _operand(part.strip())
         for part in OPERAND.findall(re.sub(r"^{(.*?), (.*?)}", r"{\1}, {\2}", text))
     ]
     if len(operands) > 1 and operands[-2].kind == "memory":
@@ -119,18 +108,18 @@ class State(state.State):
 
     TOP = "sp"
     STACK, STACK_OF_CALLED, STACK_OF_DISPATCH = 2000, 64, 2032
-    RETURN, VECTORS, WIDTH = 0, 32, 16
-    GENERAL = tuple(f"x{number}" for number in range(31)) + ("sp",)
-    ARGUMENTS, RESULTS, BOOL = tuple(f"x{number}" for number in range(8)), ("x0", "x1"), 32
-    KEPT, KEPT_VECTORS = ("sp", *(f"x{number}" for number in range(19, 30))), dict.fromkeys(
-        range(8, 16), 8
-    )
+    RETURN = 0
+    VECTORS, WIDTH = 32, 16
+    GENERAL = *(f"x{number}" for number in range(31)), "sp"
+    ARGUMENTS = tuple(f"x{number}" for number in range(8))
+    RESULTS, BOOL = ("x0", "x1"), 32
+    KEPT = "sp", *(f"x{number}" for number in range(19, 30))
+    KEPT_VECTORS = dict.fromkeys(range(8, 16), 8)
+    IS_FIRST_SOURCE = False
 
     def enter(self):
-        self.general |= {
-            "sp": simple(self.regions["stack"].base + self.STACK),
-            "x30": public("return", 64),
-        }
+        self.general["sp"] = simple(self.regions["stack"].base + self.STACK)
+        self.general["x30"] = public("return", 64)
 
     def return_address(self):
         return self.general["x30"]
@@ -149,22 +138,18 @@ class State(state.State):
         if operands[-1].kind != "shift":
             return [self.number(o, size) for o in operands]
         *operands, last, shifted = operands
-        if size == 8 and last.size == 4 and shifted.how == "uxtw":
+        if size == 8 and last.size == 4 and shifted.name == "uxtw":
             number = z3.ZeroExt(32, self.number(last))
         else:
-            require(shifted.how in SHIFTS, "a shift")
-            number = SHIFTS[shifted.how](self.number(last, size), shifted.count)
+            require(shifted.name in SHIFTS, "a shift")
+            number = SHIFTS[shifted.name](self.number(last, size), shifted.value)
         return [*self.numbers(operands, size), simple(number)]
 
     def lane(self, o):
         """The bytes of any register."""
         if o.kind == "general":
             return split(self.number(o))
-        return (
-            self.vectors[o.name][o.first :][: o.size]
-            if o.kind == "element"
-            else self.vectors[o.name][: o.size]
-        )
+        return self.vectors[o.name][o.first or 0 :][: o.size]
 
     def put(self, o, term):
         if o.name != "xzr":
@@ -175,15 +160,13 @@ class State(state.State):
         element."""
         if o.kind == "general":
             return self.put(o, joined(lane))
-        old = self.vectors[o.name]
-        self.vectors[o.name] = (
-            old[: o.first] + lane + old[o.first + o.size :]
-            if o.kind == "element"
-            else lane + [byte(0)] * (16 - o.size)
-        )
+        if o.kind == "element":
+            old = self.vectors[o.name]
+            lane = old[: o.first] + lane + old[o.first + o.size :]
+        self.vectors[o.name] = lane + [byte(0)] * (16 - len(lane))
 
 
-SHIFTS = {"lsl": lambda a, by: a * (1 << by), "lsr": z3.LShR}
+SHIFTS = {"lsl": SHIFT_LEFT, "lsr": z3.LShR}
 CONDITIONS = conditions(
     {
         "eq": lambda flag: flag("z"),
@@ -201,118 +184,82 @@ def comparison_flags(a, b):
 
 
 # General instructions
-def general(function, flags=None, is_kept=True):
-    def handler(s, i):
-        given = s.numbers(i.operands[is_kept:], i.operands[0].size)
-        s.flags = flags(*given) if flags else s.flags
-        if is_kept:
-            s.put(i.operands[0], simple(function(*given)))
-
-    return handler
+def upper_product(s, to, one, other):
+    s.put(to, simple(z3.Extract(127, 64, s.product(s.number(one), s.number(other)))))
 
 
-def upper_product(s, i):
-    to, *others = i.operands
-    s.put(to, simple(z3.Extract(127, 64, s.product(*s.numbers(others, to.size)))))
-
-
-def move_part(s, i):
+def move_part(s, to, number, *by):
     """Writes 16 bits, and keeps the others."""
-    to, number, *by = i.operands
-    bit = by[0].count if by else 0
+    bit = by[0].value if by else 0
     s.put(to, simple(s.number(to) & ~(0xFFFF << bit) | number.value << bit))
 
 
-def insert_bits(s, i):
-    """bfxil: bits from anywhere in a register replace the lowest of another. bfi: the lowest
-    replace bits anywhere."""
-    to, by, lowest, count = i.operands
+def insert_bits(s, to, at, by, low, count):
+    """So many bits of a register, from the lowest one on, replace those of another at a bit."""
     require(count.value < 8 * to.size, "all bits")
-    low, at = (lowest.value, 0) if i.mnemonic == "bfxil" else (0, lowest.value)
     kept = z3.Extract(8 * to.size - 1, count.value, z3.RotateRight(s.number(to), at))
     new = z3.Extract(low + count.value - 1, low, s.number(by, to.size))
     s.put(to, simple(z3.RotateLeft(z3.Concat(kept, new), at)))
 
 
-def shift(s, i):
-    to, by, count = i.operands
-    require(count.kind == "number", "a shift")
-    s.put(to, simple(SHIFTS[i.mnemonic](s.number(by, to.size), count.value)))
-
-
-def select(function):
-    def handler(s, i):
-        to, one, other, name = i.operands
-        a, b = s.number(one, to.size), s.number(other, to.size)
-        s.put(to, s.either(holds(s, CONDITIONS[name.text]), a, simple(function(b)), is_asked=True))
+def shift(function):
+    def handler(s, to, by, count):
+        require(count.kind == "number", "a shift")
+        s.put(to, simple(function(s.number(by, to.size), count.value)))
 
     return handler
 
 
-def set_if(s, i):
-    to, name = i.operands
-    s.put(
-        to,
-        s.either(
-            holds(s, CONDITIONS[name.text]),
-            z3.BitVecVal(1, 8 * to.size),
-            z3.BitVecVal(0, 8 * to.size),
-        ),
-    )
+def select(function):
+    def handler(s, to, one, other, name):
+        a, b = s.number(one, to.size), s.number(other, to.size)
+        s.put(to, s.either(holds(s, CONDITIONS[name.name]), a, simple(function(b)), is_asked=True))
+
+    return handler
 
 
 # Vectors
 def same(*vectors):
     """The vectors have the same lanes."""
     require(all(o.lane for o in vectors), "vectors are needed")
-    return vectors
 
 
 def by_units(function):
-    def handler(s, i):
-        to, one, other = same(*i.operands)
+    def handler(s, to, one, other):
+        same(to, one, other)
         s.put_lane(to, each(function, to.lane, s.lane(one), s.lane(other)))
 
     return handler
 
 
 def either(of_general, of_vectors):
-    return lambda s, i: (of_general if i.operands[0].kind == "general" else of_vectors)(s, i)
+    return lambda s, to, *sources: (of_general if to.kind == "general" else of_vectors)(
+        s, to, *sources
+    )
 
 
 def shifted(function):
-    def handler(s, i):
-        *vectors, by = i.operands
-        to, one = same(*vectors)
+    def handler(s, to, one, by):
+        same(to, one)
         s.put_lane(to, each(lambda a: function(a, by.value), to.lane, s.lane(one)))
 
     return handler
 
 
-def shift_left_and_insert(s, i):
+def shift_left_and_insert(s, to, one, by):
     """The lower bits of each number stay as they were."""
-    *vectors, by = i.operands
-    to, one = same(*vectors)
-    s.put_lane(
-        to,
-        each(
-            lambda a, old: a << by.value | old & (1 << by.value) - 1,
-            to.lane,
-            s.lane(one),
-            s.lane(to),
-        ),
-    )
+    same(to, one)
+    inserted = lambda a, old: a << by.value | old & (1 << by.value) - 1
+    s.put_lane(to, each(inserted, to.lane, s.lane(one), s.lane(to)))
 
 
-def constant(s, i):
-    to, number = i.operands
+def constant(s, to, number):
     require(to.lane, "a vector is needed")
     s.put_lane(to, split(z3.BitVecVal(number.value, 8 * to.lane)) * (to.size // to.lane))
 
 
-def move(s, i):
+def move(s, to, by):
     """Between registers of any kind. What is above in a register is cleared."""
-    to, by = i.operands
     if by.kind == "number" or by.kind == to.kind == "general":
         return s.put(to, s.number(by, to.size))
     # An element comes from the lower bytes of a register, and goes into a register that may be
@@ -320,18 +267,20 @@ def move(s, i):
     s.put_lane(to, s.lane(by)[: to.size] + [byte(0)] * (to.size - by.size))
 
 
-def duplicate(s, i):
-    to, by = i.operands
+def duplicate(s, to, by):
     s.put_lane(to, s.lane(by)[: to.lane] * (to.size // to.lane))
 
 
-def narrow(s, i):
-    to, by = i.operands
+def reverse_pairs(s, to, by):
+    """Each two bytes by turns."""
+    s.put_lane(to, each(lambda a: z3.RotateLeft(a, 8), 2, s.lane(by)))
+
+
+def narrow(s, to, by):
     s.put_lane(to, bytes_of(z3.Extract(8 * to.lane - 1, 0, a) for a in units(s.lane(by), by.lane)))
 
 
-def widen(s, i):
-    to, by = i.operands
+def widen(s, to, by):
     numbers = units(s.lane(by), by.lane)
     s.put_lane(to, bytes_of(z3.ZeroExt(8 * (to.lane - by.lane), a) for a in numbers))
 
@@ -339,11 +288,10 @@ def widen(s, i):
 def mixed(function):
     """An instruction that takes numbers of two vectors."""
 
-    def handler(s, i):
-        to, one, other = same(*i.operands)
-        s.put_lane(
-            to, bytes_of(function(units(s.lane(one), to.lane), units(s.lane(other), to.lane)))
-        )
+    def handler(s, to, one, other):
+        same(to, one, other)
+        a, b = units(s.lane(one), to.lane), units(s.lane(other), to.lane)
+        s.put_lane(to, bytes_of(function(a, b)))
 
     return handler
 
@@ -353,86 +301,90 @@ def pairs(a, b):
     return [number for pair in zip(a, b) for number in pair]
 
 
-def extract(s, i):
-    *vectors, first = i.operands
-    to, one, other = same(*vectors)
+def extract(s, to, one, other, first):
+    same(to, one, other)
     s.put_lane(to, (s.lane(one) + s.lane(other))[first.value :][: to.size])
 
 
-def look_up(s, i):
-    to, table, by = i.operands
+def look_up(s, to, table, by):
     entries = s.lane(table)
-    s.put_lane(
-        to,
-        [simple(z3.If(z3.ULT(index, 16), chosen(entries, index), byte(0))) for index in s.lane(by)],
-    )
+    found = [z3.If(z3.ULT(i, 16), chosen(entries, i), byte(0)) for i in s.lane(by)]
+    s.put_lane(to, [*map(simple, found)])
 
 
 # Jumps
-def jump(s, i):
-    if i.mnemonic == "bl":
-        s.general["x30"] = s.return_to(s.next)
-    return i.operands[0].value
+def call(s, to):
+    s.general["x30"] = s.return_to(s.next)
+    return to.value
 
 
-def ret(s, i):
-    require(not i.operands, "a return by another register")
+def ret(s, *operands):
+    require(not operands, "a return by another register")
     return s.general["x30"]
 
 
-def jump_if(s, i):
-    return Branch(holds(s, CONDITIONS[i.mnemonic[2:]]), i.operands[0].value)
+def jump_if_bit(is_set):
+    def handler(s, by, bit, to):
+        return Branch(simple(z3.Extract(bit.value, bit.value, s.number(by)) == is_set), to.value)
 
-
-def jump_if_bit(s, i):
-    by, bit, to = i.operands
-    return Branch(
-        simple(z3.Extract(bit.value, bit.value, s.number(by)) == int(i.mnemonic == "tbnz")),
-        to.value,
-    )
-
-
-def jump_if_zero(s, i):
-    is_zero = simple(s.number(i.operands[0]) == 0)
-    return Branch(is_zero if i.mnemonic == "cbz" else simple(z3.Not(is_zero)), i.operands[1].value)
+    return handler
 
 
 # Loads and stores
-LOADS = "ldr", "ldur", "ldp", "ld1", "ld1r", "ldrb", "ldurb", "ldrh"
-STORES = "str", "stur", "stp", "st1", "st2", "strb", "sturb", "strh"
-
-
-def accessed(s, i):
-    """The registers of a load or store, how many bytes are of each, the address, and what the base
-    is afterwards."""
-    *registers, o = i.operands
+def accessed(s, o):
+    """The address of a load or store, and what its base is afterwards."""
     require(o.kind == "memory", "an address of another form")
-    base = s.general[o.base]
-    if o.base == "sp":
-        s.prove(base & 15 == 0, "the stack pointer is not aligned")
-    address = simple(base + (s.general[o.index] if o.index else o.offset))
-    moved = simple(base + s.number(o.after, 8)) if o.after else address if o.is_moved else base
-    size = registers[0].lane if i.mnemonic == "ld1r" else registers[0].size
-    return registers, SIZES.get(i.mnemonic[-1], size), address, {o.base: moved}
+    name = o.terms[0][0]
+    if name == "sp":
+        s.prove(s.general["sp"] & 15 == 0, "the stack pointer is not aligned")
+    address, base = s.address_of(o), s.general[name]
+    if o.after:
+        base = simple(base + s.number(o.after, 8))
+    elif o.is_moved:
+        base = address
+    return address, {name: base}
 
 
-def load(s, i):
-    targets, size, address, moved = accessed(s, i)
-    lane = s.load(address, size * len(targets))
+def load(size=None):
+    """A load of so many bytes into each register, or of as many as it has."""
+
+    def handler(s, *operands):
+        *targets, o = operands
+        (address, moved), count = accessed(s, o), size or targets[0].size
+        lane = s.load(address, count * len(targets))
+        s.general |= moved
+        for number, target in enumerate(targets):
+            part = lane[count * number :][:count]
+            s.put_lane(target, part + [byte(0)] * (target.size - count))
+
+    return handler
+
+
+def load_repeated(s, to, o):
+    address, moved = accessed(s, o)
+    lane = s.load(address, to.lane)
     s.general |= moved
-    for number, target in enumerate(targets):
-        rest = lane if i.mnemonic == "ld1r" else [byte(0)]
-        s.put_lane(target, (lane[size * number :][:size] + rest * target.size)[: target.size])
+    s.put_lane(to, lane * (to.size // to.lane))
 
 
-def store(s, i):
+def store(size=None):
     """One that moves the stack pointer first makes space for what it stores."""
-    sources, size, address, moved = accessed(s, i)
-    lane = [x for source in sources for x in s.lane(source)[:size]]
-    if i.mnemonic == "st2":
-        lane = bytes_of(pairs(*(units(s.lane(source), source.lane) for source in same(*sources))))
+
+    def handler(s, *operands):
+        *sources, o = operands
+        address, moved = accessed(s, o)
+        s.general |= moved
+        s.store(address, [x for source in sources for x in s.lane(source)[:size]])
+
+    return handler
+
+
+def store_interleaved(s, one, other, o):
+    same(one, other)
+    a, b = units(s.lane(one), one.lane), units(s.lane(other), other.lane)
+    address, moved = accessed(s, o)
     s.general |= moved
-    s.store(address, lane)
+    s.store(address, bytes_of(pairs(a, b)))
 
 
 HANDLERS = {
@@ -451,33 +403,30 @@ HANDLERS = {
     "msub": general(lambda a, b, c: c - a * b),
     "umulh": upper_product,
     "movk": move_part,
-    "bfi": insert_bits,
-    "bfxil": insert_bits,
-    "lsl": shift,
-    "lsr": shift,
-    **dict.fromkeys(
-        ("adr", "adrp"), lambda s, i: s.put(i.operands[0], s.code.placed(i.operands[1].value))
-    ),
-    "nop": lambda s, i: None,
-    "cset": set_if,
+    "bfi": lambda s, to, by, at, count: insert_bits(s, to, at.value, by, 0, count),
+    "bfxil": lambda s, to, by, low, count: insert_bits(s, to, 0, by, low.value, count),
+    "lsl": shift(SHIFT_LEFT),
+    "lsr": shift(z3.LShR),
+    "adr": lambda s, to, by: s.put(to, s.code.placed(by.value)),
+    "adrp": lambda s, to, by: s.put(to, s.code.placed(by.value)),
+    "nop": lambda s: None,
+    "cset": lambda s, to, name: set_if(CONDITIONS[name.name])(s, to),
     "csel": select(lambda b: b),
     "csinv": select(lambda b: ~b),
-    "b": jump,
-    "bl": jump,
+    "b": lambda s, to: to.value,
+    "bl": call,
     "ret": ret,
-    "cbz": jump_if_zero,
-    "cbnz": jump_if_zero,
-    "tbz": jump_if_bit,
-    "tbnz": jump_if_bit,
-    "mul": by_units(lambda a, b: a * b),
+    "cbz": lambda s, by, to: Branch(simple(s.number(by) == 0), to.value),
+    "cbnz": lambda s, by, to: Branch(simple(s.number(by) != 0), to.value),
+    "tbz": jump_if_bit(0),
+    "tbnz": jump_if_bit(1),
+    "mul": by_units(MULTIPLY),
     "umin": by_units(MINIMUM),
     "uqsub": by_units(SUBTRACT_SATURATED),
     "ushr": shifted(z3.LShR),
     "shl": shifted(lambda a, count: a << count),
     "sli": shift_left_and_insert,
-    "rev16": lambda s, i: s.put_lane(
-        i.operands[0], each(lambda a: z3.RotateLeft(a, 8), 2, s.lane(i.operands[1]))
-    ),
+    "rev16": reverse_pairs,
     "movi": constant,
     "mov": move,
     "fmov": move,
@@ -491,7 +440,13 @@ HANDLERS = {
     "uzp2": mixed(lambda a, b: (a + b)[1::2]),
     "zip1": mixed(lambda a, b: pairs(a, b)[: len(a)]),
     "zip2": mixed(lambda a, b: pairs(a, b)[len(a) :]),
-    **dict.fromkeys(LOADS, load),
-    **dict.fromkeys(STORES, store),
-    **{f"b.{name}": jump_if for name in CONDITIONS},
+    **dict.fromkeys(("ldr", "ldur", "ldp", "ld1"), load()),
+    **dict.fromkeys(("ldrb", "ldurb"), load(1)),
+    "ldrh": load(2),
+    "ld1r": load_repeated,
+    **dict.fromkeys(("str", "stur", "stp", "st1"), store()),
+    **dict.fromkeys(("strb", "sturb"), store(1)),
+    "strh": store(2),
+    "st2": store_interleaved,
+    **{f"b.{name}": jump_if(condition) for name, condition in CONDITIONS.items()},
 }

@@ -1,10 +1,32 @@
 """What instructions of several processors have in common. A vector is a list of its bytes, the
 lowest first. Each meaning is compared with the processor by test_meanings.py."""
 
+from dataclasses import dataclass, field
+
 import z3
 
+from execution.paths import Branch
 from execution.terms import joined, simple, split
 from solver.questions import require
+
+
+@dataclass
+class Operand:
+    """A register of a kind, a number, an address in memory, or what else an instruction names."""
+
+    kind: str
+    size: int = None  # in bytes
+    name: object = None
+    value: int = None
+    # Of an address: registers with their scales, and what is added.
+    terms: list = field(default_factory=list)
+    offset: int = 0
+    # On AArch64: the bytes of a vector's lane, where an element begins, whether an address is
+    # written back to its base, and what is added to the base afterwards.
+    lane: int = None
+    first: int = None
+    is_moved: bool = False
+    after: object = None
 
 
 def units(lane, size):
@@ -30,15 +52,18 @@ def saturated(numbers):
 
 
 # By two numbers of any size.
-ADD, SUBTRACT, MULTIPLY = lambda a, b: a + b, lambda a, b: a - b, lambda a, b: a * b
-AND, OR, XOR, AND_NOT = (
-    lambda a, b: a & b,
-    lambda a, b: a | b,
-    lambda a, b: a ^ b,
-    lambda a, b: ~a & b,
-)
-MINIMUM, MAXIMUM = lambda a, b: z3.If(z3.ULT(a, b), a, b), lambda a, b: z3.If(z3.ULT(a, b), b, a)
+ADD = lambda a, b: a + b
+SUBTRACT = lambda a, b: a - b
+MULTIPLY = lambda a, b: a * b
+AND = lambda a, b: a & b
+OR = lambda a, b: a | b
+XOR = lambda a, b: a ^ b
+AND_NOT = lambda a, b: ~a & b
+MINIMUM = lambda a, b: z3.If(z3.ULT(a, b), a, b)
+MAXIMUM = lambda a, b: z3.If(z3.ULT(a, b), b, a)
 SUBTRACT_SATURATED = lambda a, b: z3.If(z3.ULT(a, b), z3.BitVecVal(0, a.size()), a - b)
+# By a number and a constant.
+SHIFT_LEFT = lambda a, count: a * (1 << count)
 
 
 # Flags: the sign of a result, whether it is 0, the carry, and whether the signed result is another.
@@ -64,8 +89,7 @@ def logic_flags(function):
 
 
 def conditions(known, opposites):
-    """Conditions by their names, each a function of what gives a flag; and those that are their
-    opposites."""
+    """Conditions by their names, each a function of what returns a flag; and their opposites."""
     return known | {
         name: lambda flag, other=known[other]: z3.Not(other(flag))
         for name, other in opposites.items()
@@ -80,3 +104,29 @@ def holds(s, condition):
         return s.flags[letter]
 
     return simple(condition(flag))
+
+
+# Instructions: each a function of a state and the operands.
+def general(function, flags=None, is_kept=True):
+    """What becomes of the first operand, and the flags, if it sets some."""
+
+    def handler(s, *operands):
+        first = int(is_kept and not s.IS_FIRST_SOURCE)
+        given = s.numbers(operands[first:], operands[0].size)
+        s.flags = flags(*given) if flags else s.flags
+        if is_kept:
+            s.put(operands[0], simple(function(*given)))
+
+    return handler
+
+
+def set_if(condition):
+    def handler(s, to):
+        one, zero = z3.BitVecVal(1, 8 * to.size), z3.BitVecVal(0, 8 * to.size)
+        s.put(to, s.either(holds(s, condition), one, zero))
+
+    return handler
+
+
+def jump_if(condition):
+    return lambda s, to: Branch(holds(s, condition), to.value)

@@ -17,6 +17,7 @@ from meanings.lanes import (
     MINIMUM,
     MULTIPLY,
     OR,
+    SHIFT_LEFT,
     SUBTRACT,
     XOR,
     each,
@@ -25,42 +26,23 @@ from meanings.lanes import (
 )
 from meanings.webassembly_blocks import instructions  # as each processor has it
 from reading.module import SPACE
-from solver.questions import is_public, is_public_name, names, public, require
+from solver.questions import Rejected, is_public, is_public_name, names, public, require
 
 MEMORY = 1 << 16
-
-
-def _operand(i, height):
-    """The name of the register for the operand above so many others."""
-    return f"operand {i.address // SPACE}.{height}"
-
-
-def _top(i):
-    return _operand(i, i.operands.height - 1)
-
-
-def _named(i):
-    """The register that an instruction names."""
-    number = i.operands.numbers[0]
-    return (
-        f"global {number}"
-        if i.mnemonic.startswith("global")
-        else f"local {i.address // SPACE}.{number}"
-    )
 
 
 class State(state.State):
     """The arguments are put into the locals of the function. A function that is called has
     others."""
 
-    # What is called by its contract has no stack.
-    TOP, STACK, STACK_OF_CALLED, RETURN, VECTORS, WIDTH, WORD = "global 0", 4096, 0, 0, 0, 16, 4
-    GENERAL, ARGUMENTS, RESULTS, BOOL = (
-        (),
-        tuple(f"argument {index}" for index in range(7)),
-        ("result",),
-        32,
-    )
+    TOP = "global 0"
+    STACK, STACK_OF_CALLED = 4096, 0  # What is called by its contract has no stack.
+    RETURN = 0
+    VECTORS, WIDTH = 0, 16
+    WORD = 4
+    GENERAL = ()
+    ARGUMENTS = tuple(f"argument {index}" for index in range(7))
+    RESULTS, BOOL = ("result",), 32
     KEPT = ("global 0",)
 
     def enter(self):
@@ -81,78 +63,70 @@ class State(state.State):
 
     def _lay_out(self, module):
         """The stack, the data, and what the caller may use follow each other."""
-        data = [(part.address, part.address + len(part.content)) for part in module.data]
-        addresses = [module.globals[0], *sum(data, ())]
+        require(len(module.data) == 1, "the data of the module are not one segment")
+        [data] = module.data
+        addresses = [module.globals[0], data.address, data.address + len(data.content)]
         addresses += [module.addresses.get(name, -1) for name in ("__data_end", "__heap_base")]
-        is_right = (
-            len(data) == 1
-            and addresses[0] == State.STACK
-            and addresses == sorted(addresses)
-            and addresses[-1] <= MEMORY
+        is_right = addresses[0] == State.STACK and addresses == sorted(addresses)
+        require(
+            is_right and addresses[-1] <= MEMORY,
+            f"the stack, the data and `__heap_base` lie at {addresses}",
         )
-        require(is_right, f"the stack, the data and `__heap_base` lie at {addresses}")
         require(module.mutable == {0}, "a global that is kept between calls")
-        is_called = self.contract.is_called
+        # What is called gets addresses in its caller's stack, too.
+        heap = 0 if self.contract.is_called else addresses[-1]
         for region in self.regions.values():
-            # What is called gets addresses in its caller's stack, too.
-            lowest = (
-                addresses[-1]
-                if region.data is None and region.name != "stack" and not is_called
-                else 0
-            )
-            is_inside = z3.And(
-                z3.UGE(region.base, lowest), z3.ULE(region.base, MEMORY - region.size)
-            )
+            lowest = heap if region.data is None and region.name != "stack" else 0
+            highest = MEMORY - region.size
+            is_inside = z3.And(z3.UGE(region.base, lowest), z3.ULE(region.base, highest))
             self.assume(z3.And(z3.ULE(region.size, MEMORY), z3.Or(region.size == 0, is_inside)))
-        if not is_called:
+        if not self.contract.is_called:
             self.assume(self.regions["stack"].base == 0)
 
     def begin(self, function, arguments, back):
         """The locals are 0 at first."""
         number = function.address // SPACE
         require(f"return {number}" not in self.general, "a function that calls itself")
-        values = [
-            *arguments,
-            *[[byte(0)] * 16 if size == 16 else word(0) for size in function.locals],
-        ]
-        for index, value in enumerate(values):
+        zeros = [[byte(0)] * 16 if size == 16 else word(0) for size in function.locals]
+        for index, value in enumerate([*arguments, *zeros]):
             self.put(f"local {number}.{index}", value)
         self.general[f"return {number}"] = back
 
-    def leave_function(self, number):
+    def leave_function(self):
         """Gives where a function returns to."""
+        number = self.address // SPACE
         back = self.general.pop(f"return {number}")
-        for registers in (self.general, self.vectors):
-            for name in [
-                name
-                for name in registers
-                if name.startswith((f"local {number}.", f"operand {number}."))
-            ]:
-                del registers[name]
+        own = f"local {number}.", f"operand {number}."
+        self.general, self.vectors = [
+            {name: value for name, value in registers.items() if not name.startswith(own)}
+            for registers in (self.general, self.vectors)
+        ]
         return back
 
     # Calls by a contract
     def arguments(self, count):
-        return [
-            self.exact(self.general[f"local {self.address // SPACE}.{index}"])
-            for index in range(count)
-        ]
+        return [self.exact(self.general[self.local(index)]) for index in range(count)]
 
-    def return_address(self):
-        return self.leave_function(self.address // SPACE)
+    return_address = leave_function
 
     def forget(self):
         """What is called changes no register of its caller."""
 
-    # Registers
+    # Registers, by the names of those of the function that runs
+    def local(self, number):
+        return f"local {self.address // SPACE}.{number}"
+
+    def operand(self, height):
+        """That above so many others."""
+        return f"operand {self.address // SPACE}.{height}"
+
     def put(self, name, value):
-        own, other = (
-            (self.vectors, self.general)
-            if isinstance(value, list)
-            else (self.general, self.vectors)
-        )
-        own[name] = value if isinstance(value, list) else simple(value)
-        other.pop(name, None)
+        if isinstance(value, list):
+            self.vectors[name] = value
+            self.general.pop(name, None)
+        else:
+            self.general[name] = simple(value)
+            self.vectors.pop(name, None)
 
     def get(self, name):
         return self.vectors[name] if name in self.vectors else self.general[name]
@@ -176,40 +150,54 @@ class State(state.State):
         return super()._place(address, count, aligned)
 
 
-# What each does, and how many operands it takes and gives.
+# What each does with the number of operands before it, its numbers, and where it leads; and the
+# operands that it takes, with how many it gives. Of these: i, an i32 of which the lower half
+# counts; n, a number; l, an i64; v, a vector.
 HANDLERS = {}
 EFFECTS = {
-    "br_if": (1, 0),
-    "br_table": (1, 0),
-    "select": (3, 1),
-    "local.get": (0, 1),
-    "local.set": (1, 0),
-    "local.tee": (1, 1),
-    "global.get": (0, 1),
-    "global.set": (1, 0),
+    "br_if": ("n", 0),
+    "br_table": ("n", 0),
+    "select": ("iin", 1),
+    "local.get": ("", 1),
+    "local.set": ("i", 0),
+    "local.tee": ("i", 1),
+    "global.get": ("", 1),
+    "global.set": ("i", 0),
 }
 
 
-def computes(name, takes, function, gives=1):
-    """Adds an instruction. Operands: i, an i32 of which the lower half counts; n, a number; l, an
-    i64; v, a vector."""
+def accesses(name, takes, function, gives=1):
+    """Adds an instruction: a function of the state, the instruction's numbers and the operands."""
 
-    def handler(s, i):
-        first = i.operands.height - len(takes)
-        values = [s.take(_operand(i, height)) for height in range(first, i.operands.height)]
+    def handler(s, height, numbers, targets):
+        first = height - len(takes)
+        values = [s.take(s.operand(index)) for index in range(first, height)]
         values = [s.exact(value) if kind == "n" else value for kind, value in zip(takes, values)]
-        result = function(s, i.operands.numbers, *values)
+        result = function(s, numbers, *values)
         if gives:
-            s.put(_operand(i, first), result)
+            s.put(s.operand(first), result)
 
-    handler.takes = takes
-    HANDLERS[name], EFFECTS[name] = handler, (len(takes), gives)
+    HANDLERS[name], EFFECTS[name] = handler, (takes, gives)
+
+
+def computes(name, takes, function):
+    """The same, for a function of the operands."""
+    accesses(name, takes, lambda s, numbers, *values: function(*values))
+
+
+def compares(name, takes, condition):
+    """The same: 1 if a condition on the operands holds, else 0."""
+    one, zero = z3.BitVecVal(1, 1), z3.BitVecVal(0, 1)
+    accesses(
+        name,
+        takes,
+        lambda s, numbers, *values: z3.ZeroExt(63, s.either(simple(condition(*values)), one, zero)),
+    )
 
 
 # Numbers
-def _if(s, condition):
-    """1 if a condition holds, else 0."""
-    return z3.ZeroExt(63, s.either(condition, z3.BitVecVal(1, 1), z3.BitVecVal(0, 1)))
+def _lower(a):
+    return z3.Extract(31, 0, a)
 
 
 def _count(term, bits):
@@ -217,78 +205,78 @@ def _count(term, bits):
     return term.as_long() % bits
 
 
-for _name, _function in {
-    "add": ADD,
-    "sub": SUBTRACT,
-    "mul": MULTIPLY,
-    "and": AND,
-    "or": OR,
-    "xor": XOR,
-}.items():
-    computes(f"i32.{_name}", "ii", lambda s, numbers, a, b, function=_function: function(a, b))
-for _name, _function in {
-    "eq": lambda a, b: a == b,
-    "ne": lambda a, b: a != b,
-    "lt_u": z3.ULT,
-    "le_u": z3.ULE,
-    "gt_u": z3.UGT,
-    "ge_u": z3.UGE,
-    "lt_s": lambda a, b: z3.Extract(31, 0, a) < z3.Extract(31, 0, b),
-    "le_s": lambda a, b: z3.Extract(31, 0, a) <= z3.Extract(31, 0, b),
-}.items():
-    computes(
-        f"i32.{_name}", "nn", lambda s, numbers, a, b, function=_function: _if(s, function(a, b))
-    )
-computes("i32.eqz", "n", lambda s, numbers, a: _if(s, simple(a == 0)))
-computes("i32.shl", "in", lambda s, numbers, a, b: a * (1 << _count(b, 32)))
-computes("i32.shr_u", "nn", lambda s, numbers, a, b: z3.LShR(a, _count(b, 32)))
-computes(
-    "i32.shr_s",
-    "nn",
-    lambda s, numbers, a, b: z3.ZeroExt(32, z3.Extract(31, 0, a) >> _count(b, 32)),
-)
-computes("i64.shr_u", "ll", lambda s, numbers, a, b: z3.LShR(a, _count(b, 64)))
-computes("i32.wrap_i64", "l", lambda s, numbers, a: a)
-for _name in ("i32.const", "i64.const"):
-    computes(_name, "", lambda s, numbers: word(numbers[0]))
-computes("v128.const", "", lambda s, numbers: numbers)
+computes("i32.add", "ii", ADD)
+computes("i32.sub", "ii", SUBTRACT)
+computes("i32.mul", "ii", MULTIPLY)
+computes("i32.and", "ii", AND)
+computes("i32.or", "ii", OR)
+computes("i32.xor", "ii", XOR)
+computes("i32.shl", "in", lambda a, b: SHIFT_LEFT(a, _count(b, 32)))
+computes("i32.shr_u", "nn", lambda a, b: z3.LShR(a, _count(b, 32)))
+computes("i32.shr_s", "nn", lambda a, b: z3.ZeroExt(32, _lower(a) >> _count(b, 32)))
+computes("i64.shr_u", "ll", lambda a, b: z3.LShR(a, _count(b, 64)))
+computes("i32.wrap_i64", "l", lambda a: a)
+compares("i32.eqz", "n", lambda a: a == 0)
+compares("i32.eq", "nn", lambda a, b: a == b)
+compares("i32.ne", "nn", lambda a, b: a != b)
+compares("i32.lt_u", "nn", z3.ULT)
+compares("i32.le_u", "nn", z3.ULE)
+compares("i32.gt_u", "nn", z3.UGT)
+compares("i32.ge_u", "nn", z3.UGE)
+compares("i32.lt_s", "nn", lambda a, b: _lower(a) < _lower(b))
+compares("i32.le_s", "nn", lambda a, b: _lower(a) <= _lower(b))
+accesses("i32.const", "", lambda s, numbers: word(numbers[0]))
+accesses("i64.const", "", lambda s, numbers: word(numbers[0]))
+accesses("v128.const", "", lambda s, numbers: numbers)
 
 
 # Registers
-def get(s, i):
-    s.put(_operand(i, i.operands.height), s.get(_named(i)))
+def get(name):
+    def handler(s, height, numbers, targets):
+        s.put(s.operand(height), s.get(name(s, *numbers)))
+
+    return handler
 
 
-def put(s, i):
-    s.put(_named(i), (s.get if i.mnemonic.endswith("tee") else s.take)(_top(i)))
+def put(name, take):
+    def handler(s, height, numbers, targets):
+        s.put(name(s, *numbers), take(s, s.operand(height - 1)))
+
+    return handler
+
+
+def global_(s, number):
+    return f"global {number}"
 
 
 # Control
-def branch_if(s, i):
-    return Branch(simple(s.exact(s.take(_top(i))) != 0), i.operands.targets[0])
+def branch_if(s, height, numbers, targets):
+    condition = s.exact(s.take(s.operand(height - 1))) != 0
+    return Branch(simple(condition), targets[0])
 
 
-def branch_by(s, i):
+def branch_by(s, height, numbers, targets):
     """The last target is that of each index from its own on."""
-    index, [*targets, last] = s.exact(s.take(_top(i))), i.operands.targets
+    index, [*targets, last] = s.exact(s.take(s.operand(height - 1))), targets
     require(s.is_declassified or is_public(index), "a branch depends on bytes that are secret")
-    return [
-        *[(index == number, target) for number, target in enumerate(targets)],
-        (z3.UGE(index, len(targets)), last),
-    ]
+    chosen_targets = [(index == number, target) for number, target in enumerate(targets)]
+    return [*chosen_targets, (z3.UGE(index, len(targets)), last)]
 
 
-def select(s, i):
+def select(s, height, numbers, targets):
     """Counts as a branch, which runs again where it is known what is taken, unless a byte that
     stands alone decides."""
-    operands = [_operand(i, i.operands.height - below) for below in (3, 2, 1)]
+    operands = [s.operand(height - below) for below in (3, 2, 1)]
     condition = simple(s.exact(s.get(operands[-1])) != 0)
-    truth = next((truth for truth in (True, False) if s.is_valid(condition == truth)), None)
-    if truth is None and not _is_alone(s, condition):
-        s.next = i.address
-        return Branch(condition, i.address)
+    known = [truth for truth in (True, False) if s.is_valid(condition == truth)]
+    if not known and not _is_alone(s, condition):
+        s.next = s.address
+        return Branch(condition, s.address)
     one, other, _ = map(s.take, operands)
-    s.put(operands[0], z3.If(condition, one, other) if truth is None else one if truth else other)
+    if known:
+        s.put(operands[0], one if known[0] else other)
+    else:
+        s.put(operands[0], z3.If(condition, one, other))
 
 
 def _is_alone(s, condition):
@@ -300,59 +288,60 @@ def _is_alone(s, condition):
     )
 
 
-def call(s, i):
-    function = s.code.object.functions[i.operands.numbers[0]]
-    first = i.operands.height - len(function.parameters)
-    arguments = [s.take(_operand(i, height)) for height in range(first, i.operands.height)]
+def call(s, height, numbers, targets):
+    function = s.code.object.functions[numbers[0]]
+    first = height - len(function.parameters)
+    arguments = [s.take(s.operand(index)) for index in range(first, height)]
     s.begin(function, arguments, s.return_to(s.next))
     return function.address
 
 
-def leave(s, i):
+def leave(s, height, numbers, targets):
     """A function leaves its result, if there is one, for the caller."""
-    function = s.code.object.code_at(i.address // SPACE * SPACE)
-    if function.results:
-        s.put("result", s.take(_top(i)))
-    return s.leave_function(i.address // SPACE)
+    if s.code.object.code_at(s.address).results:
+        s.put("result", s.take(s.operand(height - 1)))
+    return s.leave_function()
+
+
+def trap(s, *operands):
+    raise Rejected("the module traps")
 
 
 HANDLERS |= {
-    "local.get": get,
-    "global.get": get,
-    "local.set": put,
-    "local.tee": put,
-    "global.set": put,
-    "br": lambda s, i: i.operands.targets[0],
+    "local.get": get(State.local),
+    "local.set": put(State.local, State.take),
+    "local.tee": put(State.local, State.get),
+    "global.get": get(global_),
+    "global.set": put(global_, State.take),
+    "br": lambda s, height, numbers, targets: targets[0],
     "br_if": branch_if,
     "br_table": branch_by,
     "select": select,
     "call": call,
-    "result": lambda s, i: s.put(_operand(i, i.operands.height), s.take("result")),
+    "result": lambda s, height, *_: s.put(s.operand(height), s.take("result")),
     "return": leave,
-    "unreachable": lambda s, i: require(False, "the module traps"),
+    "unreachable": trap,
 }
 
 
 # Loads and stores
-def _loads(name, count, function):
-    computes(name, "n", lambda s, numbers, a: function(s.load(simple(a + numbers[0]), count)))
+def loads(name, count, function):
+    accesses(name, "n", lambda s, numbers, a: function(s.load(simple(a + numbers[0]), count)))
 
 
-def _stores(name, types, function):
-    computes(
-        name,
-        types,
-        lambda s, numbers, a, value: s.store(simple(a + numbers[0]), function(numbers, value)),
-        0,
-    )
+def stores(name, takes, function):
+    def store(s, numbers, a, value):
+        s.store(simple(a + numbers[0]), function(value, *numbers[1:]))
+
+    accesses(name, takes, store, 0)
 
 
 for _name, _size in {"i32.load": 4, "i32.load8_u": 1, "i32.load16_u": 2, "i64.load": 8}.items():
-    _loads(_name, _size, lambda lane: z3.ZeroExt(64 - 8 * len(lane), joined(lane)))
-_loads("v128.load", 16, lambda lane: lane)
-_loads("v128.load64_zero", 8, lambda lane: lane + [byte(0)] * 8)
-_loads("v128.load8x8_u", 8, lambda lane: [part for value in lane for part in (value, byte(0))])
-computes(
+    loads(_name, _size, lambda lane: z3.ZeroExt(64 - 8 * len(lane), joined(lane)))
+loads("v128.load", 16, lambda lane: lane)
+loads("v128.load64_zero", 8, lambda lane: lane + [byte(0)] * 8)
+loads("v128.load8x8_u", 8, lambda lane: [part for value in lane for part in (value, byte(0))])
+accesses(
     "v128.load8_lane",
     "nv",
     lambda s, numbers, a, lane: [
@@ -361,71 +350,58 @@ computes(
         *lane[numbers[1] + 1 :],
     ],
 )
-for _name, _size in {"i32.store": 4, "i32.store8": 1, "i32.store16": 2}.items():
-    _stores(_name, "ni", lambda numbers, value, size=_size: split(value)[:size])
+stores("i32.store", "ni", lambda value: split(value)[:4])
+stores("i32.store8", "ni", lambda value: split(value)[:1])
+stores("i32.store16", "ni", lambda value: split(value)[:2])
 # It has the results of others, where they are compared.
-_stores("i64.store", "nl", lambda numbers, value: split(value))
-_stores("v128.store", "nv", lambda numbers, lane: lane)
-for _size in (2, 4, 8):
-    _stores(
-        f"v128.store{8 * _size}_lane",
-        "nv",
-        lambda numbers, lane, size=_size: lane[size * numbers[1] :][:size],
-    )
+stores("i64.store", "nl", split)
+stores("v128.store", "nv", lambda lane: lane)
+stores("v128.store16_lane", "nv", lambda lane, index: lane[2 * index :][:2])
+stores("v128.store32_lane", "nv", lambda lane, index: lane[4 * index :][:4])
+stores("v128.store64_lane", "nv", lambda lane, index: lane[8 * index :][:8])
 
 
 # Vectors
-for _name, _size, _function in (
-    ("v128.and", 1, AND),
-    ("v128.or", 1, OR),
-    ("i8x16.add", 1, ADD),
-    ("i8x16.sub", 1, SUBTRACT),
-    ("i8x16.min_u", 1, MINIMUM),
-    ("i8x16.max_u", 1, MAXIMUM),
-    ("i16x8.mul", 2, MULTIPLY),
-):
-    computes(
-        _name,
-        "vv",
-        lambda s, numbers, a, b, size=_size, function=_function: each(function, size, a, b),
-    )
-computes(
-    "i16x8.shr_u",
-    "vn",
-    lambda s, numbers, a, b: each(lambda part: z3.LShR(part, _count(b, 16)), 2, a),
-)
-computes("i16x8.splat", "i", lambda s, numbers, a: split(z3.Extract(15, 0, a)) * 8)
-computes("i32x4.splat", "i", lambda s, numbers, a: split(z3.Extract(31, 0, a)) * 4)
-computes("i8x16.shuffle", "vv", lambda s, numbers, a, b: [(a + b)[index] for index in numbers])
+def by_units(name, size, function):
+    computes(name, "vv", lambda a, b: each(function, size, a, b))
+
+
+by_units("v128.and", 1, AND)
+by_units("v128.or", 1, OR)
+by_units("i8x16.add", 1, ADD)
+by_units("i8x16.sub", 1, SUBTRACT)
+by_units("i8x16.min_u", 1, MINIMUM)
+by_units("i8x16.max_u", 1, MAXIMUM)
+by_units("i16x8.mul", 2, MULTIPLY)
+computes("i16x8.shr_u", "vn", lambda a, b: each(lambda part: z3.LShR(part, _count(b, 16)), 2, a))
+computes("i16x8.splat", "i", lambda a: split(z3.Extract(15, 0, a)) * 8)
+computes("i32x4.splat", "i", lambda a: split(_lower(a)) * 4)
 computes(
     "i8x16.swizzle",
     "vv",
-    lambda s, numbers, a, b: [
-        simple(z3.If(z3.ULT(index, 16), chosen(a, index), byte(0))) for index in b
-    ],
+    lambda a, b: [simple(z3.If(z3.ULT(index, 16), chosen(a, index), byte(0))) for index in b],
+)
+computes("i8x16.narrow_i16x8_u", "vv", lambda a, b: saturated(units(a + b, 2)))
+computes(
+    "i16x8.extend_low_i8x16_u",
+    "v",
+    lambda a: [part for value in a[:8] for part in (value, byte(0))],
 )
 computes(
+    "i16x8.extend_high_i8x16_u",
+    "v",
+    lambda a: [part for value in a[8:] for part in (value, byte(0))],
+)
+compares("v128.any_true", "v", lambda a: z3.Or(*[part != 0 for part in a]))
+accesses("i8x16.shuffle", "vv", lambda s, numbers, a, b: [(a + b)[index] for index in numbers])
+accesses(
     "i8x16.replace_lane",
     "vi",
     lambda s, numbers, a, b: [*a[: numbers[0]], simple(z3.Extract(7, 0, b)), *a[numbers[0] + 1 :]],
 )
-computes("i8x16.narrow_i16x8_u", "vv", lambda s, numbers, a, b: saturated(units(a + b, 2)))
-for _name, _first in (("low", 0), ("high", 8)):
-    computes(
-        f"i16x8.extend_{_name}_i8x16_u",
-        "v",
-        lambda s, numbers, a, first=_first: [
-            part for value in a[first:][:8] for part in (value, byte(0))
-        ],
-    )
-computes(
-    "v128.any_true", "v", lambda s, numbers, a: _if(s, simple(z3.Or(*[part != 0 for part in a])))
+accesses("i8x16.extract_lane_u", "v", lambda s, numbers, a: z3.ZeroExt(56, a[numbers[0]]))
+accesses(
+    "i16x8.extract_lane_u",
+    "v",
+    lambda s, numbers, a: z3.ZeroExt(48, joined(a[2 * numbers[0] :][:2])),
 )
-for _name, _size in {"i8x16": 1, "i16x8": 2}.items():
-    computes(
-        f"{_name}.extract_lane_u",
-        "v",
-        lambda s, numbers, a, size=_size: joined(
-            a[size * numbers[0] :][:size] + [byte(0)] * (8 - size)
-        ),
-    )

@@ -6,6 +6,7 @@ this were wrong, another path would be proved than that which runs.
 
 import re
 from collections import namedtuple
+from dataclasses import dataclass
 
 import z3
 
@@ -18,16 +19,14 @@ Operands = namedtuple("Operands", "height numbers targets")
 ENDS = ("br", "br_table", "return", "unreachable")
 
 
+@dataclass(eq=False)
 class Block:
     """Where a branch leads: to the start of a loop, or to the end of a block."""
 
-    def __init__(self, target, height):
-        self.target, self.height, self.is_loop, self.is_used = (
-            target,
-            height,
-            target is not None,
-            False,
-        )
+    height: int
+    target: int = None
+    is_loop: bool = False
+    is_used: bool = False
 
 
 class Reader:
@@ -35,59 +34,55 @@ class Reader:
     out."""
 
     def __init__(self, code, function):
-        self.code, self.function, self.read_so_far = code, function, []
-        whole = Block(None, len(function.results))
-        self.blocks, self.height, self.is_reached = [whole], 0, True
+        self.code, self.function = code, function
+        self.read_so_far = []
+        whole = Block(len(function.results))
+        self.blocks = [whole]
+        self.height, self.is_reached = 0, True
         *content, end = function.content
         for text in content:
             self.read(text, *text.split())
         require(self.blocks == [whole], "a block of a kind that is not known")
-        self.height, whole.target, self.is_reached = (
-            whole.height,
-            self.address(),
-            self.is_reached or whole.is_used,
-        )
+        self.end_block()
         self.read(end, end)
 
     def address(self):
         return self.function.address + len(self.read_so_far)
 
+    def end_block(self):
+        block = self.blocks[-1]
+        self.is_reached |= block.is_used and not block.is_loop
+        self.height, block.target = block.height, block.target or self.address()
+
     def read(self, text, mnemonic, *words):
         if mnemonic == "end":
-            block = self.blocks.pop()
-            self.is_reached |= block.is_used and not block.is_loop
-            self.height, block.target = block.height, block.target or self.address()
+            self.end_block()
+            self.blocks.pop()
         elif mnemonic in ("block", "loop"):
             require(not words, "a block with a result")
-            self.blocks.append(
-                Block(
-                    self.address() if mnemonic == "loop" and self.is_reached else None, self.height
-                )
-            )
+            is_loop = mnemonic == "loop" and self.is_reached
+            self.blocks.append(Block(self.height, self.address() if is_loop else None, is_loop))
         elif self.is_reached:
             self.add(text, mnemonic, words)
 
     def add(self, text, mnemonic, words):
         numbers, targets = _numbers(mnemonic, words), []
-        called = self.code.object.functions[numbers[0]] if mnemonic == "call" else None
-        takes, gives = (
-            (len(called.parameters), len(called.results))
-            if called
-            else self.code.processor.EFFECTS.get(mnemonic, (0, 0))
-        )
+        takes, gives = self.code.processor.EFFECTS.get(mnemonic, ("", 0))
+        if mnemonic == "call":
+            called = self.code.object.functions[numbers[0]]
+            takes, gives = called.parameters, len(called.results)
         if mnemonic.startswith("br"):
             targets = [self.blocks[-1 - depth] for depth in numbers]
+        below = self.height - len(takes)
         for block in targets:
             # A result lies above what is dropped, so it would be taken from another register.
-            require(
-                block is not self.blocks[0] or self.height - takes == block.height,
-                "operands below a result",
-            )
+            is_right = block is not self.blocks[0] or below == block.height
+            require(is_right, "operands below a result")
             block.is_used = True
         self.read_so_far.append((mnemonic, Operands(self.height, numbers, targets), text))
-        self.height += gives - takes
+        self.height = below + gives
         if mnemonic == "call" and gives:
-            self.read_so_far.append(("result", Operands(self.height - 1, (), []), "result"))
+            self.read_so_far.append(("result", Operands(below, (), []), "result"))
         self.is_reached = mnemonic not in ENDS
 
     def instructions(self):
@@ -102,13 +97,11 @@ def _numbers(mnemonic, words):
     """Numbers, of which the first of an access is its offset; or the bytes of a vector."""
     if words[:1] == ("i32x4",):
         return [part for number in words[1:] for part in split(z3.BitVecVal(int(number, 16), 32))]
-    named = dict(text.split("=") for text in words if "=" in text)
     numbers = [int(text, 0) for text in words if "=" not in text]
-    return (
-        [int(named.get("offset", 0)), *numbers]
-        if re.search(r"\.(load|store)", mnemonic)
-        else numbers
-    )
+    if not re.search(r"\.(load|store)", mnemonic):
+        return numbers
+    named = dict(text.split("=") for text in words if "=" in text)
+    return [int(named.get("offset", 0)), *numbers]
 
 
 def instructions(code, section, level):

@@ -10,19 +10,22 @@ import re
 import z3
 
 from execution import state
-from execution.paths import Branch
 from execution.terms import byte, fresh_public, joined, simple, split, word
 from meanings.lanes import (
     ADD,
     AND,
     OR,
+    SHIFT_LEFT,
     SUBTRACT,
     XOR,
+    Operand,
     conditions,
     difference_flags,
-    each,
+    general,
     holds,
+    jump_if,
     logic_flags,
+    set_if,
     sum_flags,
 )
 from meanings.x86_64_vectors import VECTOR_HANDLERS
@@ -54,33 +57,31 @@ for _name in ("ax", "bx", "cx", "dx", "si", "di", "bp", "sp"):
     }
 
 
-class Operand:
-    """A register, a number, or an address in memory; of so many bytes if it is not a number."""
+def _operand(text):
+    """A register, a number, or an address in memory."""
+    if text in GENERAL:
+        name, size = GENERAL[text]
+        return Operand("general", size, name)
+    if match := re.fullmatch(r"([xy])mm(\d+)", text):
+        return Operand("vector", SIZES[f"{match[1].upper()}MMWORD"], int(match[2]))
+    if match := re.fullmatch(r"(?:(\w+) PTR )?\[(.*)\]", text):
+        return _address(match[2], SIZES.get(match[1]))
+    return Operand("number", value=int(text, 16))
 
-    def __init__(self, text):
-        self.size = None
-        if text in GENERAL:
-            self.kind, (self.name, self.size) = "general", GENERAL[text]
-        elif match := re.fullmatch(r"([xy])mm(\d+)", text):
-            self.kind, self.name, self.size = (
-                "vector",
-                int(match[2]),
-                SIZES[f"{match[1].upper()}MMWORD"],
-            )
-        elif match := re.fullmatch(r"(?:(\w+) PTR )?\[(.*)\]", text):
-            self.kind, self.size, self.terms, self.offset = "memory", SIZES.get(match[1]), [], 0
-            for sign, part in re.findall(r"([+-]?)([^+-]+)", match[2]):
-                name, _, scale = part.partition("*")
-                if name == "rip" or name in GENERAL and GENERAL[name][1] == 8:
-                    self.terms.append((name, int(scale or 1)))
-                else:
-                    self.offset += int(sign + part, 16)
+
+def _address(text, size):
+    address = Operand("memory", size)
+    for sign, part in re.findall(r"([+-]?)([^+-]+)", text):
+        name, _, scale = part.partition("*")
+        if name == "rip" or name in GENERAL and GENERAL[name][1] == 8:
+            address.terms.append((name, int(scale or 1)))
         else:
-            self.kind, self.value = "number", int(text, 16)
+            address.offset += int(sign + part, 16)
+    return address
 
 
 def _operands(text):
-    return [Operand(part.strip()) for part in text.split(",") if part]
+    return [_operand(part.strip()) for part in text.split(",") if part]
 
 
 def _text_to_assemble(i):
@@ -109,10 +110,13 @@ class State(state.State):
 
     TOP = "rsp"
     STACK, STACK_OF_CALLED, STACK_OF_DISPATCH = 1912, 72, 2040
-    RETURN, VECTORS, WIDTH = 8, 16, 32
+    RETURN = 8
+    VECTORS, WIDTH = 16, 32
     GENERAL = tuple(dict.fromkeys(name for name, _ in GENERAL.values()))
-    ARGUMENTS, RESULTS, BOOL = ("rdi", "rsi", "rdx", "rcx", "r8", "r9"), ("rax", "rdx"), 8
-    KEPT = ("rbx", "rbp", "r12", "r13", "r14", "r15")
+    ARGUMENTS = "rdi", "rsi", "rdx", "rcx", "r8", "r9"
+    RESULTS, BOOL = ("rax", "rdx"), 8
+    KEPT = "rbx", "rbp", "r12", "r13", "r14", "r15"
+    IS_FIRST_SOURCE = True  # the first operand is a source, too
 
     def enter(self):
         self.general["rsp"] = simple(self.regions["stack"].base + self.STACK)
@@ -128,32 +132,35 @@ class State(state.State):
         require(self.is_clean, "vzeroupper is missing")
 
     # Operands
-    def address_of(self, o, i):
+    def address_of(self, o):
         if o.terms == [("rip", 1)]:
-            return simple(self.code.placed(i.address + i.size + o.offset))
-        return simple(sum([self.general[name] * scale for name, scale in o.terms], word(o.offset)))
+            return simple(self.code.placed(self.next + o.offset))
+        return super().address_of(o)
 
-    def lane(self, o, i, size=None):
+    def lane(self, o, size=None):
         """The lowest bytes of an operand, or all."""
         if o.kind == "general":
             return split(z3.Extract(8 * o.size - 1, 0, self.general[o.name]))[:size]
+        size = size or o.size
         if o.kind == "vector":
-            return self.vectors[o.name][: size or o.size]
-        return self.load(
-            self.address_of(o, i), size or o.size, self.is_legacy and (size or o.size) == 16
-        )
+            return self.vectors[o.name][:size]
+        return self.load(self.address_of(o), size, self.is_legacy and size == 16)
 
-    def number(self, o, i, size=None):
+    def number(self, o, size=None):
+        """One in the instruction has so many bytes."""
         if o.kind == "number":
             return z3.BitVecVal(o.value, 8 * size)
-        return (
-            self.general[o.name] if o.kind == "general" and o.size == 8 else joined(self.lane(o, i))
-        )
+        if o.kind == "general" and o.size == 8:
+            return self.general[o.name]
+        return joined(self.lane(o))
 
-    def put(self, o, i, term):
+    def numbers(self, operands, size):
+        return [self.number(o, size) for o in operands]
+
+    def put(self, o, term):
         """Writes a general register, of which 4 bytes clear the others, or memory."""
         if o.kind == "memory":
-            return self.store(self.address_of(o, i), split(term))
+            return self.store(self.address_of(o), split(term))
         if o.size == 4:
             term = z3.ZeroExt(32, term)
         elif o.size < 8:
@@ -180,78 +187,50 @@ CONDITIONS = conditions(
 
 
 # General instructions
-def numbers(s, i):
-    """Those of the operands. One in the instruction is as long as the first operand."""
-    return [s.number(o, i, i.operands[0].size) for o in i.operands]
-
-
-def general(function, flags=None, is_kept=True):
-    """What becomes of the first operand, and the flags, if it sets some."""
-
-    def handler(s, i):
-        given = numbers(s, i)
-        s.flags = flags(*given) if flags else s.flags
-        if is_kept:
-            s.put(i.operands[0], i, simple(function(*given)))
-
-    return handler
-
-
 def by_one(function, flags):
     """The carry is as before."""
 
-    def handler(s, i):
-        [number], carry = numbers(s, i), (s.flags or {}).get("c")
+    def handler(s, o):
+        number, carry = s.number(o), (s.flags or {}).get("c")
         one = z3.BitVecVal(1, number.size())
         s.flags = flags(number, one) | {"c": carry}
-        s.put(i.operands[0], i, function(number, one))
+        s.put(o, function(number, one))
 
     return handler
 
 
 def shift(function):
-    def handler(s, i):
-        to, by = i.operands
+    def handler(s, to, by):
         require(by.kind == "number" and 0 < by.value < 8 * to.size, "a shift")
-        result = simple(function(s.number(to, i), by.value))
-        s.put(to, i, result)
+        result = simple(function(s.number(to), by.value))
+        s.put(to, result)
         s.flags = {"s": result < 0, "z": result == 0, "c": None, "o": None}
 
     return handler
 
 
-def multiply(s, i):
-    (by,) = i.operands
+def multiply(s, by):
     require(by.size == 8, "another size")
-    product = s.product(s.general["rax"], s.number(by, i))
-    s.general |= {
-        "rax": simple(z3.Extract(63, 0, product)),
-        "rdx": simple(z3.Extract(127, 64, product)),
-    }
+    product = s.product(s.general["rax"], s.number(by))
+    s.general["rax"] = simple(z3.Extract(63, 0, product))
+    s.general["rdx"] = simple(z3.Extract(127, 64, product))
     s.flags = None
 
 
 def move(extension):
-    def handler(s, i):
-        to, by = i.operands
-        number = s.number(by, i, to.size)
-        s.put(to, i, simple(extension(8 * to.size - number.size(), number)))
+    def handler(s, to, by):
+        number = s.number(by, to.size)
+        s.put(to, simple(extension(8 * to.size - number.size(), number)))
 
     return handler
 
 
-def lea(s, i):
-    to, by = i.operands
-    s.put(to, i, simple(z3.Extract(8 * to.size - 1, 0, s.address_of(by, i))))
+def lea(s, to, by):
+    s.put(to, simple(z3.Extract(8 * to.size - 1, 0, s.address_of(by))))
 
 
-def set_if(s, i):
-    s.put(i.operands[0], i, s.either(holds(s, CONDITIONS[i.mnemonic[3:]]), byte(1), byte(0)))
-
-
-def move_if(s, i):
-    a, b = numbers(s, i)
-    s.put(i.operands[0], i, s.either(holds(s, CONDITIONS[i.mnemonic[4:]]), b, a))
+def move_if(condition):
+    return lambda s, to, by: s.put(to, s.either(holds(s, condition), s.number(by), s.number(to)))
 
 
 def pushed(s, lane):
@@ -259,9 +238,9 @@ def pushed(s, lane):
     s.store(s.general["rsp"], lane)
 
 
-def push(s, i):
-    require(i.operands[0].size == 8, "another size")
-    pushed(s, s.lane(i.operands[0], i))
+def push(s, o):
+    require(o.size == 8, "another size")
+    pushed(s, s.lane(o))
 
 
 def popped(s):
@@ -270,31 +249,27 @@ def popped(s):
     return joined(lane)
 
 
-def pop(s, i):
-    require(i.operands[0].kind == "general" and i.operands[0].size == 8, "another size")
-    s.general[i.operands[0].name] = popped(s)
+def pop(s, o):
+    require(o.kind == "general" and o.size == 8, "another size")
+    s.general[o.name] = popped(s)
 
 
-def target(s, i):
-    require(i.operands[0].kind == "number", "a jump to an address that is not fixed")
-    return i.operands[0].value
+def target(o):
+    require(o.kind == "number", "a jump to an address that is not fixed")
+    return o.value
 
 
-def jump(s, i):
-    return s.jumps(s.number(i.operands[0], i)) if i.operands[0].kind == "general" else target(s, i)
+def jump(s, to):
+    return s.jumps(s.number(to)) if to.kind == "general" else target(to)
 
 
-def jump_if(s, i):
-    return Branch(holds(s, CONDITIONS[i.mnemonic[1:]]), target(s, i))
-
-
-def call(s, i):
+def call(s, to):
     pushed(s, split(s.return_to(s.next)))
-    return target(s, i)
+    return target(to)
 
 
-def ret(s, i):
-    require(not i.operands, "a return that takes arguments")
+def ret(s, *operands):
+    require(not operands, "a return that takes arguments")
     return popped(s)
 
 
@@ -303,7 +278,7 @@ def reported(instruction, leaf, register):
     return public(f"{instruction}_{leaf:x}_{register}", 32)
 
 
-def cpuid(s, i):
+def cpuid(s):
     """Anything, for the same leaf always the same, except for the number of the processor in
     leaf 1. Of the leaves here, only 7 has parts by ecx."""
     leaf, part = [simple(z3.Extract(31, 0, s.general[name])) for name in ("rax", "rcx")]
@@ -318,7 +293,7 @@ def cpuid(s, i):
         s.general[name] = simple(z3.ZeroExt(32, answer))
 
 
-def xgetbv(s, i):
+def xgetbv(s):
     """It traps unless the CPU reports bit 27 of leaf 1, OSXSAVE."""
     require(
         simple(z3.Extract(31, 0, s.general["rcx"])).eq(z3.BitVecVal(0, 32)),
@@ -346,20 +321,18 @@ HANDLERS = {
     "movzx": move(z3.ZeroExt),
     "movsxd": move(z3.SignExt),
     "lea": lea,
-    "shl": shift(lambda a, by: a * (1 << by)),
+    "shl": shift(SHIFT_LEFT),
     "shr": shift(z3.LShR),
     "push": push,
     "pop": pop,
-    "nop": lambda s, i: None,
+    "nop": lambda s, *operands: None,
     "jmp": jump,
     "call": call,
     "ret": ret,
     "cpuid": cpuid,
     "xgetbv": xgetbv,
-    **{
-        f"{name}{end}": handler
-        for name, handler in {"j": jump_if, "set": set_if, "cmov": move_if}.items()
-        for end in CONDITIONS
-    },
+    **{f"j{name}": jump_if(condition) for name, condition in CONDITIONS.items()},
+    **{f"set{name}": set_if(condition) for name, condition in CONDITIONS.items()},
+    **{f"cmov{name}": move_if(condition) for name, condition in CONDITIONS.items()},
     **VECTOR_HANDLERS,
 }

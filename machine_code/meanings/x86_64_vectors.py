@@ -20,16 +20,15 @@ from meanings.lanes import (
 from solver.questions import require
 
 
-# The old form of an instruction has its target for the first source.
-def three(s, i):
-    to, *others = i.operands
-    return to, *([to, *others] if len(others) == 1 else others)
+def three(handler):
+    """The old form of an instruction has its target for the first source."""
+    return lambda s, to, *others: handler(s, to, *[to] * (len(others) == 1), *others)
 
 
 def by_units(size, function):
-    def handler(s, i):
-        to, one, other = three(s, i)
-        s.put_vector(to, each(function, size, s.lane(one, i), s.lane(other, i)))
+    @three
+    def handler(s, to, one, other):
+        s.put_vector(to, each(function, size, s.lane(one), s.lane(other)))
 
     return handler
 
@@ -37,26 +36,23 @@ def by_units(size, function):
 def by_halves(function):
     """Does the same to each 16 bytes of two operands."""
 
-    def handler(s, i):
-        to, one, other = three(s, i)
-        a, b = s.lane(one, i), s.lane(other, i)
-        s.put_vector(
-            to,
-            [
-                x
-                for first in range(0, to.size, 16)
-                for x in function(a[first:][:16], b[first:][:16])
-            ],
-        )
+    @three
+    def handler(s, to, one, other):
+        a = s.lane(one)
+        b = s.lane(other)
+        lane = []
+        for first in range(0, to.size, 16):
+            lane += function(a[first:][:16], b[first:][:16])
+        s.put_vector(to, lane)
 
     return handler
 
 
 def shift_units(size, function):
-    def handler(s, i):
-        to, one, by = three(s, i)
+    @three
+    def handler(s, to, one, by):
         require(by.kind == "number" and by.value < 8 * size, "a shift")
-        s.put_vector(to, each(lambda a: function(a, by.value), size, s.lane(one, i)))
+        s.put_vector(to, each(lambda a: function(a, by.value), size, s.lane(one)))
 
     return handler
 
@@ -72,65 +68,52 @@ def interleaved(size):
 
 
 def move_vector(is_aligned):
-    def handler(s, i):
-        to, by = i.operands
+    def handler(s, to, by):
         if to.kind == "memory":
-            return s.store(s.address_of(to, i), s.lane(by, i), is_aligned)
-        s.put_vector(
-            to,
-            s.load(s.address_of(by, i), by.size, is_aligned)
-            if by.kind == "memory"
-            else s.lane(by, i),
-        )
+            return s.store(s.address_of(to), s.lane(by), is_aligned)
+        if by.kind == "memory":
+            return s.put_vector(to, s.load(s.address_of(by), by.size, is_aligned))
+        s.put_vector(to, s.lane(by))
 
     return handler
+
+
+def put_low(s, to, lane):
+    """Writes the lowest bytes of a vector or of another operand. Those above are cleared."""
+    if to.kind == "vector":
+        return s.put_vector(to, lane)
+    s.put(to, joined(lane + [byte(0)] * (to.size - len(lane))))
 
 
 def move_low(size):
-    """Between the lowest bytes of a vector and another operand. In a vector, the others are
-    cleared."""
-
-    def handler(s, i):
-        to, by = i.operands
-        lane = s.lane(by, i, size)
-        return s.put_vector(to, lane) if to.kind == "vector" else s.put(to, i, joined(lane))
-
-    return handler
+    return lambda s, to, by: put_low(s, to, s.lane(by, size))
 
 
 def insert(size):
-    def handler(s, i):
-        to, *one, by, index = i.operands
+    def handler(s, to, *others):
+        *one, by, index = others
         require(index.value < to.size // size, "an index")
-        lane, first = s.lane([*one, to][0], i), index.value * size
-        s.put_vector(to, lane[:first] + s.lane(by, i, size) + lane[first + size :])
+        lane, first = s.lane([*one, to][0]), index.value * size
+        s.put_vector(to, lane[:first] + s.lane(by, size) + lane[first + size :])
 
     return handler
 
 
 def extract(size):
-    def handler(s, i):
-        to, one, index = i.operands
-        lane = s.lane(one, i)
+    def handler(s, to, one, index):
+        lane = s.lane(one)
         require(index.value < len(lane) // size, "an index")
-        part = lane[index.value * size :][:size]
-        whole = part + [byte(0)] * (to.size - size)
-        return s.put_vector(to, whole) if to.kind == "vector" else s.put(to, i, joined(whole))
+        put_low(s, to, lane[index.value * size :][:size])
 
     return handler
 
 
 def broadcast(size):
-    def handler(s, i):
-        to, by = i.operands
-        s.put_vector(to, s.lane(by, i, size) * (to.size // size))
-
-    return handler
+    return lambda s, to, by: s.put_vector(to, s.lane(by, size) * (to.size // size))
 
 
-def test_vector(s, i):
-    one, other = i.operands
-    lanes = s.lane(one, i), s.lane(other, i)
+def test_vector(s, one, other):
+    lanes = s.lane(one), s.lane(other)
     z, c = [
         z3.And(*[simple(function(a, b)) == 0 for a, b in zip(*lanes)])
         for function in (AND, AND_NOT)
@@ -138,18 +121,16 @@ def test_vector(s, i):
     s.flags = {"z": z, "c": c, "s": z3.BoolVal(False), "o": z3.BoolVal(False)}
 
 
-def widen(s, i):
-    to, by = i.operands
-    s.put_vector(to, [x for low in s.lane(by, i, to.size // 2) for x in (low, byte(0))])
+def widen(s, to, by):
+    s.put_vector(to, [x for low in s.lane(by, to.size // 2) for x in (low, byte(0))])
 
 
-def permute(s, i):
-    to, by, how = i.operands
-    lane = s.lane(by, i)
+def permute(s, to, by, how):
+    lane = s.lane(by)
     s.put_vector(to, [x for bit in range(0, 8, 2) for x in lane[8 * (how.value >> bit & 3) :][:8]])
 
 
-def vzeroupper(s, i):
+def vzeroupper(s):
     s.vectors = {name: lane[:16] + [byte(0)] * 16 for name, lane in s.vectors.items()}
     s.is_clean = True
 
@@ -192,9 +173,9 @@ def legacy(handler):
     """The form of SSE: an operand of 16 bytes in memory is aligned, and what lies above in a vector
     is kept."""
 
-    def of_sse(s, i):
+    def of_sse(s, *operands):
         s.is_legacy = True
-        handler(s, i)
+        handler(s, *operands)
         s.is_legacy = False
 
     return of_sse

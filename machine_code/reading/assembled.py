@@ -29,9 +29,8 @@ LINE = re.compile(r"^\s*([0-9a-f]+):\t((?:(?:[0-9a-f]{2})+ )+)\s*\t(.*)$")
 # Each text is assembled in a slot of its own, which has more bytes than an instruction, and these
 # where none is.
 SLOT, FILL = 16, b"\xcc"
-ADDRESS, MESSAGE = re.compile(r"(?<!#)\b0x([0-9a-f]+)$"), re.compile(
-    r"\{standard input\}:(\d+): \w+: (.*)"
-)
+ADDRESS = re.compile(r"(?<!#)\b0x([0-9a-f]+)$")
+MESSAGE = re.compile(r"\{standard input\}:(\d+): \w+: (.*)")
 
 
 def with_distance(instruction):
@@ -88,7 +87,8 @@ def _assembled(processor, command, texts):
     ]
     with tempfile.TemporaryDirectory() as folder:
         # With -Z there is an object in spite of errors.
-        file, command = pathlib.Path(folder, "again.o"), [
+        file = pathlib.Path(folder, "again.o")
+        command = [
             *command,
             "-Z",
             "-o",

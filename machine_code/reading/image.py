@@ -47,7 +47,9 @@ class Image:
         self.size = max(part.address + part.size for part in parts) - self.first
         # What is named after the library, the addresses of all names, and those of the dispatcher's
         # byte.
-        self.symbols, self.starts, self.choices = {}, set(), set()
+        self.symbols = {}
+        self.starts = set()
+        self.choices = set()
         # The functions of the header that the loader finds by name, and what other files have to
         # define.
         self.exported, self.imported = set(), set()

@@ -25,16 +25,16 @@ class Module:
     """
 
     def __init__(self):
-        self.machine, self.functions, self.data = None, [], []
+        self.machine = None
+        self.functions = []
+        self.data = []
         # Where the data lie, which have so many bytes.
         self.first = self.size = 0
-        self.symbols, self.exported, self.globals, self.mutable, self.addresses = (
-            {},
-            set(),
-            [],
-            set(),
-            {},
-        )
+        self.symbols = {}
+        self.exported = set()
+        self.globals = []
+        self.mutable = set()
+        self.addresses = {}
 
     def read(self, offset, count):
         return self.data[0].content[offset : offset + count]

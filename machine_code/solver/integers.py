@@ -27,17 +27,18 @@ class Facts:
     each other: it decides, too, that a sum is so small that it need not be reduced."""
 
     def __init__(self, is_impossible):
-        self.conditions, self.ranges, self.sums, self._is_impossible = [], {}, {}, is_impossible
+        self.conditions = []
+        self.ranges = {}
+        self.sums = {}
+        self._is_impossible = is_impossible
         self.models = []  # values for which all of them hold, as far as some are known
 
     def and_also(self, fact):
         """These facts and another one, or None if that is not linear."""
         other = Facts(self._is_impossible)
-        other.conditions, other.ranges, other.sums = (
-            self.conditions.copy(),
-            self.ranges.copy(),
-            self.sums.copy(),
-        )
+        other.conditions = self.conditions.copy()
+        other.ranges = self.ranges.copy()
+        other.sums = self.sums.copy()
         try:
             other.conditions.append(other.condition(fact))
         except ValueError:
@@ -60,7 +61,9 @@ class Facts:
 
     def _number(self, term):
         """The integer from 0 up to the power of two that these bits stand for."""
-        kind, children, size = term.decl().kind(), term.children(), term.size()
+        kind = term.decl().kind()
+        children = term.children()
+        size = term.size()
         if z3.is_bv_value(term):
             return z3.IntVal(term.as_long())
         if z3.is_const(term):

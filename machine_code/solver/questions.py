@@ -16,7 +16,9 @@ QUICK, LIMIT = 600_000, 40_000_000
 proved = []
 counts = {"asked": 0}
 # By their names and numbers, and the terms that are kept so that their numbers are not used again.
-_constants, _names, _kept = {}, {}, []
+_constants = {}
+_names = {}
+_kept = []
 _is_public = {}  # by the name of a constant; others are secret
 
 
@@ -123,7 +125,9 @@ class Fact:
     """A condition that is known, with the names of its constants."""
 
     def __init__(self, term):
-        self.term, self.names, self.is_public = term, frozenset(names(term)), is_public(term)
+        self.term = term
+        self.names = frozenset(names(term))
+        self.is_public = is_public(term)
 
 
 def facts_of(condition):

@@ -19,11 +19,13 @@ from execution.code import Code
 from execution.paths import step
 from execution.terms import byte, simple, word
 from meanings import webassembly
-from meanings.webassembly import HANDLERS
+from meanings.webassembly import EFFECTS
 from solver.questions import Rejected, public, require, secret
 from build import MODULE, TOP, linked_module
 
-SIZE, RESULT, SCRATCH = 1024, 64, 256
+SIZE = 1024
+RESULT = 64
+SCRATCH = 256
 EDGES = bytes([0, 1, 0x7F, 0x80, 0xFF, 0x30, 0x39, 0x41, 0x66, 0x0F, 0x10])
 BYTES = [byte(value) for value in range(256)]
 # Bytes that a selection does not know: it becomes a branch, or an unknown number if a byte of the
@@ -75,7 +77,7 @@ def _function(name, text):
     mnemonic = text.split()[0]
     operands = " ".join(
         f"i32.const {16 * index} {TYPES[kind]}.load"
-        for index, kind in enumerate(HANDLERS[mnemonic].takes)
+        for index, kind in enumerate(EFFECTS[mnemonic][0])
     )
     if ".store" in mnemonic:
         return f'(func (export "{name}") {operands} {text})'
@@ -200,11 +202,16 @@ class Node:
         contract = types.SimpleNamespace(
             returns=lambda _: None, is_alone=lambda _, offset: offset == 201, passed=()
         )
-        state.code, state.contract, state.calls, state.steps = self.code, contract, {}, 0
-        state.before, state.input = before, {
-            offset: (offset, name) for offset, name in UNKNOWN.items()
-        }
-        state.memory, state.vectors, state.facts, state.is_declassified = [*before], {}, [], False
+        state.code = self.code
+        state.contract = contract
+        state.calls = {}
+        state.steps = 0
+        state.before = before
+        state.input = {offset: (offset, name) for offset, name in UNKNOWN.items()}
+        state.memory = [*before]
+        state.vectors = {}
+        state.facts = []
+        state.is_declassified = False
         state.general = {"global 0": word(self.code.object.globals[0])}
         state.address = self.code.object.symbols[name]
         state.begin(self.code.object.code_at(state.address), [], public("return", 64))

@@ -28,7 +28,9 @@ from solver.questions import require
 
 FOLDER = pathlib.Path(__file__).resolve().parents[1]
 # As in run.c.
-SIZE, TEXT, SCRATCH = 1 << 12, 0x4000000, 0x8000000
+SIZE = 1 << 12
+TEXT = 0x4000000
+SCRATCH = 0x8000000
 MIDDLE = SIZE // 2
 NOT_ALONE = ("ret", "call", "jmp", "nop", "bl", "b", "cpuid", "xgetbv")
 # So many instructions of each form, and states of all of them.
@@ -145,7 +147,9 @@ class Processor:
     def _start(self, i, some):
         """A random state, in which an address lies in the scratch area, aligned for any access."""
         state = type("Known", (Memory, self.meanings.State), {})()
-        state.code, state.object, state.is_legacy = self.code, self.memory, False
+        state.code = self.code
+        state.object = self.memory
+        state.is_legacy = False
         state.scratch = bytearray(_random_bytes(some, SIZE))
         near, general = some.choice(NEAR), {}
         for name in self.kind.registers:
@@ -153,8 +157,8 @@ class Processor:
             general[name] = number if near is None else near + some.randrange(-1, 2)
         general[state.TOP] = SCRATCH + MIDDLE
         for o in i.operands if i.mnemonic != "lea" else ():
-            if o.kind == "memory" and ("rip", 1) not in getattr(o, "terms", ()):
-                base, *others = self._terms(o)
+            if o.kind == "memory" and ("rip", 1) not in o.terms:
+                base, *others = o.terms
                 for name, _ in others:
                     general[name] = some.randrange(256) & -32
                 rest = o.offset + sum(general[name] * scale for name, scale in others)
@@ -166,12 +170,6 @@ class Processor:
         state.vectors = {n: [BYTES[value] for value in lane] for n, lane in state.raw.items()}
         state.next = i.address + i.size
         return state
-
-    def _terms(self, o):
-        """The registers of an address, with what they are multiplied by."""
-        if hasattr(o, "terms"):
-            return o.terms
-        return [(name, 1) for name in (o.base, o.index) if name]
 
     def _packed(self, state):
         """A state as run.c has it."""
@@ -187,13 +185,15 @@ class Processor:
     def difference(self, i, seed):
         """What differs between the processor and the meaning for one random state."""
         state = self._start(i, random.Random(seed))
-        target, request, old = self._target(i), self._packed(state), state.vectors.copy()
+        target = self._target(i)
+        request = self._packed(state)
+        old = state.vectors.copy()
         self.process.stdin.write(
             struct.pack("<QQQ", i.address, i.address + i.size, target) + request
         )
         self.process.stdin.flush()
         after = self.process.stdout.read(len(request))
-        to = rejected_or(self.meanings.HANDLERS[i.mnemonic], state, i)
+        to = rejected_or(self.meanings.HANDLERS[i.mnemonic], state, *i.operands)
         return ", ".join(self._compared(state, old, after, target, to))
 
     def _compared(self, state, old, after, target, to):
@@ -228,7 +228,7 @@ class Processor:
         """What differs of some instructions of each form: a mnemonic with kinds of operands."""
         forms = collections.defaultdict(list)
         for i in self.instructions:
-            kinds = [(o.kind, getattr(o, "size", None)) for o in i.operands]
+            kinds = [(o.kind, o.size) for o in i.operands]
             forms[i.mnemonic, *kinds].append(i)
         some = [those[:: len(those) // PLACES or 1][:PLACES] for those in forms.values()]
         for i, count in [(i, STATES // len(those)) for those in some for i in those]:

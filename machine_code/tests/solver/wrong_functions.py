@@ -6,16 +6,14 @@ line. Where it can, an edit stands at the start of a function or at a call, wher
 register has what.
 """
 
-PASSES, LENGTH = (
-    "a character is passed that may be no digit",
-    "arguments that the contract does not allow",
-)
-NEITHER, SECRET, OUTSIDE = "neither true nor false", "a branch depends on bytes", "may lie outside"
-UNREAD, STACK, INPUT = (
-    "output is read",
-    "the stack of a function that is called",
-    "in what is no input",
-)
+PASSES = "a character is passed that may be no digit"
+LENGTH = "arguments that the contract does not allow"
+NEITHER = "neither true nor false"
+SECRET = "a branch depends on bytes"
+OUTSIDE = "may lie outside"
+UNREAD = "output is read"
+STACK = "the stack of a function that is called"
+INPUT = "in what is no input"
 READ, CHECK = "call SYMBOL(const_hex_kernel_read)", "call SYMBOL(const_hex_kernel_check)"
 FILL, FAIL = "call SYMBOL(const_hex_kernel_fill_lower)", "call const_hex_decoder_fail"
 FIND, CHECK_ON_ARM = "call const_hex_body_locate_invalid", "bl SYMBOL(const_hex_kernel_check)"

@@ -15,11 +15,9 @@ MODULE = """(module (memory (export "memory") 1 1) (global (mut i32) (i32.const 
     end end {end} i32.const 1 return end {invalid} i32.const 0)
   (func (param i32) (result i32) local.get 0 i32.const 1 i32.add)
   (data (i32.const 4096) "{data}"))"""
-DATA, SECRET, LAYOUT = (
-    "\\00" * 600,
-    "a branch depends on bytes that are secret",
-    "the data and `__heap_base` lie at",
-)
+DATA = "\\00" * 600
+SECRET = "a branch depends on bytes that are secret"
+LAYOUT = "the data and `__heap_base` lie at"
 # What is wrong, what stands at which position, and the message.
 WRONG = [
     (
