@@ -1,4 +1,4 @@
-// Prints the nanoseconds of a call of the package for JavaScript, and of Node's own, by the number of bytes: the medians
+// Prints the nanoseconds of a call of the package for JavaScript, and of Node's own, by the number of bytes: the least
 // of rounds in which all calls take turns. From the top: node js/build.js && node bench/speed.mjs
 import { decode, encode } from '../js/dist/const_hex.js';
 
@@ -9,7 +9,7 @@ const CALLS = {
     "Buffer.from(text, 'hex')": ({ text }) => Buffer.from(text, 'hex')[0],
     decode: ({ text }) => decode(text)[0],
 };
-const [ROUNDS, IN_A_ROUND] = [19, 20_000];
+const [ROUNDS, IN_A_ROUND] = [400, 1_000];
 
 let sink = 0;
 
@@ -25,7 +25,7 @@ for (const size of [20, 32, 256, 4096]) {
     const input = { bytes, text: bytes.toString('hex') };
     const rounds = Array.from({ length: ROUNDS }, () => Object.values(CALLS).map((call) => timeOf(call, input)));
     Object.keys(CALLS).forEach((name, call) => {
-        rows[name][size] = Math.round(rounds.map((times) => times[call]).sort((a, b) => a - b)[ROUNDS >> 1]);
+        rows[name][size] = Math.round(Math.min(...rounds.map((times) => times[call])));
     });
 }
 console.table(rows);

@@ -22,7 +22,7 @@
  *     const_hex_decode_exact      text to a known number of bytes, such as a hash or a key
  *     const_hex_decoder_update    decodes text that arrives in chunks, from a file or a socket
  *     const_hex_decoder_finish    tells whether the chunks form a complete text
- *     const_hex_check             whether a text can be decoded
+ *     const_hex_check             whether text can be decoded
  *     const_hex_check_raw         whether every character is a hexadecimal digit
  *     const_hex_error_message     turns an error into a readable message
  *     const_hex_version           the version of the library
@@ -69,12 +69,12 @@
  * header, by the separate tool in machine_code: every function, on x86-64 with both kernels that it may call (for
  * SSE4.2 and for AVX2), for every length that an object can have and every position of a decoder. This is a proof
  * about the shared library as it is linked; a program that libconst_hex.a is linked into can be proved in the same
- * way. That this header says in prose what the contracts say is tested, by a model in C, and not proved.
+ * way. That this header says in prose what the contracts say is tested, by test vectors, and not proved.
  *
  * CONSTANT TIME
  *
  * For valid input, branches and memory addresses do not depend on the bytes or digits, but only on lengths,
- * sizes, flags and pointers, on whether a text has a prefix, and on where the chunks of a text are split.
+ * sizes, flags and pointers, on whether text has a prefix, and on where its chunks are split.
  * This is verified in the machine code, on x86-64 with both kernels and on AArch64. It does not hold for
  * const_hex_error_message, nor for invalid text: the error states the position of the invalid character, and
  * timing reveals it too. How long an instruction takes is up to the CPU. No memory is wiped.
@@ -163,11 +163,11 @@ extern "C" {
     predicate const_hex_invalid{L}(char *text, integer from, integer length, integer index) =
         from <= index < length && const_hex_digits(text, from, index) && !const_hex_is_digit(text[index]);
 
-    // Where the digits of a text start.
+    // Where the digits of the text start.
     logic integer const_hex_start{L}(char *text, integer length) =
         length >= 2 && text[0] == '0' && (text[1] == 'x' || text[1] == 'X') ? 2 : 0;
 
-    // The bytes from one position to another are decoded from a text, two characters from `start` on for each.
+    // The bytes from one position to another are decoded from the text, two characters from `start` on for each.
     predicate const_hex_decoded{L}(unsigned char *bytes, integer from, integer to, char *text, integer start) =
         \forall integer k; from <= k < to ==> bytes[k] ==
             16 * const_hex_value(text[start + 2 * k]) + const_hex_value(text[start + 2 * k + 1]);
@@ -338,7 +338,7 @@ size_t const_hex_encoded_size(size_t bytes_length, unsigned flags);
  *     if (const_hex_encode(hash, 32, text, sizeof text, 0)) ...
  *
  * To encode bytes that arrive in chunks, encode each chunk, with CONST_HEX_PREFIX for the first one only.
- * The concatenated texts are the text of all bytes.
+ * The concatenated results are the text of all bytes.
  */
 /*@ requires \valid(text + (0 .. text_size - 1));
     requires flags < 8 && const_hex_size(bytes_length, flags) <= text_size ==>
@@ -536,7 +536,7 @@ struct const_hex_decoder {
 */
 
 /*
- * Decodes the next chunk of a text. The text may be split anywhere, even between the two digits of a byte
+ * Decodes the next chunk of the text. It may be split anywhere, even between the two digits of a byte
  * or within the prefix, and a chunk may be empty. A prefix is accepted only at the start of the whole text. A
  * byte is written when its second digit arrives.
  *

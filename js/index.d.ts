@@ -77,16 +77,18 @@ export function decoderStream(): TransformStream<Text, NewBytes>;
 /** Throws what `decode` would throw for the text, except for a RangeError. Returns nothing. */
 export function check(text: Text): void;
 
+declare const decodes: unique symbol;
+/** A string that `decode` accepts: `isHex` narrows a string to this type. */
+export type HexString = string & { readonly [decodes]: true };
+
 /** Returns whether `decode` accepts the text. */
+export function isHex<Given extends string>(text: Given): text is Given & HexString;
 export function isHex(text: Text): boolean;
 
 /** Clears what earlier calls left in the module's memory: at most the last 48 KiB of inputs and outputs. */
 export function wipe(): void;
 
-/**
- * `encode` and `decode` under the names of `@noble/hashes`, whose `hexToBytes` rejects `0x`. In viem, `hexToBytes` and
- * `isHex` are about text that begins with `0x`, and accept an odd number of digits.
- */
+/** `encode` and `decode` under names that other packages have, too, where `0x` and an odd length may count otherwise. */
 export { encode as bytesToHex, decode as hexToBytes };
 
 /** The error for text that cannot be decoded. */

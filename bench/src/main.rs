@@ -20,11 +20,7 @@ fn main() -> ExitCode {
             repeat_all(&arguments.split_off(1));
             Ok(())
         }
-        Some("--builds") => {
-            let has_c = env::var_os("CONST_HEX_LIBRARY_DIR").is_some();
-            let mut builds = BUILDS.into_iter().filter(|build| has_c || build.0 != IN_C);
-            builds.try_for_each(run_build)
-        }
+        Some("--builds") => BUILDS.into_iter().try_for_each(run_build),
         _ => print(&arguments),
     };
     match done {
@@ -37,7 +33,7 @@ fn main() -> ExitCode {
 }
 
 /// The builds: what each is called, rustc's flags, and cargo's options.
-const BUILDS: [(&str, &str, &str); 8] = [
+const BUILDS: [(&str, &str, &str); 7] = [
     ("default", "", "--release"),
     ("x86-64-v3", V3, "--release"),
     ("fat LTO", "", "--profile lto"),
@@ -49,9 +45,7 @@ const BUILDS: [(&str, &str, &str); 8] = [
         "--profile lto --features force-generic",
     ),
     ("dev", "", ""),
-    (IN_C, "", "--profile lto --features c"),
 ];
-const IN_C: &str = "in C, fat LTO";
 const V3: &str = "-C target-cpu=x86-64-v3";
 
 /// Counts in a build, and prints the cells in which const-hex takes fewer instructions.
@@ -211,35 +205,29 @@ fn counted_by_qemu(only: &[String]) -> io::Result<Vec<u64>> {
     }
 }
 
-/// These names, each once.
-fn distinct<'a>(names: impl Iterator<Item = &'a str>) -> Vec<&'a str> {
-    let mut found = Vec::new();
-    for name in names {
-        if !found.contains(&name) {
-            found.push(name);
-        }
-    }
-    found
-}
-
 /// Prints a table for each call, with a row for each size and a column for each library.
 fn print_tables(cells: &[Cell]) {
-    for call in distinct(cells.iter().map(|(case, _)| &*case.call)) {
-        let of_call = cells.iter().filter(|(case, _)| case.call == call);
-        let libraries = distinct(of_call.clone().map(|(case, _)| case.library));
-        println!(
-            "\n| {call} | {} |\n|{}",
-            libraries.join(" | "),
-            "---|".repeat(libraries.len() + 1)
-        );
+    let mut calls: Vec<&str> = Vec::new();
+    for (case, _) in cells {
+        if calls.contains(&&*case.call) {
+            continue;
+        }
+        calls.push(&case.call);
+        let of_call: Vec<_> = cells
+            .iter()
+            .filter(|cell| cell.0.call == case.call)
+            .collect();
+        let row = |size: usize, shown: fn(&Cell) -> String| -> Vec<String> {
+            let of_size = of_call.iter().filter(|cell| cell.0.size == size);
+            of_size.map(|cell| shown(cell)).collect()
+        };
+        let libraries = row(case.size, |cell| cell.0.library.to_string());
+        println!("\n| {} | {} |", case.call, libraries.join(" | "));
+        println!("|{}", "---|".repeat(libraries.len() + 1));
         for size in SIZES {
-            let row = of_call
-                .clone()
-                .filter(|(case, _)| case.size == size)
-                .map(|(_, count)| count.to_string());
-            let row: Vec<String> = row.collect();
-            if !row.is_empty() {
-                println!("| {size} | {} |", row.join(" | "));
+            let counts = row(size, |cell| cell.1.to_string());
+            if !counts.is_empty() {
+                println!("| {size} | {} |", counts.join(" | "));
             }
         }
     }
@@ -250,20 +238,14 @@ const ABOVE: &str = "More instructions than const-hex";
 /// Prints each cell in which const-hex takes fewer instructions than const-hex-proved.
 fn print_above(cells: &[Cell]) {
     println!("\n{ABOVE}:\n");
-    for (Case { call, size, .. }, ours) in cells
-        .iter()
-        .filter(|(case, _)| case.library == "const-hex-proved")
-    {
-        let is_theirs =
-            |case: &Case| case.library == "const-hex" && case.call == *call && case.size == *size;
-        match cells.iter().find(|(case, _)| is_theirs(case)) {
-            Some((_, theirs)) if ours > theirs => {
-                println!(
-                    "{:.2}: {call}, {size} bytes, {ours} beside {theirs}",
-                    *ours as f64 / *theirs as f64
-                )
-            }
-            _ => {}
+    let of = |library| cells.iter().filter(move |cell| cell.0.library == library);
+    for (Case { call, size, .. }, ours) in of("const-hex-proved") {
+        let mut theirs =
+            of("const-hex").filter(|(case, _)| (&case.call, case.size) == (call, *size));
+        let (_, theirs) = theirs.next().expect("the same call of const-hex");
+        if ours > theirs {
+            let ratio = *ours as f64 / *theirs as f64;
+            println!("{ratio:.2}: {call}, {size} bytes, {ours} beside {theirs}");
         }
     }
 }

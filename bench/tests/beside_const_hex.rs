@@ -8,70 +8,53 @@ mod random;
 
 use const_hex as theirs;
 use const_hex_proved as ours;
+use const_hex_proved::FromHexError::{self, *};
 use random::Random;
-use std::env;
-use std::fmt::Debug;
 
 /// The error of ours that an error of theirs stands for. `added` is the length of a prefix that it did not count.
-fn as_ours(error: theirs::FromHexError, added: usize) -> ours::FromHexError {
+fn as_ours(error: theirs::FromHexError, added: usize) -> FromHexError {
     match error {
-        theirs::FromHexError::OddLength => ours::FromHexError::OddLength,
-        theirs::FromHexError::InvalidStringLength => ours::FromHexError::InvalidStringLength,
-        theirs::FromHexError::InvalidHexCharacter { c, index } => {
-            let index = index + added;
-            ours::FromHexError::InvalidHexCharacter { c, index }
-        }
+        theirs::FromHexError::OddLength => OddLength,
+        theirs::FromHexError::InvalidStringLength => InvalidStringLength,
+        theirs::FromHexError::InvalidHexCharacter { c, index } => InvalidHexCharacter {
+            c,
+            index: index + added,
+        },
     }
 }
 
-fn same<T: PartialEq + Debug>(call: &str, input: &[u8], theirs: T, ours: T) {
-    assert_eq!(theirs, ours, "{call} of {input:?}");
+/// Compares the results of calls that both crates have.
+macro_rules! same {
+    ($input:ident; $($name:ident),+) => {$(
+        assert_eq!(theirs::$name($input), ours::$name($input), "{} of {:?}", stringify!($name), $input);
+    )+};
+    // Results with errors.
+    ($input:ident, $added:expr; $($name:ident $(::<$($size:tt),+>)?),+) => {$(
+        let wanted = theirs::$name $(::<$($size),+>)?($input).map_err(|error| as_ours(error, $added));
+        assert_eq!(wanted, ours::$name $(::<$($size),+>)?($input), "{} of {:?}", stringify!($name), $input);
+    )+};
+}
+
+/// Compares functions that fill an output. After an invalid character each may have decoded more or fewer of the bytes
+/// before it.
+macro_rules! same_output {
+    ($input:ident, $added:expr, $space:ident; $($name:ident),+) => {$(
+        let (mut output, mut other) = (vec![7; $space], vec![7; $space]);
+        let wanted = theirs::$name($input, &mut output).map_err(|error| as_ours(error, $added));
+        assert_eq!(wanted, ours::$name($input, &mut other), "{} of {:?}", stringify!($name), $input);
+        if !matches!(wanted, Err(InvalidHexCharacter { .. })) {
+            assert_eq!(output, other, "the output of {} of {:?}", stringify!($name), $input);
+        }
+    )+};
 }
 
 fn encodes(bytes: &[u8], space: usize) {
-    same("encode", bytes, theirs::encode(bytes), ours::encode(bytes));
-    same(
-        "encode_upper",
-        bytes,
-        theirs::encode_upper(bytes),
-        ours::encode_upper(bytes),
-    );
-    same(
-        "encode_prefixed",
-        bytes,
-        theirs::encode_prefixed(bytes),
-        ours::encode_prefixed(bytes),
-    );
-    let prefixed = theirs::encode_upper_prefixed(bytes);
-    same(
-        "encode_upper_prefixed",
-        bytes,
-        prefixed,
-        ours::encode_upper_prefixed(bytes),
-    );
-    let (mut text, mut other) = (vec![7; space], vec![7; space]);
-    let wanted = theirs::encode_to_slice(bytes, &mut text).map_err(|error| as_ours(error, 0));
-    same(
-        "encode_to_slice",
-        bytes,
-        wanted,
-        ours::encode_to_slice(bytes, &mut other),
-    );
-    same("the output of encode_to_slice", bytes, &text, &other);
-    let wanted = theirs::encode_to_slice_upper(bytes, &mut text).map_err(|error| as_ours(error, 0));
-    same(
-        "encode_to_slice_upper",
-        bytes,
-        wanted,
-        ours::encode_to_slice_upper(bytes, &mut other),
-    );
-    same("the output of encode_to_slice_upper", bytes, &text, &other);
-    let printed = format!("{:#x}{:X}", theirs::display(bytes), theirs::display(bytes));
-    same(
-        "display",
-        bytes,
-        printed,
-        format!("{:#x}{:X}", ours::display(bytes), ours::display(bytes)),
+    same!(bytes; encode, encode_upper, encode_prefixed, encode_upper_prefixed);
+    same_output!(bytes, 0, space; encode_to_slice, encode_to_slice_upper);
+    let (theirs, ours) = (theirs::display(bytes), ours::display(bytes));
+    assert_eq!(
+        format!("{theirs:#x}{theirs:X}"),
+        format!("{ours:#x}{ours:X}")
     );
 }
 
@@ -80,30 +63,10 @@ fn decodes(text: &[u8], space: usize) {
         [b'0', b'x' | b'X', ..] if text.len() % 2 == 0 => 2,
         _ => 0,
     };
-    let wanted = theirs::decode(text).map_err(|error| as_ours(error, added));
-    same("decode", text, wanted, ours::decode(text));
-    let wanted = theirs::check(text).map_err(|error| as_ours(error, 0));
-    same("check", text, wanted, ours::check(text));
-    same("const_check", text, wanted, ours::const_check(text));
-    same(
-        "check_raw",
-        text,
-        theirs::check_raw(text),
-        ours::check_raw(text),
-    );
-    let (mut bytes, mut other) = (vec![7; space], vec![7; space]);
-    let wanted = theirs::decode_to_slice(text, &mut bytes).map_err(|error| as_ours(error, added));
-    let names_character = matches!(wanted, Err(ours::FromHexError::InvalidHexCharacter { .. }));
-    same(
-        "decode_to_slice",
-        text,
-        wanted,
-        ours::decode_to_slice(text, &mut other),
-    );
-    // After an invalid character each may have decoded more or fewer of the bytes before it.
-    if !names_character {
-        same("the output of decode_to_slice", text, bytes, other);
-    }
+    same!(text; check_raw);
+    same!(text, 0; check);
+    same!(text, added; decode);
+    same_output!(text, added, space; decode_to_slice);
     arrays::<0>(text, added);
     arrays::<1>(text, added);
     arrays::<20>(text, added);
@@ -111,37 +74,22 @@ fn decodes(text: &[u8], space: usize) {
 }
 
 fn arrays<const N: usize>(text: &[u8], added: usize) {
-    let wanted = theirs::decode_to_array::<_, N>(text).map_err(|error| as_ours(error, added));
-    same(
-        "decode_to_array",
-        text,
-        wanted,
-        ours::decode_to_array::<_, N>(text),
-    );
-    same(
-        "const_decode_to_array",
-        text,
-        wanted,
-        ours::const_decode_to_array::<N>(text),
-    );
-    if let Ok(bytes) = wanted {
-        let wanted = theirs::Buffer::<N, true>::new()
-            .format_upper(&bytes)
-            .to_string();
-        let found = ours::Buffer::<N, true>::new()
-            .format_upper(&bytes)
-            .to_string();
-        same("Buffer::format_upper", &bytes, wanted, found);
+    same!(text, added; decode_to_array::<_, N>, const_decode_to_array::<N>);
+    if let Ok(bytes) = ours::decode_to_array::<_, N>(text) {
+        let (mut theirs, mut ours) = (
+            theirs::Buffer::<N, true>::new(),
+            ours::Buffer::<N, true>::new(),
+        );
+        assert_eq!(theirs.format_upper(&bytes), ours.format_upper(&bytes));
     }
 }
 
 #[test]
 fn random_inputs() {
-    let count = env::var("CASES").map_or(100_000, |count| count.parse().unwrap());
+    let count = std::env::var("CASES").map_or(100_000, |count| count.parse().unwrap());
     let mut random = Random(0x9E37_79B9_7F4A_7C15);
     for _ in 0..count {
-        let bytes = random.bytes();
-        let text = random.text();
+        let (bytes, text) = (random.bytes(), random.text());
         let space = (2 * bytes.len() + random.below(3)).saturating_sub(random.below(3));
         encodes(&bytes, space);
         let space = (text.len() / 2 + random.below(2)).saturating_sub(random.below(3));

@@ -1,16 +1,16 @@
 /*
  * What the test programs share: the builds that they test, memory whose ends cannot be crossed, and a runner.
  *
- *     PROGRAM [TEST [STEP]]
+ *     PROGRAM [TEST]
  *
- * Runs the named test, or all, for each build. With a STEP it tries only each STEPth case of a long loop, for
- * a CPU that is emulated. The status is 1 if a test failed.
+ * Runs the named test, or all, for each build. The status is 1 if a test failed.
  */
 #ifndef COMMON_H
 #define COMMON_H
 #define _GNU_SOURCE
 
 #include "const_hex.h"
+#include <inttypes.h>
 #include <stdio.h>
 #include <stdlib.h>
 #include <string.h>
@@ -89,7 +89,7 @@ static const struct build *builds_end(void) {
 /* ---- Memory ---- */
 
 /* The size of an area, what fills an output before a call, and how many bytes around it are compared. */
-enum { AREA = 33 * 4096, MARK = 0x6E, AROUND = 64 };
+enum { AREA = 513 * 4096, MARK = 0x6E, AROUND = 64 };
 
 /* The areas of an input in bytes, of a text, and of decoded bytes, between pages that cannot be accessed. */
 static struct { char *bytes, *text, *decoded; } areas;
@@ -111,9 +111,9 @@ static char *new_area(void) {
 
 static inline size_t least(size_t one, size_t other) { return one < other ? one : other; }
 
-/* Where a buffer begins: `by` bytes before the end of the area up to 63, then `by - 64` after its start. */
-static inline char *position(char *area, size_t size, size_t by) {
-  return by < 64 ? area + AREA - size - by : area + by - 64;
+/* Where a buffer begins, at one end of the area. */
+static inline char *position(char *area, size_t size, bool at_start) {
+  return at_start ? area : area + AREA - size;
 }
 
 /* A buffer, and how many bytes around it are compared, as far as the area goes. */
@@ -123,8 +123,8 @@ struct buffer {
 };
 
 /* A buffer at that position, in which each byte is marked, as are those around it. */
-static inline struct buffer marked(char *area, size_t size, size_t by) {
-  char *bytes = position(area, size, by);
+static inline struct buffer marked(char *area, size_t size, bool at_start) {
+  char *bytes = position(area, size, at_start);
   size_t before = least(AROUND, (size_t)(bytes - area));
   struct buffer buffer = {bytes, size, before, least(AROUND, (size_t)(area + AREA - bytes) - size)};
   memset(bytes - before, MARK, before + size + buffer.after);
@@ -144,14 +144,25 @@ static inline bool is_rest_marked(struct buffer buffer, size_t written) {
 /* ---- The runner ---- */
 
 static unsigned long checks, failures;
-static size_t step = 1;
 
 /* Counts a check, and prints the first 20 that fail. */
-static inline void holds(bool fact, const char *what, size_t length, size_t detail) {
+static inline void expect(bool fact, const char *what, size_t length, size_t detail) {
   checks++;
   if (!fact && failures++ < 20) {
     printf("FAILED: %s: %s, at %zu, %zu\n", build->label, what, length, detail);
   }
+}
+
+/* No function writes this error. */
+static const struct const_hex_error UNSET = {9, 9, 9};
+
+/* Whether a function returned true and left the error unset, or returned false and wrote the one that is
+ * wanted. */
+static inline bool agrees(bool result, struct const_hex_error error,
+                          struct const_hex_error wanted) {
+  struct const_hex_error left = wanted.kind == 0 ? UNSET : wanted;
+  return result == (wanted.kind == 0) && error.kind == left.kind && error.byte == left.byte &&
+         error.index == left.index;
 }
 
 /* Begins a test, and adds it to those that main runs. */
@@ -173,7 +184,6 @@ int main(int words, char **argument) {
   areas.bytes = new_area();
   areas.text = new_area();
   areas.decoded = new_area();
-  step = words > 2 ? strtoul(argument[2], NULL, 10) : 1;
   for (size_t test = 0; test < tests_count; test++) {
     bool is_asked = words < 2 || strcmp(argument[1], tests[test].name) == 0;
     for (build = BUILDS; is_asked && build < end; build++) {

@@ -1,7 +1,7 @@
 /*
  * Tests of each build of the library in several threads, and over text that another thread changes meanwhile.
  */
-#include "model.h"
+#include "common.h"
 #include <pthread.h>
 
 enum { THREADS = 8, COUNT = 100, LENGTH = 2 * COUNT };
@@ -25,12 +25,12 @@ static void *work(void *number) {
 TEST(threads) {
   pthread_t all[THREADS];
   for (size_t which = 0; which < THREADS; which++) {
-    holds(pthread_create(&all[which], NULL, work, (void *)(which + 1)) == 0, "a thread begins",
-          which, 0);
+    expect(pthread_create(&all[which], NULL, work, (void *)(which + 1)) == 0, "a thread begins",
+           which, 0);
   }
   for (size_t which = 0; which < THREADS; which++) {
     void *failed = all;
-    holds(pthread_join(all[which], &failed) == 0 && failed == NULL, "a thread", which, 0);
+    expect(pthread_join(all[which], &failed) == 0 && failed == NULL, "a thread", which, 0);
   }
 }
 
@@ -46,20 +46,21 @@ static void *change(void *nothing) {
   return nothing;
 }
 
-static bool read_once(size_t turn, struct output *output) {
+static bool read_once(size_t turn, char *bytes) {
   const char *text = (const char *)changing;
   struct const_hex_decoder decoder = {{0, 0}};
+  struct const_hex_error error;
+  size_t written;
   switch (turn % 5) {
   case 0:
-    return const_hex_decode(text, LENGTH, output->buffer.bytes, COUNT, &output->written,
-                            &output->error);
+    return const_hex_decode(text, LENGTH, bytes, COUNT, &written, &error);
   case 1:
-    return const_hex_decode_exact(text, LENGTH, output->buffer.bytes, COUNT, &output->error);
+    return const_hex_decode_exact(text, LENGTH, bytes, COUNT, &error);
   case 2:
-    return const_hex_check(text, LENGTH, &output->error);
+    return const_hex_check(text, LENGTH, &error);
   case 3:
-    update(output, &decoder, text, LENGTH);
-    return const_hex_decoder_finish(&decoder, &output->error);
+    return const_hex_decoder_update(&decoder, text, LENGTH, bytes, COUNT, &written, &error) &&
+           const_hex_decoder_finish(&decoder, &error);
   default:
     return const_hex_check_raw(text, LENGTH);
   }
@@ -68,17 +69,17 @@ static bool read_once(size_t turn, struct output *output) {
 /* Each function returns, whatever it returns, and writes only where it may. On one processor the other thread seldom
  * runs between two calls, so the results seldom change: after so many turns, once is enough. */
 TEST(changing_text) {
-  struct output output = new_output(COUNT, 0);
+  struct buffer bytes = marked(areas.decoded, COUNT, false);
   pthread_t writer;
   memset((char *)changing, '0', LENGTH);
   stops = pthread_create(&writer, NULL, change, NULL) != 0;
   bool last = stops;
   for (size_t turn = 0, changes = 0; !stops; turn++) {
-    bool result = read_once(turn, &output);
+    bool result = read_once(turn, bytes.bytes);
     changes += result != last;
     last = result;
     stops = turn > 200000 && changes > (turn > 2000000 ? 0 : 10000);
   }
-  holds(pthread_join(writer, NULL) == 0, "the other thread", 0, 0);
-  holds(is_rest_marked(output.buffer, COUNT), "a write outside", 0, 0);
+  expect(pthread_join(writer, NULL) == 0, "the other thread", 0, 0);
+  expect(is_rest_marked(bytes, COUNT), "a write outside", 0, 0);
 }

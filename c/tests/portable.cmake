@@ -6,7 +6,7 @@ foreach(name check table)
   program(sanitized_${name} ${name}.c ${SANITIZE})
   target_sources(sanitized_${name} PRIVATE ${PORTABLE})
   target_compile_options(sanitized_${name} PRIVATE ${SANITIZE})
-  tests_of(sanitized.${name} sanitized_${name} 16)
+  tests_of(sanitized.${name} sanitized_${name})
 endforeach()
 # Each compiler takes it without a warning, for a system or for none.
 foreach(row cc clang x86_64-w64-mingw32-gcc "arm-none-eabi-gcc -mcpu=cortex-m0 -ffreestanding")

@@ -1,17 +1,19 @@
 /*
- * The table of test vectors of crates/const_hex_vectors, beside the model and beside each build of the library.
- * TABLE is its file.
+ * The table of test vectors of crates/const_hex_vectors, at both ends of memory that cannot be crossed. TABLE is its
+ * file.
  */
-#include "model.h"
+#include "common.h"
+#include <ctype.h>
 
-enum { LINE = 1 << 16 };
+enum { LINE = 1 << 16, LONGEST = 1 << 21 };
 
 /* A line of the table: the question, its number if it has one, the input, and the result: bytes or an error. */
 struct line {
-  char *question, *result_cell;
+  char *question;
   bool has_number;
   size_t number, length, result_length;
-  char input[LINE], result[LINE];
+  char input[LONGEST], result[LONGEST];
+  struct const_hex_error error;
 };
 
 /* Reads a cell, in which "" is nothing and \xHH a byte. Returns the length. */
@@ -25,128 +27,281 @@ static size_t read_cell(const char *cell, char *bytes) {
   return length;
 }
 
+/* Repeats the first bytes of a buffer. Returns the length of all. */
+static size_t repeat(char *bytes, size_t length, size_t times) {
+  for (size_t turn = 1; turn < times; turn++) {
+    memcpy(bytes + turn * length, bytes, length);
+  }
+  return times * length;
+}
+
+/* The error that a cell shows, or no kind. */
+static struct const_hex_error error_of(const char *cell) {
+  static const char *const names[] = {"", "!OddLength", "!InvalidStringLength",
+                                      "!InvalidHexCharacter"};
+  struct const_hex_error error = {*cell == '!' ? 4 : 0, 0, 0};
+  for (uint32_t kind = 1; kind < 4; kind++) {
+    if (strncmp(cell, names[kind], strlen(names[kind])) == 0) {
+      error.kind = kind;
+    }
+  }
+  sscanf(cell, "!InvalidHexCharacter 0x%" SCNx32 " %zu", &error.byte, &error.index);
+  return error;
+}
+
 /* Reads the next line that is neither empty nor a comment. */
 static bool read_line(FILE *file, struct line *line) {
   static char text[LINE];
   while (fgets(text, LINE, file) != NULL) {
     char *question = strtok(text, "\t\n"), *input = strtok(NULL, "\t\n"),
          *result = strtok(NULL, "\t\n");
-    if (question != NULL && question[0] != '#') {
-      holds(result != NULL, "cells of a line", strlen(question), 0);
-      char *name = strtok(question, " "), *number = strtok(NULL, " ");
-      line->question = name;
-      line->result_cell = result;
-      line->has_number = number != NULL;
-      line->number = number == NULL ? 0 : strtoul(number, NULL, 10);
-      line->length = read_cell(input, line->input);
-      line->result_length = read_cell(result, line->result);
-      return true;
+    if (question == NULL || question[0] == '#') {
+      continue;
     }
+    expect(result != NULL, "cells of a line", strlen(question), 0);
+    line->question = strtok(question, " ");
+    char *number = strtok(NULL, " ");
+    line->has_number = number != NULL;
+    line->number = number == NULL ? 0 : strtoul(number, NULL, 10);
+    line->error = error_of(result);
+    size_t times = strstr(line->question, "-times") == NULL ? 1 : line->number;
+    line->length = repeat(line->input, read_cell(input, line->input), times);
+    line->result_length = repeat(line->result, read_cell(result, line->result), times);
+    return true;
   }
   return false;
 }
 
-/* Whether the model says of a text what the line does: the bytes, or an error. */
-static bool is_wanted(const struct line *line, const struct model *model,
-                      struct const_hex_error error) {
-  static const char *const names[] = {"", "!OddLength", "!InvalidStringLength",
-                                      "!InvalidHexCharacter"};
-  char cell[64];
-  int length = snprintf(cell, sizeof cell, "%s", names[error.kind]);
-  if (error.kind == CONST_HEX_INVALID_CHARACTER) {
-    snprintf(cell + length, sizeof cell - (size_t)length, " 0x%02x %zu", error.byte, error.index);
+static size_t prefix_length(const struct line *line) {
+  const char *text = line->input;
+  return line->length >= 2 && text[0] == '0' && (text[1] == 'x' || text[1] == 'X') ? 2 : 0;
+}
+
+/* How many bytes a decoder has written after the first `length` characters. */
+static size_t count_before(const struct line *line, size_t length) {
+  size_t prefix = prefix_length(line);
+  return length < prefix ? 0 : (length - prefix) / 2;
+}
+
+/* What a function that decodes has returned and written, and the buffer for it. */
+struct output {
+  bool result;
+  size_t written;
+  struct buffer buffer;
+  struct const_hex_error error;
+};
+
+static struct output new_output(size_t size, bool at_start) {
+  struct output output = {false, 99, marked(areas.decoded, size, at_start), UNSET};
+  return output;
+}
+
+/* Compares what came of the characters from one position to another: their bytes, or the error that is wanted. After
+ * an invalid character something may be in the place of the bytes before it. */
+static void compare(const struct line *line, struct output output, size_t from, size_t to,
+                    struct const_hex_error wanted, const char *what) {
+  size_t first = count_before(line, from), written = 0, changed = 0;
+  if (wanted.kind == 0) {
+    written = changed = count_before(line, to) - first;
+  } else if (wanted.kind == CONST_HEX_INVALID_CHARACTER && wanted.index > from) {
+    changed = least(count_before(line, wanted.index) - first, output.buffer.size);
   }
-  return error.kind != 0 ? strcmp(line->result_cell, cell) == 0
-                         : model->count == line->result_length &&
-                               memcmp(model->bytes, line->result, model->count) == 0;
+  const char *bytes = line->error.kind == 0 ? line->result + first : output.buffer.bytes;
+  expect(agrees(output.result, output.error, wanted) && output.written == written &&
+             memcmp(output.buffer.bytes, bytes, written) == 0 &&
+             is_rest_marked(output.buffer, changed),
+         what, from, to);
 }
 
-static bool read_text(const struct line *line) {
-  judge_text(line->input, line->length, 0);
-  const struct model *model = model_of(line->input, line->length, false);
-  return is_wanted(line, model, model->error);
+/* Decodes the text into a buffer of this size, which has to be right or, for decode_exact, the number of bytes. */
+static void decode(const struct line *line, const char *text, size_t size, bool at_start) {
+  static const struct const_hex_error no_space = {CONST_HEX_INVALID_LENGTH, 0, 0};
+  size_t length = line->length, count = count_before(line, length);
+  bool is_odd = line->error.kind == CONST_HEX_ODD_LENGTH;
+  struct output output = new_output(size, at_start);
+  output.result =
+      const_hex_decode(text, length, output.buffer.bytes, size, &output.written, &output.error);
+  compare(line, output, 0, length, is_odd || size >= count ? line->error : no_space, "decode");
+  output = new_output(size, at_start);
+  output.result = const_hex_decode_exact(text, length, output.buffer.bytes, size, &output.error);
+  output.written = output.result ? size : 0;
+  compare(line, output, 0, length, is_odd || size == count ? line->error : no_space,
+          "decode_exact");
 }
 
-static bool read_into(const struct line *line) {
-  const struct model *model = model_of(line->input, line->length, false);
-  judge_decoding(model, line->input, line->length, line->number, 0);
-  return is_wanted(line, model, model_error(model, line->number, line->number));
+/* Decodes a chunk into a buffer of this size. */
+static void update(const struct line *line, struct const_hex_decoder *decoder, size_t from,
+                   size_t to, size_t size, struct const_hex_error wanted) {
+  const char *chunk = memcpy(position(areas.text, to - from, false), line->input + from, to - from);
+  struct output output = new_output(size, false);
+  output.result = const_hex_decoder_update(decoder, chunk, to - from, output.buffer.bytes, size,
+                                           &output.written, &output.error);
+  compare(line, output, from, to, wanted, "decoder_update");
 }
 
-static bool read_chunks(const struct line *line) {
-  for (size_t cut = 0; cut <= line->length; cut++) {
-    size_t ends[] = {cut, line->length};
-    judge_chunks(line->input, line->length, ends, 2);
+/* Decodes the text in two chunks, each first into a buffer that is too small, unless there has been an error. */
+static void decode_chunks(const struct line *line, size_t cut) {
+  static const struct const_hex_error none = {0, 0, 0}, no_space = {CONST_HEX_INVALID_LENGTH, 0, 0};
+  struct const_hex_decoder decoder = {{0, 0}}, old;
+  struct const_hex_error wanted = none, error = UNSET;
+  size_t ends[] = {0, cut, line->length};
+  for (size_t chunk = 1; chunk <= 2; chunk++) {
+    size_t from = ends[chunk - 1], to = ends[chunk];
+    size_t count = count_before(line, to) - count_before(line, from);
+    old = decoder;
+    if (count > 0 && wanted.kind == 0) {
+      update(line, &decoder, from, to, count - 1, no_space);
+      expect(memcmp(&decoder, &old, sizeof old) == 0, "an unchanged decoder", from, to);
+    }
+    if (line->error.kind == CONST_HEX_INVALID_CHARACTER && line->error.index < to) {
+      wanted = line->error;
+    }
+    update(line, &decoder, from, to, count + chunk, wanted);
   }
-  const struct model *model = model_of(line->input, line->length, true);
-  return is_wanted(line, model, model->error);
+  old = decoder;
+  bool result = const_hex_decoder_finish(&decoder, &error);
+  expect(agrees(result, error, line->error), "decoder_finish", line->length, cut);
+  expect(memcmp(&decoder, &old, sizeof old) == 0, "an unchanged decoder", line->length, cut);
 }
 
-static bool write_text(const struct line *line) {
+/* ---- What the questions ask ---- */
+
+static void read_digits(const struct line *line) {
+  bool is_raw = const_hex_check_raw(line->input, line->length);
+  expect(is_raw == (line->result[0] == 't'), "check_raw", line->length, 0);
+}
+
+static void read_chunks(const struct line *line) {
+  for (size_t cut = 0; cut <= line->length; cut += line->length < 10000 ? 1 : 100003) {
+    decode_chunks(line, cut);
+  }
+}
+
+/* A decoder reports an invalid character before an odd length. */
+static void read_text(const struct line *line) {
+  size_t length = line->length, count = count_before(line, length);
+  for (int at_start = 0; at_start < 2; at_start++) {
+    const char *text = memcpy(position(areas.text, length, at_start), line->input, length);
+    struct const_hex_error error = UNSET;
+    bool result = const_hex_check(text, length, &error);
+    expect(agrees(result, error, line->error), "check", length, 0);
+    for (size_t size = count > 0 ? count - 1 : 0; size <= count + 2; size++) {
+      decode(line, text, size, at_start);
+    }
+  }
+  if (line->error.kind != CONST_HEX_ODD_LENGTH || const_hex_check_raw(line->input, length)) {
+    read_chunks(line);
+  }
+}
+
+static void read_into(const struct line *line) {
+  struct output output = new_output(line->number, false);
+  output.result = const_hex_decode_exact(line->input, line->length, output.buffer.bytes,
+                                         line->number, &output.error);
+  output.written = output.result ? line->number : 0;
+  compare(line, output, 0, line->length, line->error, "decode_exact");
+}
+
+/* Whether each byte may stand at each index. */
+static void each_byte(const struct line *line) {
   static char text[LINE];
-  const unsigned char *bytes = (const unsigned char *)line->input;
-  size_t length = model_text(bytes, line->length, CONST_HEX_NO_NUL, text);
-  judge_bytes(bytes, line->length, 0);
-  return length == line->result_length && memcmp(text, line->result, length) == 0;
-}
-
-/* Where the result is an error for an output that is too large, this library uses only its front. */
-static bool write_into(const struct line *line) {
-  struct buffer text = marked(areas.text, line->number, 0);
-  bool fits =
-      const_hex_encode(line->input, line->length, text.bytes, line->number, CONST_HEX_NO_NUL);
-  if (strcmp(line->result_cell, "!InvalidStringLength") == 0) {
-    return fits == (line->number > 2 * line->length);
+  for (size_t at = 0; at < 256 * line->length; at++) {
+    char byte = (char)(at % 256);
+    memcpy(text, line->input, line->length);
+    text[at / 256] = byte;
+    bool is_digit = memchr(line->result, byte, line->result_length) != NULL;
+    expect(const_hex_check_raw(text, line->length) == is_digit, "check_raw", at / 256, at % 256);
   }
-  return fits && line->number == line->result_length &&
-         memcmp(text.bytes, line->result, line->number) == 0;
 }
 
-static bool digits(const struct line *line) {
-  return const_hex_check_raw(line->input, line->length) == (strcmp(line->result_cell, "true") == 0);
+/* Puts what the flags add to the digits. Returns the size. */
+static size_t add_by_flags(const struct line *line, unsigned flags, char *text) {
+  size_t prefix = flags & CONST_HEX_PREFIX ? 2 : 0, size = prefix + line->result_length;
+  memcpy(text, "0x", prefix);
+  for (size_t index = 0; index < line->result_length; index++) {
+    char digit = line->result[index];
+    text[prefix + index] = (char)(flags & CONST_HEX_UPPER ? toupper(digit) : digit);
+  }
+  text[size] = 0;
+  return flags & CONST_HEX_NO_NUL ? size : size + 1;
 }
 
-static bool message(const struct line *line) {
+/* With all flags, into buffers from one character too small to two too large. */
+static void write_text(const struct line *line) {
+  static char wanted[AREA];
+  for (unsigned which = 0; which < 16; which++) {
+    unsigned flags = which % 8, at_start = which / 8;
+    size_t count = line->length, size = add_by_flags(line, flags, wanted);
+    size_t cleared = flags & CONST_HEX_NO_NUL ? 0 : 1;
+    const void *bytes = memcpy(position(areas.bytes, count, at_start), line->input, count);
+    expect(const_hex_encoded_size(count, flags) == size, "encoded_size", count, flags);
+    for (size_t text_size = size > 0 ? size - 1 : 0; text_size <= size + 2; text_size++) {
+      struct buffer text = marked(areas.text, text_size, at_start);
+      bool fits = const_hex_encode(bytes, count, text.bytes, text_size, flags);
+      size_t written = fits ? size : least(cleared, text_size);
+      expect(fits == (text_size >= size) && memcmp(text.bytes, fits ? wanted : "", written) == 0 &&
+                 is_rest_marked(text, written),
+             "encode", count, flags);
+    }
+  }
+}
+
+static void message(const struct line *line) {
   struct const_hex_error error = UNSET;
   char text[CONST_HEX_MESSAGE_SIZE];
   bool result = line->has_number ? const_hex_decode_exact(line->input, line->length, areas.decoded,
                                                           line->number, &error)
                                  : const_hex_check(line->input, line->length, &error);
   size_t length = const_hex_error_message(&error, text, sizeof text);
-  return !result && length == line->result_length && memcmp(text, line->result, length) == 0;
+  expect(!result && length == line->result_length && memcmp(text, line->result, length) == 0,
+         "error_message", line->length, length);
 }
 
-/* What asks the functions for a line's question. NULL is for what this library does not have (JSON, sinks, and the
- * functions of a kernel), and for texts that are longer than a line may be here. */
+/* What this library does not have: JSON, sinks, the functions of a kernel, and outputs that have to be full. */
+static void none(const struct line *line) { (void)line; }
+
 static const struct {
-  const char *question;
-  bool (*agrees)(const struct line *line);
+  const char *name;
+  void (*ask)(const struct line *line);
 } QUESTIONS[] = {
-    {"read", read_text},      {"read-into", read_into}, {"read-chunks", read_chunks},
-    {"digits", digits},       {"write", write_text},    {"write-into", write_into},
-    {"message", message},     {"read-times", NULL},     {"json", NULL},
-    {"json-into", NULL},      {"json-message", NULL},   {"write-times", NULL},
-    {"fronts", NULL},         {"each-byte", NULL},      {"pieces", NULL},
-    {"calls", NULL},          {"write-step", NULL},     {"read-step", NULL},
-    {"values-of-step", NULL},
+    {"read", read_text},
+    {"read-times", read_text},
+    {"read-into", read_into},
+    {"digits", read_digits},
+    {"each-byte", each_byte},
+    {"read-chunks", read_chunks},
+    {"write", write_text},
+    {"message", message},
+    {"write-times", write_text},
+    {"write-into", none},
+    {"json", none},
+    {"json-into", none},
+    {"json-message", none},
+    {"fronts", none},
+    {"pieces", none},
+    {"calls", none},
+    {"write-step", none},
+    {"read-step", none},
+    {"values-of-step", none},
 };
+
+static bool ask(const struct line *line) {
+  for (size_t which = 0; which < sizeof QUESTIONS / sizeof *QUESTIONS; which++) {
+    if (strcmp(line->question, QUESTIONS[which].name) == 0) {
+      QUESTIONS[which].ask(line);
+      return true;
+    }
+  }
+  return false;
+}
 
 TEST(table) {
   static struct line line;
   FILE *file = fopen(TABLE, "r");
   size_t lines = 0;
   while (file != NULL && read_line(file, &line)) {
-    bool is_known = false;
-    for (size_t which = 0; which < sizeof QUESTIONS / sizeof *QUESTIONS; which++) {
-      if (strcmp(line.question, QUESTIONS[which].question) == 0) {
-        is_known = true;
-        if (QUESTIONS[which].agrees != NULL) {
-          holds(QUESTIONS[which].agrees(&line), line.question, line.length, ++lines);
-        }
-      }
-    }
-    holds(is_known, line.question, lines, 0);
+    expect(ask(&line), line.question, ++lines, 0);
   }
-  /* A line with another question, or with a cell too few, has failed above. docs/check counts the lines. */
-  holds(lines > 0 && feof(file) && fclose(file) == 0, "the whole table", lines, 0);
+  /* docs/check counts the lines. */
+  expect(lines > 0 && feof(file) && fclose(file) == 0, "the whole table", lines, 0);
 }

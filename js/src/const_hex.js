@@ -42,7 +42,7 @@ const textDecoder = globalThis.TextDecoder && new TextDecoder();
 
 // Up to so many characters are copied by a loop, since calls of the engine take long to begin.
 const SHORT = Buffer ? 16 : 96;
-// From so many bytes on, Node joins the chunks of a text faster as bytes than as strings.
+// From so many bytes on, Node joins chunks of text faster as bytes than as strings.
 const LONG = Buffer ? 2 ** 17 : Infinity;
 
 // What an array says of itself by these cannot be changed by its own properties or by a subclass.
@@ -286,7 +286,7 @@ function textAsString(length) {
     return String.fromCharCode.apply(null, units);
 }
 
-/** Returns a text, and its length now: another thread may let the buffer of an array grow. */
+/** Returns text, and its length now: another thread may let the buffer of an array grow. */
 const sourceOf = (input) => (
     typeof input === 'string' ? { value: input, length: input.length } : bytesIn(input, 'not text or bytes')
 );

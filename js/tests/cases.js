@@ -117,18 +117,14 @@ async function tableOfTestVectors() {
     for (const [question, lines] of Object.entries(count)) equal(lines > 20, true, question);
 }
 
-function eachLength() {
-    for (let length = 0; length <= 200; length++) {
-        const bytes = bytesOf(length);
-        const text = digitsOf(bytes);
-        equal(encode(bytes), text);
-        compare(text, text);
-        compare(`0X${text.toUpperCase()}`, text);
+// Texts up to a length are copied by a loop, and longer ones at once.
+function eachIndex() {
+    for (const length of [1, 8, 9, 48, 49]) {
+        const text = digitsOf(bytesOf(length));
         for (let index = 0; index < text.length; index++) {
             for (const invalid of ['g', '\u0130', '\u{1f95d}']) {
                 const broken = text.slice(0, index) + invalid + text.slice(index + 1);
-                equal(resultOf(() => decode(broken)), errorAt(broken, index, utf8(invalid)), broken);
-                equal(isHex(broken), false, broken);
+                compare(broken, errorAt(broken, index, utf8(invalid)));
             }
         }
     }
@@ -138,15 +134,11 @@ function longTexts() {
     for (const length of [CHUNK / 2 - 1, CHUNK / 2, CHUNK / 2 + 1, CHUNK, 2 ** 17 - 1, 2 ** 17 + 1]) {
         const bytes = bytesOf(length);
         const digits = digitsOf(bytes);
-        for (const prefix of [false, true]) {
-            const text = (prefix ? '0x' : '') + digits;
-            equal(encode(bytes, { prefix }), text, length);
-            equal(encode(bytes, { prefix, upper: true }).slice(-9), text.slice(-9).toUpperCase());
-            for (const form of [text, utf8(text)]) {
-                compare(form, digits);
-                for (const cuts of [[1], [3, 4], [CHUNK + 1], [1, CHUNK + 1], [7, CHUNK + 8]]) {
-                    equal(decodeInChunks(form, ...cuts), digits, `${length} ${cuts}`);
-                }
+        questions.write(bytes, digits);
+        for (const form of [digits, utf8(`0x${digits}`)]) {
+            compare(form, digits);
+            for (const cuts of [[1], [3, 4], [CHUNK + 1], [1, CHUNK + 1], [7, CHUNK + 8]]) {
+                equal(decodeInChunks(form, ...cuts), digits, `${length} ${cuts}`);
             }
         }
     }
@@ -307,5 +299,5 @@ function errors() {
     equal(resultOf(() => decode('\ud800a')), '!InvalidHexCharacter 0xef 0'); // The bytes of U+FFFD.
 }
 
-export const cases = { tableOfTestVectors, eachLength, longTexts, bordersOfChunks, arraysAndViews, otherTypes,
+export const cases = { tableOfTestVectors, eachIndex, longTexts, bordersOfChunks, arraysAndViews, otherTypes,
     lostBuffers, overlap, failedAllocation, severalDecoders, streams, errors };

@@ -1,4 +1,4 @@
-//! A text in an array.
+//! Text in an array.
 
 use crate::proved::codec::encoders::encode_full_to_slice;
 use crate::proved::tables::digits_at;
@@ -9,7 +9,7 @@ use core::{fmt, mem::transmute, str};
 /// An array with the text of `N` bytes. If `PREFIX` is true, the text begins with `0x`.
 ///
 /// A new buffer has the prefix, if any, and NUL characters in place of the digits. Each method that formats writes the
-/// whole text, prefix included. No method allocates unless it says so. Buffers are equal if their texts are; the
+/// whole text, prefix included. No method allocates unless it says so. Buffers are equal if their text is; the
 /// comparison is not constant-time.
 ///
 /// ```

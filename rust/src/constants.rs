@@ -3,8 +3,8 @@
 use crate::proved::codec::body::strip_prefix;
 use crate::{const_decode_to_array, Buffer, FromHexError};
 
-/// Expands to the array of the bytes that a constant text of type `&str` decodes to. The compiler decodes it, and
-/// finds the length. An invalid text does not compile, and the error names the position of the first invalid character.
+/// Expands to the array of the bytes that constant text of type `&str` decodes to. The compiler decodes it, and
+/// finds the length. Invalid text does not compile, and the error names the position of the first invalid character.
 ///
 /// ```
 /// # use const_hex_proved::hex;
@@ -28,14 +28,14 @@ macro_rules! hex {
     }};
 }
 
-/// Returns how many bytes a text decodes to, if it is valid.
+/// Returns how many bytes the text decodes to, if it is valid.
 #[doc(hidden)]
 #[must_use]
 pub const fn decoded_length(text: &[u8]) -> usize {
     strip_prefix(text).len() / 2
 }
 
-/// Returns the `N` bytes that a text decodes to, or panics if [`const_decode_to_array`] returns an error, which in a
+/// Returns the `N` bytes that text decodes to, or panics if [`const_decode_to_array`] returns an error, which in a
 /// constant is a compile-time error. The message names the position of an invalid character.
 ///
 /// ```

@@ -1,10 +1,10 @@
-//! Decoding of a text that arrives in chunks.
+//! Decoding of text that arrives in chunks.
 
 use crate::proved::codec::decoder;
 use crate::FromHexError;
 use core::fmt;
 
-/// Decodes a text that arrives in chunks, as from a file or a socket. Does not allocate.
+/// Decodes text that arrives in chunks, as from a file or a socket. Does not allocate.
 ///
 /// The text may be split anywhere, even between the two digits of a byte or within the prefix. A prefix is removed only
 /// at the start of the whole text, while [`decode_to_front`](crate::decode_to_front) would remove one from every chunk.
@@ -75,7 +75,7 @@ impl Decoder {
         self.0.position()
     }
 
-    /// Finishes decoding. Returns `Ok` if the chunks together form a complete text, whose bytes have then all been
+    /// Finishes decoding. Returns `Ok` if the chunks together form complete text, whose bytes have then all been
     /// written. Otherwise returns the [`FromHexError::InvalidHexCharacter`] of a chunk, or else
     /// [`FromHexError::OddLength`].
     #[inline]

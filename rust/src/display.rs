@@ -37,7 +37,7 @@ macro_rules! printed {
 printed! { Display false LowerHex false UpperHex true }
 
 /// Prints the digits of bytes, and `0x` before them if `PREFIX` is true. Each call of the formatter but the last writes
-/// 4096 characters. An empty text makes no call, and no call follows an error.
+/// 4096 characters. Empty text makes no call, and no call follows an error.
 // The prefix takes as much space as one byte. Text whose length LLVM knows is appended to a `String` without a call.
 #[inline(always)]
 pub(crate) fn print<const UPPER: bool, const PREFIX: bool>(
@@ -52,7 +52,7 @@ pub(crate) fn print<const UPPER: bool, const PREFIX: bool>(
     }
 }
 
-/// Does the same by one call, for a text of at most `N` characters.
+/// Does the same by one call, for text of at most `N` characters.
 fn print_in<const N: usize, const UPPER: bool, const PREFIX: bool>(
     bytes: &[u8],
     f: &mut fmt::Formatter<'_>,

@@ -102,7 +102,7 @@ const CHUNK: usize = 256;
 impl<W: Write> EncodeWriter<W> {
     /// Returns a writer of bytes, whose text goes to `writer`.
     pub fn new(writer: W) -> EncodeWriter<W> {
-        // A text that is shorter than the buffer is taken whole or not at all.
+        // Text that is shorter than the buffer is taken whole or not at all.
         EncodeWriter(BufWriter::with_capacity(16 * CHUNK, writer))
     }
 

@@ -15,7 +15,7 @@
 //! assert_eq!(const_hex_proved::const_decode_to_array(b"6b697769"), Ok(KIWI));
 //! ```
 //!
-//! A text may begin with one prefix, `0x` or `0X`, except for [`check_raw`], [`const_check_raw`] and the modules
+//! Text may begin with one prefix, `0x` or `0X`, except for [`check_raw`], [`const_check_raw`] and the modules
 //! [`secret`] and [`strict`]. Errors are checked in this order: an odd length, a length that does not match the
 //! output, an invalid character.
 //!
@@ -203,7 +203,7 @@ fn text_in<'a>(
     Ok(unsafe { core::str::from_utf8_unchecked_mut(output) })
 }
 
-/// Returns the bytes that a text decodes to, or the errors of [`check`]. Allocates unless the text has an odd length
+/// Returns the bytes that the text decodes to, or the errors of [`check`]. Allocates unless the text has an odd length
 /// or no digits, even if a character is invalid.
 ///
 /// ```
@@ -231,7 +231,7 @@ pub fn decode<T: AsRef<[u8]>>(data: T) -> Result<Vec<u8>, FromHexError> {
 }
 
 /// Returns the first character that is not a digit, and its index, and drops the vector for what the digits decode to.
-// A function of its own, so that less code is inlined for a valid text, and no second copy of the table of digits.
+// A function of its own, so that less code is inlined for valid text, and no second copy of the table of digits.
 #[cfg(feature = "alloc")]
 #[cold]
 fn drop_and_locate(digits: &[u8], bytes: Vec<u8>) -> (char, usize) {
@@ -242,7 +242,7 @@ fn drop_and_locate(digits: &[u8], bytes: Vec<u8>) -> (char, usize) {
     }
 }
 
-/// Appends the bytes that a text decodes to to a vector, and returns their number, or the errors of [`check`].
+/// Appends the decoded bytes to a vector, and returns their number, or the errors of [`check`].
 /// Allocates only if the vector has too little capacity.
 ///
 /// After an error the vector has the same bytes as before, but bytes that were decoded before an invalid character may
@@ -264,7 +264,7 @@ pub fn decode_append<T: AsRef<[u8]>>(data: T, output: &mut Vec<u8>) -> Result<us
     }
 }
 
-/// Fills `out` with the bytes that a text decodes to. Does not allocate.
+/// Fills `out` with the bytes that text decodes to. Does not allocate.
 ///
 /// Returns [`FromHexError::OddLength`]; or else [`FromHexError::InvalidStringLength`], unless the text has two digits
 /// for each byte of `out`; or else [`FromHexError::InvalidHexCharacter`]. After the last of these, `out` may already
@@ -282,7 +282,7 @@ pub fn decode_to_slice<T: AsRef<[u8]>>(data: T, out: &mut [u8]) -> Result<(), Fr
     decoders::decode_to_slice(data.as_ref(), out)
 }
 
-/// Writes the bytes that a text decodes to to the front of `out`, and returns their number. The rest of `out` is
+/// Writes the decoded bytes to the front of `out`, and returns their number. The rest of `out` is
 /// unchanged. Does not allocate.
 ///
 /// Returns the errors of [`decode_to_slice`], but [`FromHexError::InvalidStringLength`] only if the text has more
@@ -299,7 +299,7 @@ pub fn decode_to_front<T: AsRef<[u8]>>(data: T, out: &mut [u8]) -> Result<usize,
     decoders::decode_to_front(data.as_ref(), out)
 }
 
-/// Returns the `N` bytes that a text decodes to, or the errors of [`decode_to_slice`]. Does not allocate.
+/// Returns the `N` bytes that text decodes to, or the errors of [`decode_to_slice`]. Does not allocate.
 ///
 /// ```
 /// # use const_hex_proved::decode_to_array;
@@ -323,7 +323,7 @@ fn array<B: kernel::Byte, const N: usize>(text: &[u8]) -> Result<[B; N], FromHex
     }
 }
 
-/// Returns the error for a text of another length.
+/// Returns the error for text of another length.
 // Not inlined for AArch64, where LLVM would otherwise keep the result in registers, and copy an array in parts: of 32
 // bytes with 12 instructions in place of 5 (rustc 1.96).
 #[cold]
@@ -333,7 +333,7 @@ fn wrong_length<B, const N: usize>() -> Result<[B; N], FromHexError> {
     Err(FromHexError::InvalidStringLength)
 }
 
-/// Returns `Ok` if a text can be decoded, or else [`FromHexError::OddLength`] or
+/// Returns `Ok` if the text can be decoded, or else [`FromHexError::OddLength`] or
 /// [`FromHexError::InvalidHexCharacter`]. Does not allocate.
 ///
 /// ```
@@ -345,7 +345,7 @@ pub fn check<T: AsRef<[u8]>>(input: T) -> Result<(), FromHexError> {
     checks::check(input.as_ref())
 }
 
-/// Returns whether every byte of a text is a digit. It has no prefix, and may have an odd length. Does not allocate.
+/// Returns whether every byte of the text is a digit. It has no prefix, and may have an odd length. Does not allocate.
 ///
 /// ```
 /// # use const_hex_proved::check_raw;

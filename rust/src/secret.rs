@@ -3,7 +3,7 @@
 //! For valid input, whatever depends on a byte happens in the kernel. Where that is the machine code, it is proved that
 //! no branch and no address depends on a byte; elsewhere it computes digits without a table and without a branch on a
 //! byte, which is constant-time by design, and tested. The code around it, which is compiled with yours, reads no byte.
-//! Nothing here clears the stack, a register, or a text of yours.
+//! Nothing here clears the stack, a register, or text of yours.
 //!
 //! ```
 //! # use const_hex_proved::secret;
@@ -27,7 +27,7 @@ use crate::std_shim::error;
 use alloc::{string::String, vec};
 use core::fmt;
 
-/// Why a text cannot be decoded, or does not fit into an output. It has no character of the text, and no position.
+/// Why text cannot be decoded, or does not fit into an output. It has no character of the text, and no position.
 #[derive(Clone, Copy, Debug, PartialEq, Eq)]
 pub enum Error {
     /// The text does not have two characters for each byte.
@@ -109,7 +109,7 @@ fn owned(bytes: &[u8], upper: bool) -> String {
     unsafe { String::from_utf8_unchecked(text) }
 }
 
-/// Fills `out` with the bytes that a text decodes to. Does not allocate.
+/// Fills `out` with the bytes that text decodes to. Does not allocate.
 ///
 /// Returns [`Error::InvalidStringLength`], unless the text has two characters for each byte of `out`, or else
 /// [`Error::InvalidHexCharacter`], if one is not a digit. After an error `out` is filled with zeros.
@@ -128,7 +128,7 @@ pub fn decode_to_slice<T: AsRef<[u8]>>(data: T, out: &mut [u8]) -> Result<(), Er
     decode(data.as_ref(), out)
 }
 
-// Not inlined, so that one branch is what depends on whether a text is valid.
+// Not inlined, so that one branch is what depends on whether text is valid.
 #[inline(never)]
 fn decode(text: &[u8], out: &mut [u8]) -> Result<(), Error> {
     let error = match text.len() == out.len() << 1 {
@@ -140,7 +140,7 @@ fn decode(text: &[u8], out: &mut [u8]) -> Result<(), Error> {
     Err(error)
 }
 
-/// Returns the `N` bytes that a text decodes to, or the errors of [`decode_to_slice`]. Does not allocate.
+/// Returns the `N` bytes that text decodes to, or the errors of [`decode_to_slice`]. Does not allocate.
 ///
 /// ```
 /// # use const_hex_proved::secret::decode_to_array;

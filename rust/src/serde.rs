@@ -1,8 +1,8 @@
 //! Fields of hexadecimal text, by `#[serde(with = "const_hex_proved")]`.
 //!
-//! The text that is written begins with `0x`; [`no_prefix`] writes none. Both read a text with or without a
+//! The text that is written begins with `0x`; [`no_prefix`] writes none. Both read text with or without a
 //! prefix. [`strict`] writes none, and rejects one. Each has two more modules: [`option`] for a field that may be
-//! nothing, and [`vec`] for a vector of texts. No function here allocates by itself, but a serializer may, and
+//! nothing, and [`vec`] for a vector of strings. No function here allocates by itself, but a serializer may, and
 //! reading a `Vec` does.
 //!
 //! ```
@@ -54,7 +54,7 @@ macro_rules! deserializer {
     ($(#[$doc:meta])* $type:ty, $from_hex:path: $deserializer:ident => $read:expr) => {
         $(#[$doc])*
         ///
-        /// Returns the deserializer's error for a value of another kind, and for a text from which the type cannot be
+        /// Returns the deserializer's error for a value of another kind, and for text from which the type cannot be
         /// read. In the second case it has the message of the type's error.
         pub fn deserialize<'de, D: Deserializer<'de>, T: $from_hex>($deserializer: D) -> Result<$type, D::Error>
         where
@@ -75,7 +75,7 @@ macro_rules! fields {
             serialize_upper(data: T), serializer => Digits::<true, $prefix>(data.as_ref()).serialize(serializer);
         }
         deserializer! {
-            #[doc = concat!("Deserializes a text, ", $read, " a prefix.")]
+            #[doc = concat!("Deserializes text, ", $read, " a prefix.")]
             T, $from_hex: deserializer => Read::deserialize(deserializer).map(|Read(value)| value)
         }
 
@@ -94,7 +94,7 @@ macro_rules! fields {
             }
         }
 
-        /// Fields that have a text or nothing, which is `null` in JSON. If a field may also be missing, add
+        /// Fields that have text or nothing, which is `null` in JSON. If a field may also be missing, add
         /// `default` to its attribute.
         pub mod option {
             use super::*;
@@ -105,12 +105,12 @@ macro_rules! fields {
                     data.as_ref().map(|data| Digits::<false, $prefix>(data.as_ref())).serialize(serializer);
             }
             deserializer! {
-                #[doc = concat!("Deserializes a text, ", $read, " a prefix, or nothing.")]
+                #[doc = concat!("Deserializes text, ", $read, " a prefix, or nothing.")]
                 Option<T>, $from_hex: deserializer => Ok(Option::deserialize(deserializer)?.map(|Read(value)| value))
             }
         }
 
-        /// Fields that have a vector of texts.
+        /// Fields that have a vector of strings.
         #[cfg(feature = "alloc")]
         pub mod vec {
             use super::*;
@@ -121,7 +121,7 @@ macro_rules! fields {
                     serializer.collect_seq(data.iter().map(|data| Digits::<false, $prefix>(data.as_ref())));
             }
             deserializer! {
-                #[doc = concat!("Deserializes texts, each ", $read, " a prefix. Allocates.")]
+                #[doc = concat!("Deserializes strings, each ", $read, " a prefix. Allocates.")]
                 Vec<T>, $from_hex:
                 deserializer => Ok(Vec::deserialize(deserializer)?.into_iter().map(|Read(value)| value).collect())
             }
@@ -163,7 +163,7 @@ struct Digits<'a, const UPPER: bool, const PREFIX: bool>(&'a [u8]);
 impl<const UPPER: bool, const PREFIX: bool> Serialize for Digits<'_, UPPER, PREFIX> {
     #[inline]
     fn serialize<S: Serializer>(&self, serializer: S) -> Result<S::Ok, S::Error> {
-        // What has a longer text is printed. A short one would take 150 instructions more so (rustc 1.95, x86-64).
+        // What has longer text is printed. Short text would take 150 instructions more so (rustc 1.95, x86-64).
         match self.0.len() <= 128 {
             true => {
                 let mut space = Space::<{ 2 + 2 * 128 }>::new();
@@ -180,7 +180,7 @@ impl<const UPPER: bool, const PREFIX: bool> fmt::Display for Digits<'_, UPPER, P
     }
 }
 
-/// Reads a text by a function.
+/// Reads text by a function.
 struct Text<F>(F);
 
 impl<T, E: fmt::Display, F: Fn(&[u8]) -> Result<T, E>> Visitor<'_> for Text<F> {

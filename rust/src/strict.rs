@@ -33,28 +33,28 @@ fn without_prefix(text: &[u8], fits: bool) -> Result<&[u8], FromHexError> {
     })
 }
 
-/// Returns the bytes that a text without a prefix decodes to. Allocates.
+/// Returns the bytes that text without a prefix decodes to. Allocates.
 #[cfg(feature = "alloc")]
 #[inline]
 pub fn decode<T: AsRef<[u8]>>(data: T) -> Result<Vec<u8>, FromHexError> {
     crate::decode(without_prefix(data.as_ref(), true)?)
 }
 
-/// Fills `out` with the bytes that a text without a prefix decodes to. Does not allocate.
+/// Fills `out` with the bytes that text without a prefix decodes to. Does not allocate.
 #[inline]
 pub fn decode_to_slice<T: AsRef<[u8]>>(data: T, out: &mut [u8]) -> Result<(), FromHexError> {
     let text = data.as_ref();
     crate::decode_to_slice(without_prefix(text, text.len() / 2 == out.len())?, out)
 }
 
-/// Returns the `N` bytes that a text without a prefix decodes to. Does not allocate.
+/// Returns the `N` bytes that text without a prefix decodes to. Does not allocate.
 #[inline]
 pub fn decode_to_array<T: AsRef<[u8]>, const N: usize>(input: T) -> Result<[u8; N], FromHexError> {
     let text = input.as_ref();
     crate::decode_to_array(without_prefix(text, text.len() / 2 == N)?)
 }
 
-/// Returns `Ok` if a text can be decoded, and has no prefix. Does not allocate.
+/// Returns `Ok` if the text can be decoded, and has no prefix. Does not allocate.
 #[inline]
 pub fn check<T: AsRef<[u8]>>(input: T) -> Result<(), FromHexError> {
     crate::check(without_prefix(input.as_ref(), true)?)

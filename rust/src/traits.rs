@@ -16,10 +16,10 @@ macro_rules! from_hex {
     ($(#[$doc:meta])*) => {
         $(#[$doc])*
         pub trait FromHex: Sized {
-            /// Why a text cannot be read.
+            /// Why text cannot be read.
             type Error;
 
-            /// Returns the value that a text decodes to. The errors of vectors and boxed slices are those of `decode`,
+            /// Returns the value that text decodes to. The errors of vectors and boxed slices are those of `decode`,
             /// of arrays those of `decode_to_array`, and of `Box<T>`, `Rc<T>`, `Arc<T>` and `Cow<T>` that of what they
             /// hold.
             fn from_hex<T: AsRef<[u8]>>(hex: T) -> Result<Self, Self::Error>;
@@ -136,7 +136,7 @@ macro_rules! to_hex {
 }
 
 to_hex! {
-    /// A value that has a hexadecimal text.
+    /// A value that can be written as hexadecimal text.
     ///
     /// Every type with `AsRef<[u8]>` has this trait: `str`, `String`, `[u8]`, `Vec<u8>`, arrays of bytes.
     ///
@@ -154,7 +154,7 @@ to_hex! {
 
 #[cfg(feature = "alloc")]
 to_hex! {
-    /// A value that has a hexadecimal text, as a `String`.
+    /// A value that can be written as hexadecimal text, as a `String`.
     ///
     /// Every type with `AsRef<[u8]>` has this trait: `str`, `String`, `[u8]`, `Vec<u8>`, arrays of bytes.
     /// Each method allocates.

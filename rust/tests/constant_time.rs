@@ -30,105 +30,76 @@ struct Data {
 /// A call by its name, and what is found in it with machine code and with portable code.
 type Row = (&'static str, [Found; 2], fn(&mut Data));
 
-const SECRET: [Row; 6] = [
-    ("secret::encode", [Nothing; 2], |data| {
-        keep(secret::encode(&data.bytes))
-    }),
-    ("secret::encode_upper", [Nothing; 2], |data| {
-        keep(secret::encode_upper(&data.bytes))
-    }),
-    ("secret::encode_to_slice", [Nothing; 2], |data| {
-        keep(secret::encode_to_slice(&data.bytes, &mut data.output))
-    }),
-    ("secret::encode_to_slice_upper", [Nothing; 2], |data| {
-        keep(secret::encode_to_slice_upper(&data.bytes, &mut data.output))
-    }),
-    ("secret::decode_to_slice", [Validity; 2], |data| {
-        decode(&data.text, &mut data.output)
-    }),
-    ("secret::decode_to_array", [Validity; 2], |data| {
-        decode_to_array(&data.text)
-    }),
-];
+/// A row of a call, whose result is kept.
+macro_rules! row {
+    ($name:literal, $found:expr, |$data:ident| $call:expr) => {
+        ($name, $found, |$data| keep($call))
+    };
+}
 
-/// What `secret` could do wrong.
-const WRONG: [Row; 3] = [
-    ("a table", [Addresses; 2], |data| {
-        let digits = data
-            .text
-            .iter()
-            .map(|digit| hex::HEX_DECODE_LUT[usize::from(*digit)]);
-        data.output
-            .iter_mut()
-            .zip(digits)
-            .for_each(|(value, digit)| *value = digit);
-        keep(&data.output);
+const SECRET: [Row; 6] = [
+    row!("secret::encode", [Nothing; 2], |data| secret::encode(
+        &data.bytes
+    )),
+    row!("secret::encode_upper", [Nothing; 2], |data| {
+        secret::encode_upper(&data.bytes)
     }),
-    ("a branch by a digit", [Jumps; 2], |data| {
-        data.text
-            .iter()
-            .filter(|digit| **digit < b'a')
-            .for_each(keep);
-        decode(&data.text, &mut data.output);
+    row!("secret::encode_to_slice", [Nothing; 2], |data| {
+        secret::encode_to_slice(&data.bytes, &mut data.output)
     }),
-    ("a test for a prefix", [Jumps; 2], |data| {
-        match data.text.starts_with(b"0x") {
-            true => keep("a prefix"),
-            false => decode(&data.text, &mut data.output),
-        }
+    row!("secret::encode_to_slice_upper", [Nothing; 2], |data| {
+        secret::encode_to_slice_upper(&data.bytes, &mut data.output)
+    }),
+    row!("secret::decode_to_slice", [Validity; 2], |data| {
+        secret::decode_to_slice(&data.text, &mut data.output[..data.bytes.len()])
+    }),
+    // For the last length alone. For the others the lengths differ.
+    row!("secret::decode_to_array", [Validity; 2], |data| {
+        secret::decode_to_array::<_, LONGEST>(&data.text)
     }),
 ];
 
 /// The other functions. docs/CONSTANT_TIME.md names what is found here.
 const PUBLIC: [Row; 12] = [
-    ("encode", [Nothing, Addresses], |data| {
-        keep(hex::encode(&data.bytes))
+    row!("encode", [Nothing, Addresses], |data| hex::encode(
+        &data.bytes
+    )),
+    row!("encode_to_slice", [Nothing, Addresses], |data| {
+        hex::encode_to_slice(&data.bytes, &mut data.output)
     }),
-    ("encode_to_slice", [Nothing, Addresses], |data| {
-        keep(hex::encode_to_slice(&data.bytes, &mut data.output))
+    row!("display", [Nothing, Addresses], |data| hex::display(
+        &data.bytes
+    )
+    .to_string()),
+    row!("ToHexExt", [Nothing, Addresses], |data| {
+        hex::ToHexExt::encode_hex(&data.bytes)
     }),
-    ("display", [Nothing, Addresses], |data| {
-        keep(hex::display(&data.bytes).to_string())
-    }),
-    ("ToHexExt", [Nothing, Addresses], |data| {
-        keep(hex::ToHexExt::encode_hex(&data.bytes))
-    }),
-    ("check_raw", [Validity, Addresses], |data| {
-        keep(hex::check_raw(&data.text))
-    }),
+    row!("check_raw", [Validity, Addresses], |data| hex::check_raw(
+        &data.text
+    )),
     // They test for a prefix.
-    ("check", [Jumps, Addresses], |data| {
-        keep(hex::check(&data.text))
+    row!("check", [Jumps, Addresses], |data| hex::check(&data.text)),
+    row!("decode", [Jumps, Addresses], |data| hex::decode(&data.text)),
+    row!("strict::decode", [Jumps, Addresses], |data| {
+        hex::strict::decode(&data.text)
     }),
-    ("decode", [Jumps, Addresses], |data| {
-        keep(hex::decode(&data.text))
-    }),
-    ("strict::decode", [Jumps, Addresses], |data| {
-        keep(hex::strict::decode(&data.text))
-    }),
-    ("Decoder", [Jumps, Addresses], |data| {
-        keep(hex::Decoder::new().decode(&data.text, &mut data.output))
-    }),
+    row!("Decoder", [Jumps, Addresses], |data| hex::Decoder::new()
+        .decode(&data.text, &mut data.output)),
     // They look digits up in a table.
-    ("ToHex", [Addresses; 2], |data| {
-        keep(hex::ToHex::encode_hex::<String>(&data.bytes))
-    }),
-    ("const_check", [Addresses; 2], |data| {
-        keep(hex::const_check(&data.text))
-    }),
-    ("const_decode_to_array", [Addresses; 2], |data| {
-        keep(hex::const_decode_to_array::<LONGEST>(&data.text))
+    row!("ToHex", [Addresses; 2], |data| hex::ToHex::encode_hex::<
+        String,
+    >(&data.bytes)),
+    row!("const_check", [Addresses; 2], |data| hex::const_check(
+        &data.text
+    )),
+    row!("const_decode_to_array", [Addresses; 2], |data| {
+        hex::const_decode_to_array::<LONGEST>(&data.text)
     }),
 ];
 
 #[test]
 fn secrets() {
     compare(&SECRET);
-}
-
-#[test]
-fn what_would_be_wrong() {
-    compare(&WRONG);
 }
 
 #[test]
@@ -151,12 +122,8 @@ fn compare(rows: &[Row]) {
 #[test]
 fn call() {
     let name = std::env::var("CONST_HEX_CALL").unwrap_or_default();
-    for (_, _, call) in SECRET
-        .iter()
-        .chain(&WRONG)
-        .chain(&PUBLIC)
-        .filter(|row| row.0 == name)
-    {
+    let mut rows = SECRET.iter().chain(&PUBLIC);
+    if let Some((_, _, call)) = rows.find(|row| row.0 == name) {
         for length in 0..=LONGEST {
             let bytes: Vec<u8> = (0..length).map(|at| (at * 73 + length) as u8).collect();
             let text = bytes
@@ -175,24 +142,7 @@ fn call() {
     }
 }
 
-fn decode(text: &[u8], output: &mut [u8]) {
-    keep(secret::decode_to_slice(text, &mut output[..text.len() / 2]));
-}
-
 const LONGEST: usize = 200;
-
-/// Calls `secret::decode_to_array` for an array of the right length.
-fn decode_to_array(text: &[u8]) {
-    macro_rules! arrays {
-        ($($tens:literal)*) => { $(arrays! { $tens: 0 1 2 3 4 5 6 7 8 9 })* };
-        ($tens:literal: $($ones:literal)*) => {
-            $(if text.len() == 2 * (10 * $tens + $ones) {
-                keep(secret::decode_to_array::<_, { 10 * $tens + $ones }>(text));
-            })*
-        };
-    }
-    arrays! { 0 1 2 3 4 5 6 7 8 9 10 11 12 13 14 15 16 17 18 19 20 }
-}
 
 /// What depends on a secret in a run of this program that makes the call, with the lines that valgrind prints: in pairs
 /// what it is, and where.

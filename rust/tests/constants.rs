@@ -1,68 +1,9 @@
-//! The functions that constants call return what the functions at run time return.
+//! The functions for constants in constants, and the macro. The table asks what they return at run time.
 
 use const_hex_proved::{
-    bytes_of, check, check_raw, const_check, const_check_raw, const_decode_to_array, const_encode,
-    decode_to_array, encode_to_str, encode_to_str_upper, hex, Buffer, FromHexError,
-    HEX_CHARS_LOWER, HEX_CHARS_UPPER, HEX_DECODE_LUT, NIL,
+    bytes_of, const_check, const_check_raw, const_decode_to_array, const_encode, hex, Buffer,
+    FromHexError, HEX_CHARS_LOWER, HEX_CHARS_UPPER, HEX_DECODE_LUT, NIL,
 };
-
-macro_rules! same_array {
-    ($text:expr, $($count:literal)+) => {$(
-        let decoded = const_decode_to_array::<$count>($text);
-        assert_eq!(decoded, decode_to_array($text), "{:?}", $text);
-    )+};
-}
-
-/// Compares all functions at one text.
-fn same(text: &[u8]) {
-    assert_eq!(const_check(text), check(text), "{text:?}");
-    assert_eq!(const_check_raw(text), check_raw(text), "{text:?}");
-    same_array!(text, 0 1 2 3 4);
-}
-
-#[test]
-fn each_pair_at_each_position() {
-    same(b"");
-    for byte in 0..=255 {
-        same(&[byte]);
-    }
-    for length in 2..=8 {
-        let mut text = *b"1aB24cD3";
-        let digits = text;
-        let text = &mut text[..length];
-        for position in 0..length - 1 {
-            for pair in 0..=u16::MAX {
-                text[position..position + 2].copy_from_slice(&pair.to_be_bytes());
-                same(text);
-            }
-            text.copy_from_slice(&digits[..length]);
-        }
-    }
-}
-
-#[test]
-fn after_a_prefix() {
-    for prefix in ["0x", "0X", "0x6b", "0X6B"] {
-        for pair in 0..=u16::MAX {
-            same(&[prefix.as_bytes(), &pair.to_be_bytes()].concat());
-        }
-    }
-}
-
-#[test]
-fn each_pair_of_bytes() {
-    for pair in 0..=u16::MAX {
-        let (bytes, mut text) = (pair.to_be_bytes(), [0; 4]);
-        let lower = encode_to_str(bytes, &mut text).unwrap();
-        assert_eq!(const_encode::<2, false>(&bytes).as_str(), lower);
-        let prefixed = const_encode::<2, true>(&bytes);
-        assert_eq!(prefixed.as_str().strip_prefix("0x"), Some(&*lower));
-        assert_eq!(Buffer::<2>::new().const_format(&bytes).as_str(), lower);
-        let upper = encode_to_str_upper(bytes, &mut text).unwrap();
-        let buffer = Buffer::<2>::new().const_format_upper(&bytes);
-        assert_eq!(buffer.as_str(), upper);
-    }
-}
 
 #[test]
 fn tables() {

@@ -95,97 +95,62 @@ fn options_and_vectors() {
     assert_eq!(serde_json::to_string(&several).unwrap(), text);
     let text = text.replace('}', r#","signed_option":"0xff","signed_vec":["80"]}"#);
     (several.signed_option, several.signed_vec) = (Some([-1]), vec![[-128]]);
-    assert_eq!(serde_json::from_str::<Several>(&text).unwrap(), several);
+    // A prefix may be there or not.
+    let other = text
+        .replace("0xdead", "dead")
+        .replace(r#"n":"6b"#, r#"n":"0X6B"#);
+    for text in [text, other] {
+        assert_eq!(serde_json::from_str::<Several>(&text).unwrap(), several);
+    }
     let empty = r#"{"option":null,"vec":[],"bare_option":null,"bare_vec":[],"strict":"","strict_option":null,"strict_vec":[]}"#;
     assert_eq!(serde_json::to_string(&Several::default()).unwrap(), empty);
-    // A field may be missing or nothing, and a vector empty. A prefix may be there or not.
+    // A field may be missing or nothing, and a vector empty.
     for text in ["{}", empty, r#"{"signed_option":null}"#] {
-        assert_eq!(
-            serde_json::from_str::<Several>(text).unwrap(),
-            Several::default()
-        );
+        let found = serde_json::from_str::<Several>(text).unwrap();
+        assert_eq!(found, Several::default());
     }
-    let text = r#"{"option":"dead","bare_option":"0X6B","vec":["6b"],"bare_vec":["0x6b"]}"#;
-    let several = serde_json::from_str::<Several>(text).unwrap();
-    assert_eq!(
-        (several.option, several.bare_option),
-        (Some([0xDE, 0xAD]), Some(b"k".to_vec()))
-    );
-    assert_eq!(
-        (several.vec, several.bare_vec),
-        (vec![b"k".to_vec()], vec![*b"k"])
-    );
 }
 
 /// The errors of options, of vectors, and of prefixes.
 #[test]
 fn errors_in_options_and_vectors() {
+    let (no_text, x_at_1) = (
+        "expected a hex encoded string",
+        "invalid character 'x' at position 1",
+    );
     for (field, error) in [
         (r#""option":"6b""#, "invalid string length"),
-        (
-            r#""option":7"#,
-            "invalid type: integer `7`, expected a hex encoded string",
-        ),
+        (r#""option":7"#, no_text),
         (
             r#""vec":["6b","6g"]"#,
             "invalid character 'g' at position 1",
         ),
-        (
-            r#""vec":["6b",null]"#,
-            "invalid type: null, expected a hex encoded string",
-        ),
+        (r#""vec":["6b",null]"#, no_text),
         (
             r#""vec":"6b""#,
             r#"invalid type: string "6b", expected a sequence"#,
         ),
-        (r#""strict":"0x6b""#, "invalid character 'x' at position 1"),
-        (
-            r#""strict_option":"0X""#,
-            "invalid character 'X' at position 1",
-        ),
-        (
-            r#""strict_vec":["","0x6b"]"#,
-            "invalid character 'x' at position 1",
-        ),
+        (r#""strict":"0x6b""#, x_at_1),
+        (r#""strict_option":"0x""#, x_at_1),
+        (r#""strict_vec":["","0x6b"]"#, x_at_1),
     ] {
         let found = serde_json::from_str::<Several>(&format!("{{{field}}}")).unwrap_err();
-        let found = found.to_string();
-        assert!(found.starts_with(error), "{field}: {found}");
+        assert!(found.to_string().contains(error), "{field}: {found}");
     }
 }
 
-/// A format may have the text as a string or as bytes. Nothing is trimmed from it.
-#[test]
-fn errors() {
-    let invalid = |c, index| FromHexError::InvalidHexCharacter { c, index };
-    for (text, error) in [
-        ("0x6b6g", invalid('g', 5)),
-        (" 6b ", invalid(' ', 0)),
-        ("6b\r\n", invalid('\r', 2)),
-        ("6b6", FromHexError::OddLength),
-        ("6b", FromHexError::InvalidStringLength),
-    ] {
-        let string: StrDeserializer<'_, Error> = text.into_deserializer();
-        let found = hexadecimal::deserialize::<_, [u8; 2]>(string).unwrap_err();
-        assert_eq!(found.to_string(), error.to_string());
-        let bytes = BytesDeserializer::<Error>::new(text.as_bytes());
-        let found = hexadecimal::deserialize::<_, [u8; 2]>(bytes).unwrap_err();
-        assert_eq!(found.to_string(), error.to_string());
-    }
-    let found = hexadecimal::deserialize::<_, Vec<u8>>(serde_json::json!(7)).unwrap_err();
-    assert_eq!(
-        found.to_string(),
-        "invalid type: integer `7`, expected a hex encoded string"
-    );
-}
-
+/// A format may have the text as a string or as bytes.
 #[test]
 fn strings_and_bytes() {
-    for text in ["6B69", "0x6b69", "0X6b69"] {
+    for (text, wanted) in [
+        ("0X6B69", Ok(*b"ki")),
+        ("0x6b6", Err(FromHexError::OddLength)),
+    ] {
+        let wanted = wanted.map_err(Error::custom);
         let string: StrDeserializer<'_, Error> = text.into_deserializer();
-        assert_eq!(hexadecimal::deserialize(string), Ok(*b"ki"));
+        assert_eq!(hexadecimal::deserialize(string), wanted);
         let bytes = BytesDeserializer::<Error>::new(text.as_bytes());
-        assert_eq!(hexadecimal::deserialize(bytes), Ok(*b"ki"));
+        assert_eq!(hexadecimal::deserialize(bytes), wanted);
     }
 }
 

@@ -16,17 +16,8 @@ fn an_error_of_core() {
 }
 
 #[test]
-fn printing() {
+fn printing_with_a_width() {
     assert_eq!(format!("{:>20}", display(BYTES)), TEXT);
-    for length in [
-        127, 128, 129, 511, 512, 513, 2047, 2048, 2049, 5000, 16_384, 16_385, 40_000,
-    ] {
-        let bytes: Vec<u8> = (0..length).map(|at| (at * 73 + length) as u8).collect();
-        let wanted: String = bytes.iter().map(|byte| format!("{byte:02X}")).collect();
-        assert_eq!(format!("{:X}", display(&bytes)), wanted);
-        let prefixed = format!("0x{}", wanted.to_lowercase());
-        assert_eq!(format!("{:#}", display(&bytes)), prefixed);
-    }
 }
 
 /// A writer with space for so many characters, and the lengths of the calls, none of which follows one that has failed.
@@ -43,39 +34,23 @@ impl Write for Space {
 /// Each call of the formatter's writer but the last writes 4096 characters. Without bytes there is none.
 #[test]
 fn calls_of_a_formatter() {
-    let bytes = [0; 40_000];
-    for (length, last, last_prefixed) in [
-        (0, None, Some(2)),
-        (1, Some(2), Some(4)),
-        (128, Some(256), Some(258)),
-        (512, Some(1024), Some(1026)),
-        (2047, Some(4094), Some(4096)),
-        (2048, Some(4096), Some(2)),
-        (2049, Some(2), Some(4)),
-        (4095, Some(4094), Some(4096)),
-        (4096, Some(4096), Some(2)),
-        (40_000, Some(2176), Some(2178)),
-    ] {
-        for (is_prefixed, last) in [(false, last), (true, last_prefixed)] {
-            let print = |space: &mut Space| match is_prefixed {
-                false => write!(space, "{}", display(&bytes[..length])),
-                true => write!(space, "{:#}", display(&bytes[..length])),
-            };
-            let mut space = Space(Some(usize::MAX), Vec::new());
-            print(&mut space).unwrap();
-            assert_eq!(space.1.pop(), last);
-            assert!(space.1.iter().all(|length| *length == 4096));
-            // Without space the first call fails.
-            assert_eq!(
-                print(&mut Space(Some(0), Vec::new())).is_err(),
-                last.is_some()
-            );
+    for length in [0, 1, 128, 512, 2047, 2048, 2049, 4095, 4096, 40_000] {
+        for prefix in [0, 2] {
+            let text = "0".repeat(2 * length + prefix);
+            let calls: Vec<usize> = text.as_bytes().chunks(4096).map(<[u8]>::len).collect();
+            for space in [0, 4095, 4096, 32_768, 79_999, text.len()] {
+                let mut writer = Space(Some(space), Vec::new());
+                let printed = match prefix {
+                    0 => write!(writer, "{}", display(vec![0; length])),
+                    _ => write!(writer, "{:#}", display(vec![0; length])),
+                };
+                let count = calls.len().min(space / 4096 + 1);
+                assert_eq!(
+                    (printed.is_ok(), &writer.1[..]),
+                    (space >= text.len(), &calls[..count])
+                );
+            }
         }
-    }
-    // A formatter's error ends the printing.
-    for space in [0, 4095, 4096, 32_767, 32_768, 79_999, 80_000] {
-        let printed = write!(Space(Some(space), Vec::new()), "{}", display(bytes));
-        assert_eq!(printed.is_ok(), space == 80_000);
     }
 }
 
@@ -91,19 +66,16 @@ fn the_longest_message() {
 
 #[test]
 fn collections_of_characters() {
-    let bytes: Vec<u8> = (0..100).collect();
-    let text: String = bytes.iter().map(|byte| format!("{byte:02x}")).collect();
     assert_eq!(
-        bytes.encode_hex::<Vec<char>>(),
-        text.chars().collect::<Vec<char>>()
+        BYTES.encode_hex::<Vec<char>>(),
+        TEXT.chars().collect::<Vec<_>>()
     );
-    assert_eq!(bytes.encode_hex::<Box<[char]>>(), text.chars().collect());
-    assert_eq!(bytes.encode_hex::<std::borrow::Cow<'_, str>>(), text);
+    assert_eq!(BYTES.encode_hex::<std::borrow::Cow<'_, str>>(), TEXT);
     // types without a size
-    assert_eq!(<[u8]>::encode_hex::<String>(&bytes), text);
+    assert_eq!(<[u8]>::encode_hex::<String>(&BYTES), TEXT);
     assert_eq!(str::encode_hex_upper::<String>("kiwi"), "6B697769");
-    let unsized_bytes: &dyn AsRef<[u8]> = &bytes;
-    assert_eq!(unsized_bytes.encode_hex::<String>(), text);
+    let bytes: &dyn AsRef<[u8]> = &BYTES;
+    assert_eq!(bytes.encode_hex::<String>(), TEXT);
 }
 
 /// A collection may ask for some characters one by one, and for the others at once.
@@ -125,10 +97,7 @@ fn characters_one_by_one() {
     }
     let bytes: Vec<u8> = (0..2050).map(|index| index as u8).collect();
     for length in (0..100).chain(2046..2051) {
-        let text: String = bytes[..length]
-            .iter()
-            .map(|byte| format!("{byte:02x}"))
-            .collect();
+        let text = display(&bytes[..length]).to_string();
         assert_eq!(bytes[..length].encode_hex::<Split<0>>().0, text);
         assert_eq!(bytes[..length].encode_hex::<Split<1>>().0, text);
         assert_eq!(bytes[..length].encode_hex::<Split<64>>().0, text);
@@ -138,16 +107,24 @@ fn characters_one_by_one() {
 
 #[cfg(feature = "std")]
 #[test]
-fn an_error_of_the_standard_library() {
+fn errors_of_the_standard_library() {
+    use const_hex_proved::secret;
+
     let error: Box<dyn std::error::Error> = Box::new(const_hex_proved::check("6").unwrap_err());
     assert_eq!(error.to_string(), "odd number of digits");
+    let error: Box<dyn std::error::Error> = Box::new(secret::Error::InvalidStringLength);
+    assert_eq!(error.to_string(), "invalid string length");
+    assert_eq!(
+        secret::Error::InvalidHexCharacter.to_string(),
+        "invalid character"
+    );
 }
 
 #[cfg(feature = "alloc")]
 mod owned {
     use super::*;
     use const_hex_proved::traits::signed;
-    use const_hex_proved::{FromHex, ToHexExt};
+    use const_hex_proved::{decode_append, FromHex, ToHexExt};
     use std::borrow::Cow;
     use std::rc::Rc;
     use std::sync::Arc;
@@ -187,6 +164,18 @@ mod owned {
             ToHexExt::encode_hex_with_prefix(&BYTES[..]),
             format!("0x{TEXT}")
         );
+    }
+
+    /// Nothing is allocated for no bytes, or for an error of the length.
+    #[test]
+    fn a_full_vector() {
+        let mut full = b"kiwi".to_vec();
+        full.shrink_to_fit();
+        let capacity = full.capacity();
+        for (text, wanted) in [("0x", Ok(0)), ("0x7", Err(FromHexError::OddLength))] {
+            assert_eq!(decode_append(text, &mut full), wanted);
+            assert_eq!(full.capacity(), capacity);
+        }
     }
 
     /// The type of the elements need not be named.

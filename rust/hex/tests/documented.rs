@@ -1,47 +1,20 @@
-//! What only this package decides, with the results that the documentation and the tests of the crate `hex` name.
+//! What only this package decides: its names, and what becomes of a prefix.
 #![cfg(feature = "std")]
 
-use hex::FromHexError::{InvalidHexCharacter, InvalidStringLength, OddLength};
-use hex::{FromHex, ToHex};
+use hex::FromHexError::{InvalidHexCharacter, InvalidStringLength};
+use hex::{decode, decode_to_slice, encode, encode_to_slice, encode_upper, FromHex, ToHex};
 
-/// Each function of the crate, with a result that no other one has.
+/// Each function of the crate. No line names the type of the elements.
 #[test]
 fn names() {
-    assert_eq!(hex::encode("kj"), "6b6a");
-    assert_eq!(hex::encode_upper("kj"), "6B6A");
-    assert_eq!("kj".encode_hex::<String>(), "6b6a");
+    assert_eq!(encode("kj") + &encode_upper("kj"), "6b6a6B6A");
     assert_eq!("kj".encode_hex_upper::<String>(), "6B6A");
-    let mut text = [0; 4];
-    assert_eq!(hex::encode_to_slice("kj", &mut text), Ok(()));
-    assert_eq!(&text, b"6b6a");
-    let mut bytes = [0; 2];
-    assert_eq!(hex::decode_to_slice("6b6A", &mut bytes), Ok(()));
+    let (mut text, mut bytes) = ([0; 4], [0; 2]);
+    encode_to_slice("kj", &mut text).unwrap();
+    decode_to_slice(text, &mut bytes).unwrap();
     assert_eq!(&bytes, b"kj");
-    assert_eq!(hex::decode("6b6A"), Ok(b"kj".to_vec()));
-    let error = InvalidHexCharacter { c: 'z', index: 2 };
-    assert_eq!(hex::decode("6bz0"), Err(error));
-    assert_eq!(hex::decode_to_slice("6bz0", &mut bytes), Err(error));
-}
-
-/// No line of these names the type of the elements.
-#[test]
-fn from_hex() {
+    assert_eq!(decode("6b6A").unwrap(), b"kj");
     assert_eq!(Vec::from_hex("666f6f626172").unwrap(), b"foobar");
-    assert_eq!(Vec::from_hex(b"666F6F626172").unwrap(), b"foobar");
-    assert_eq!(Vec::from_hex("").unwrap(), b"");
-    assert_eq!(Vec::from_hex("1").unwrap_err(), OddLength);
-    let error = Vec::from_hex("66ag").unwrap_err();
-    assert_eq!(error, InvalidHexCharacter { c: 'g', index: 3 });
-    let error = Vec::from_hex("666f 6f62617").unwrap_err();
-    assert_eq!(error, InvalidHexCharacter { c: ' ', index: 4 });
-    assert_eq!(
-        <[u8; 12]>::from_hex("48656c6c6f20776f726c6421"),
-        Ok(*b"Hello world!")
-    );
-    assert_eq!(
-        <[u8; 5]>::from_hex("666f6f626172"),
-        Err(InvalidStringLength)
-    );
 }
 
 #[cfg(feature = "serde")]
@@ -72,32 +45,19 @@ fn fields() {
 /// The crate rejects a prefix, and so does this package without the feature `prefix`.
 #[test]
 fn prefixes() {
+    let wanted = match cfg!(feature = "prefix") {
+        true => Ok(b"k".to_vec()),
+        false => Err(InvalidHexCharacter { c: 'x', index: 1 }),
+    };
+    assert_eq!(decode("0x6b"), wanted);
+    assert_eq!(Vec::from_hex("0x6b"), wanted);
+    let array = wanted.clone().and(Err(InvalidStringLength));
+    assert_eq!(<[u8; 2]>::from_hex("0x6b"), array);
+    assert_eq!(decode_to_slice("0x6b", &mut [0; 2]), array.map(drop));
     #[cfg(feature = "serde")]
-    fn field<T: FromHex<Error = hex::FromHexError>>(text: &str) -> Result<T, String> {
-        hex::deserialize(serde_json::json!(text)).map_err(|error| error.to_string())
-    }
-    for (text, c) in [("0x6b", 'x'), ("0X6b", 'X')] {
-        let error = InvalidHexCharacter { c, index: 1 };
-        let (array, vector) = match cfg!(feature = "prefix") {
-            true => (Err(InvalidStringLength), Ok(b"k".to_vec())),
-            false => (Err(error), Err(error)),
-        };
-        assert_eq!(hex::decode(text), vector);
-        assert_eq!(Vec::from_hex(text), vector);
-        assert_eq!(<[u8; 2]>::from_hex(text), array);
-        assert_eq!(hex::decode_to_slice(text, &mut [0; 2]), array.map(drop));
-        let single = vector.as_ref().map(drop).map_err(|_| InvalidStringLength);
-        assert_eq!(hex::decode_to_slice(text, &mut [0; 1]), single);
-        #[cfg(feature = "serde")]
-        {
-            assert_eq!(
-                field::<Vec<u8>>(text),
-                vector.map_err(|error| error.to_string())
-            );
-            assert_eq!(
-                field::<[u8; 2]>(text),
-                array.map_err(|error| error.to_string())
-            );
-        }
+    {
+        let field = hex::deserialize(serde_json::json!("0x6b"));
+        let field: Result<Vec<u8>, _> = field.map_err(|error: serde_json::Error| error.to_string());
+        assert_eq!(field, wanted.map_err(|error| error.to_string()));
     }
 }

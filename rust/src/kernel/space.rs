@@ -1,4 +1,4 @@
-//! Space for a text or for bytes, which need not be initialized.
+//! Space for text or for bytes, which need not be initialized.
 
 use super::{unchecked, TargetKernel};
 use crate::proved::{text_length, Kernel};

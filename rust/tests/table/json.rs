@@ -1,52 +1,43 @@
-//! The functions of the module `serde`, by JSON, and what each returns for a line.
+//! The functions of the module `serde`, by JSON.
 
-use super::calls::{bytes, formed, Answers};
-use super::codec::serde::{deserialize, no_prefix, serialize, serialize_upper};
-use super::codec::{check, decode};
-use super::lines::{shown_answer, Line};
+use super::lines::Line;
+use const_hex_proved::serde::{deserialize, no_prefix, serialize, serialize_upper};
+use const_hex_proved::FromHex;
 use serde_json::value::{Serializer, Value};
 
-/// The answer of each call that can answer the line.
-pub fn answers(line: &Line) -> Answers {
-    let input = &line.input[..];
-    let text = |value: Result<Value, serde_json::Error>, prefix, is_upper| {
-        formed(value.unwrap().as_str().unwrap(), prefix, is_upper)
-    };
-    match &*line.question {
-        "write" => vec![
-            ("serialize", text(serialize(input, Serializer), "0x", false)),
-            (
-                "serialize_upper",
-                text(serialize_upper(input, Serializer), "0x", true),
-            ),
-            (
-                "no_prefix::serialize",
-                text(no_prefix::serialize(input, Serializer), "", false),
-            ),
-            (
-                "no_prefix::serialize_upper",
-                text(no_prefix::serialize_upper(input, Serializer), "", true),
-            ),
-        ],
-        "json" => vec![("deserialize", read(input))],
-        _ => Vec::new(),
+pub fn write(line: &Line) {
+    let (bytes, lower) = (&line.input[..], line.string());
+    let upper = lower.to_uppercase();
+    let text = |value: Result<Value, serde_json::Error>| value.unwrap();
+    same!(line, format!("0x{lower}"); text(serialize(bytes, Serializer)));
+    same!(line, format!("0x{upper}"); text(serialize_upper(bytes, Serializer)));
+    same!(line, lower; text(no_prefix::serialize(bytes, Serializer)));
+    same!(line, upper; text(no_prefix::serialize_upper(bytes, Serializer)));
+}
+
+/// The bytes of a JSON value, into an array of a length or a vector, or how its message ends.
+pub fn read(line: &Line, length: Option<usize>) {
+    let value: Value = serde_json::from_slice(&line.input).unwrap();
+    match length {
+        Some(length) => at!(length, N => read_as::<[u8; N]>(line, &value)),
+        None => read_as::<Vec<u8>>(line, &value),
     }
 }
 
-/// The bytes of a JSON value. An error has only a message, which is the one of `decode` or of `check`.
-fn read(json: &[u8]) -> String {
-    let value: Value = serde_json::from_slice(json).unwrap();
-    let printed = match deserialize::<_, Vec<u8>>(&value) {
-        Ok(bytes) => return shown_answer(&bytes),
-        Err(error) => error.to_string(),
-    };
-    let text = match value {
-        Value::String(text) => text,
-        _ => return "!NotText".to_string(),
-    };
-    let results = [decode(&text), check(&text).map(|()| Vec::new())];
-    let named = results
-        .into_iter()
-        .find(|result| matches!(result, Err(error) if error.to_string() == printed));
-    named.map_or(printed, bytes)
+fn read_as<T: FromHex<Error = const_hex_proved::FromHexError> + AsRef<[u8]>>(
+    line: &Line,
+    value: &Value,
+) {
+    let found: Result<T, serde_json::Error> = deserialize(value);
+    match (&*line.question, &line.result, found) {
+        ("json-message", Ok(_), Err(error)) => {
+            assert!(error.to_string().ends_with(&line.string()), "{}", line.text)
+        }
+        (_, Ok(bytes), Err(error)) if bytes == b"!NotText" => {
+            assert!(error.to_string().ends_with("expected a hex encoded string"))
+        }
+        (_, Err(wanted), Err(error)) => same!(line, wanted.to_string(); error.to_string()),
+        (_, Ok(bytes), Ok(found)) => same!(line, bytes[..]; *found.as_ref()),
+        _ => panic!("{}", line.text),
+    }
 }

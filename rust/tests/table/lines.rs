@@ -1,62 +1,120 @@
 //! The lines of the table of test vectors. The page beside `vectors.tsv` says what each column has.
 
+use const_hex_proved::secret;
+use const_hex_proved::FromHexError::{self, *};
+
 /// A line that asks something.
 pub struct Line {
+    pub text: String,
     /// What is asked.
     pub question: String,
     /// The length of the output, if the question has one.
     pub number: Option<usize>,
     /// The bytes or the text that it is asked of.
     pub input: Vec<u8>,
-    /// The result, as the table shows it.
-    pub result: String,
+    /// The result, or the cell that names another error than those of this crate.
+    pub result: Result<Vec<u8>, FromHexError>,
 }
 
 impl Line {
-    /// The line of a text without its line break, or `None` if it is empty or a comment.
+    /// The line of a text, or `None` if it is empty or a comment.
     pub fn read(text: &str) -> Option<Line> {
         if text.is_empty() || text.starts_with('#') {
             return None;
         }
-        let mut cells = text.split('\t');
-        let mut cell = || {
-            cells
-                .next()
-                .unwrap_or_else(|| panic!("a cell is missing: {text}"))
-        };
-        let (question, input, result) = (cell(), cell(), cell());
-        let (question, number) = match question.split_once(' ') {
-            Some((question, number)) => (question, Some(number.parse().unwrap())),
-            None => (question, None),
+        let cells: Vec<&str> = text.split('\t').collect();
+        let (question, number) = cells[0].split_once(' ').unwrap_or((cells[0], ""));
+        let number = number.parse().ok();
+        let times = if question.ends_with("-times") {
+            number.unwrap()
+        } else {
+            1
         };
         Some(Line {
+            text: text.to_string(),
             question: question.to_string(),
             number,
-            input: bytes_of(input),
-            result: result.to_string(),
+            input: bytes_of(cells[1]).repeat(times),
+            result: match error_of(cells[2]) {
+                Some(error) => Err(error),
+                None => Ok(bytes_of(cells[2]).repeat(times)),
+            },
         })
+    }
+
+    /// A result that is no error, as text.
+    pub fn string(&self) -> String {
+        String::from_utf8(self.result.clone().unwrap()).unwrap()
+    }
+
+    /// The result of a check.
+    pub fn checked(&self) -> Result<(), FromHexError> {
+        self.result.as_ref().map(drop).map_err(|error| *error)
+    }
+
+    /// How many characters of the input are a prefix.
+    pub fn prefix(&self) -> usize {
+        match self.input[..] {
+            [b'0', b'x' | b'X', ..] => 2,
+            _ => 0,
+        }
+    }
+
+    /// Calls a function that fills an output. After an invalid character the bytes from there on are as before, and after
+    /// another error all are.
+    pub fn fill(
+        &self,
+        length: usize,
+        call: impl FnOnce(&mut [u8]) -> Result<(), FromHexError>,
+    ) -> Result<Vec<u8>, FromHexError> {
+        let mut output = vec![0xEE; length];
+        let error = match call(&mut output) {
+            Ok(()) => return Ok(output),
+            Err(error) => error,
+        };
+        let written = match error {
+            InvalidHexCharacter { index, .. } => index.saturating_sub(self.prefix()) / 2,
+            _ => 0,
+        };
+        assert!(
+            output[written..].iter().all(|byte| *byte == 0xEE),
+            "{}",
+            self.text
+        );
+        Err(error)
     }
 }
 
-/// Asks `calls` each line of the table, except those with a question that is left out. They return the names of calls
-/// and their answers, each of which has to be the line's.
-pub fn ask(left_out: &[&str], calls: impl Fn(&Line) -> Vec<(&'static str, String)>) {
-    let path = "../crates/const_hex_vectors/data/vectors.tsv";
-    let table = std::fs::read_to_string(path).unwrap_or_else(|error| panic!("{path}: {error}"));
-    for (number, text) in table.lines().enumerate() {
-        let place = format!("line {}: {text}", number + 1);
-        if let Some(line) = Line::read(text) {
-            let answers = calls(&line);
-            let is_left_out = left_out.contains(&&*line.question);
-            assert_ne!(
-                answers.is_empty(),
-                !is_left_out,
-                "{place}: whether it is asked"
-            );
-            for (call, answer) in &answers {
-                assert_eq!(*answer, line.result, "{call}, {place}");
-            }
-        }
+/// Calls a function of `secret`, which clears its output after an error.
+pub fn fill_secret(
+    length: usize,
+    call: impl FnOnce(&mut [u8]) -> Result<(), secret::Error>,
+) -> Result<Vec<u8>, secret::Error> {
+    let mut output = vec![0xEE; length];
+    let result = call(&mut output);
+    assert!(result.is_ok() || output.iter().all(|byte| *byte == 0));
+    result.map(|()| output)
+}
+
+/// What `secret` returns in place of an error.
+pub fn error_of_secret(error: FromHexError) -> secret::Error {
+    match error {
+        InvalidHexCharacter { .. } => secret::Error::InvalidHexCharacter,
+        _ => secret::Error::InvalidStringLength,
+    }
+}
+
+/// The error that a cell shows.
+fn error_of(cell: &str) -> Option<FromHexError> {
+    let words: Vec<&str> = cell.split(' ').collect();
+    match words[..] {
+        ["!OddLength"] => Some(OddLength),
+        ["!InvalidStringLength"] => Some(InvalidStringLength),
+        ["!InvalidHexCharacter", c, index] => Some(InvalidHexCharacter {
+            c: u8::from_str_radix(&c[2..], 16).unwrap().into(),
+            index: index.parse().unwrap(),
+        }),
+        _ => None,
     }
 }
 
@@ -71,34 +129,26 @@ fn bytes_of(cell: &str) -> Vec<u8> {
     bytes
 }
 
-/// An answer of bytes as the table shows it, in which `!` in front would be an error.
-pub fn shown_answer(bytes: &[u8]) -> String {
-    match bytes {
-        b"" => return "\"\"".to_string(),
-        b"\"\"" => return "\\x22\\x22".to_string(),
-        _ => {}
-    }
-    let one = |(at, byte)| match byte {
-        b'\\' => "\\x5c".to_string(),
-        b'!' if at == 0 => "\\x21".to_string(),
-        b' '..=b'~' => char::from(byte).to_string(),
-        _ => format!("\\x{byte:02x}"),
-    };
-    bytes.iter().copied().enumerate().map(one).collect()
+/// Compares what calls return with what is wanted for a line.
+macro_rules! same {
+    ($line:expr, $wanted:expr; $($call:expr),+ $(,)?) => {{
+        let wanted = &$wanted;
+        $(assert_eq!(&$call, wanted, "{} of {}", stringify!($call), $line.text);)+
+    }};
 }
 
-/// An answer in which `$size` is a constant, if the number is one of the lengths of the table.
+/// Makes a call in which `$size` is a constant, if the number is one of the lengths of the table.
 macro_rules! at {
-    ($number:expr, $size:ident => $answer:expr) => {
-        at!($number, $size => $answer; 0 1 2 3 4 5 8 12 16 20 32 33 48 64 65 128)
+    ($number:expr, $size:ident => $call:expr) => {
+        at!($number, $size => $call; 0 1 2 3 4 5 8 12 16 20 32 33 48 64 65 128)
     };
-    ($number:expr, $size:ident => $answer:expr; $($count:literal)+) => {
+    ($number:expr, $size:ident => $call:expr; $($count:literal)+) => {
         match $number {
             $($count => {
                 const $size: usize = $count;
-                Some($answer)
+                $call
             })+
-            _ => None,
+            _ => {}
         }
     };
 }

@@ -1,34 +1,46 @@
 //! The table of test vectors, asked of each function that can answer a line.
 #![cfg(feature = "std")]
 
-use const_hex_proved as codec;
-
 #[macro_use]
 mod lines;
-mod calls;
-mod chunks;
+mod decoding;
+mod encoding;
 #[cfg(feature = "serde")]
 mod json;
-mod text_calls;
 
-/// What the lines ask of kernels and sinks, which this crate has not, of arrays and errors in JSON, which
-/// `tests/serde.rs` tries, and of long texts, which `tests/lengths.rs` tries.
-const LEFT_OUT: &str =
-    "fronts each-byte pieces calls values-of-step write-step read-step json-into json-message \
-                        write-times read-times";
+use lines::Line;
 
 #[test]
 fn each_line() {
-    let json = (!cfg!(feature = "serde")).then_some("json");
-    lines::ask(
-        &LEFT_OUT.split(' ').chain(json).collect::<Vec<_>>(),
-        |line| {
-            let mut answers = calls::answers(line);
-            answers.extend(text_calls::answers(line));
-            answers.extend(chunks::answers(line));
+    let path = "../crates/const_hex_vectors/data/vectors.tsv";
+    let table = std::fs::read_to_string(path).unwrap();
+    for line in table.lines().filter_map(Line::read) {
+        ask(&line);
+    }
+}
+
+fn ask(line: &Line) {
+    match (&*line.question, line.number) {
+        ("write", None) => {
+            encoding::write(line);
             #[cfg(feature = "serde")]
-            answers.extend(json::answers(line));
-            answers
-        },
-    );
+            json::write(line);
+        }
+        ("write-into", Some(length)) => encoding::write_into(line, length),
+        ("write-times", _) => encoding::write(line),
+        ("read" | "read-times", _) => decoding::read(line),
+        ("read-into", Some(length)) => decoding::read_into(line, length),
+        ("read-chunks", None) => decoding::read_chunks(line),
+        ("digits", None) => decoding::read_digits(line),
+        ("each-byte", None) => decoding::each_byte(line),
+        ("message", length) => decoding::message(line, length),
+        #[cfg(feature = "serde")]
+        ("json" | "json-into" | "json-message", length) => json::read(line, length),
+        #[cfg(not(feature = "serde"))]
+        ("json" | "json-into" | "json-message", _) => {}
+        // What this crate does not have: kernels and sinks.
+        ("fronts" | "pieces" | "calls", _) => {}
+        ("values-of-step" | "write-step" | "read-step", None) => {}
+        _ => panic!("a question that is not known: {}", line.text),
+    }
 }

@@ -1,0 +1,167 @@
+//! The functions that decode and check.
+
+use super::lines::{error_of_secret, fill_secret, Line};
+use const_hex_proved::traits::signed;
+use const_hex_proved::FromHexError::{self, *};
+use const_hex_proved::{
+    check, check_raw, const_check, const_check_raw, const_decode_to_array, decode, decode_append,
+    decode_to_array, decode_to_front, decode_to_slice, secret, strict, DecodeReader, Decoder,
+    FromHex,
+};
+use std::io::Read;
+
+type Decoded = Result<Vec<u8>, FromHexError>;
+
+/// The bytes of a result that has signed numbers.
+fn unsigned<T: AsRef<[i8]>>(result: Result<T, FromHexError>) -> Decoded {
+    result.map(|numbers| {
+        numbers
+            .as_ref()
+            .iter()
+            .map(|number| *number as u8)
+            .collect()
+    })
+}
+
+pub fn read(line: &Line) {
+    let text = &line.input[..];
+    same!(line, line.result;
+        decode(text), Vec::<u8>::from_hex(text), <Box<[u8]>>::from_hex(text).map(Vec::from),
+        unsigned(<Vec<i8> as signed::FromHex>::from_hex(text)), append(text),
+    );
+    same!(line, line.checked(); check(text), const_check(text));
+    let strict = without_prefix(line, text.len() / 2);
+    same!(line, strict; strict::decode(text), <Vec<u8> as strict::FromHex>::from_hex(text));
+    same!(line, strict.map(drop); strict::check(text));
+    let count = (text.len() - line.prefix()) / 2;
+    same!(line, line.result; line.fill(count, |output| decode_to_slice(text, output)));
+    for space in [0, 1, 70] {
+        let mut output = vec![0xEE; count + space];
+        same!(line, line.checked(); decode_to_front(text, &mut output).map(|found| assert_eq!(found, count)));
+        assert_eq!(output[count..], vec![0xEE; space]);
+        if let Ok(bytes) = &line.result {
+            assert_eq!(output[..count], bytes[..]);
+        }
+    }
+    read_without_prefix(line, count);
+    // A decoder reports an invalid character before an odd length.
+    if line.result != Err(OddLength) {
+        read_chunks(line);
+    }
+}
+
+/// What the module `strict` returns for an output of this length: the `x` of a prefix is an invalid character there.
+fn without_prefix(line: &Line, length: usize) -> Decoded {
+    match (line.input.len(), line.prefix()) {
+        (size, _) if size % 2 == 1 => Err(OddLength),
+        (size, _) if size != 2 * length => Err(InvalidStringLength),
+        (_, 0) => line.result.clone(),
+        _ => Err(InvalidHexCharacter {
+            c: line.input[1].into(),
+            index: 1,
+        }),
+    }
+}
+
+/// `strict` and `secret`, which rejects the same.
+fn read_without_prefix(line: &Line, length: usize) {
+    let (text, wanted) = (&line.input[..], without_prefix(line, length));
+    same!(line, wanted; line.fill(length, |output| strict::decode_to_slice(text, output)));
+    same!(line, wanted.map_err(error_of_secret);
+        fill_secret(length, |output| secret::decode_to_slice(text, output)));
+}
+
+/// What is appended follows what is there, which an error leaves alone.
+fn append(text: &[u8]) -> Decoded {
+    let mut all = b"kiwi".to_vec();
+    let result = decode_append(text, &mut all);
+    let bytes = all.split_off(4);
+    assert_eq!((&all[..], bytes.len()), (&b"kiwi"[..], result.unwrap_or(0)));
+    result.map(|_| bytes)
+}
+
+pub fn read_into(line: &Line, length: usize) {
+    same!(line, line.result; line.fill(length, |output| decode_to_slice(&line.input, output)));
+    read_without_prefix(line, length);
+    at!(length, N => read_array::<N>(line));
+}
+
+fn read_array<const N: usize>(line: &Line) {
+    let text = &line.input[..];
+    same!(line, line.result.as_ref().map(|bytes| bytes[..].try_into().unwrap()).map_err(|error| *error);
+        decode_to_array::<_, N>(text), <[u8; N]>::from_hex(text), const_decode_to_array(text));
+    same!(line, line.result; unsigned(<[i8; N] as signed::FromHex>::from_hex(text)));
+    let strict = without_prefix(line, N);
+    same!(line, strict;
+        strict::decode_to_array::<_, N>(text).map(Vec::from),
+        <[u8; N] as strict::FromHex>::from_hex(text).map(Vec::from),
+    );
+    let secret = strict.map_err(error_of_secret);
+    same!(line, secret; secret::decode_to_array::<_, N>(text).map(Vec::from));
+}
+
+pub fn read_digits(line: &Line) {
+    let text = &line.input[..];
+    same!(line, line.string() == "true"; check_raw(text), const_check_raw(text));
+}
+
+/// Which bytes may stand at each index of a text.
+pub fn each_byte(line: &Line) {
+    for index in 0..line.input.len() {
+        let mut text = line.input.clone();
+        let mut accepted = |check: fn(&[u8]) -> bool| -> String {
+            let is_digit = |byte: &u8| {
+                text[index] = *byte;
+                check(&text)
+            };
+            (0..=255).filter(is_digit).map(char::from).collect()
+        };
+        let secret = |text: &[u8]| secret::decode_to_array::<_, 32>(text).is_ok();
+        same!(line, line.string();
+            accepted(|text| check_raw(text)), accepted(const_check_raw), accepted(secret),
+            accepted(|text| check(text).is_ok()),
+            accepted(|text| const_check(text).is_ok()),
+        );
+    }
+}
+
+pub fn message(line: &Line, length: Option<usize>) {
+    let text = &line.input[..];
+    let message = |result: Result<(), FromHexError>| result.unwrap_err().to_string();
+    match length {
+        Some(length) => {
+            same!(line, line.string(); message(decode_to_slice(text, &mut vec![0; length])));
+        }
+        None => same!(line, line.string(); message(check(text)), message(decode(text).map(drop))),
+    }
+}
+
+/// A text that is cut into two, at each place or, if it is long, at some, and one in single bytes.
+pub fn read_chunks(line: &Line) {
+    let text = &line.input[..];
+    for cut in (0..=text.len()).step_by(1 + text.len() / 200) {
+        same!(line, line.result; decode_chunks(&[&text[..cut], &text[cut..]]));
+    }
+    let single: Vec<&[u8]> = text.chunks(1).collect();
+    same!(line, line.result; decode_chunks(&single), read_all(text));
+}
+
+/// The bytes that chunks decode to.
+fn decode_chunks(chunks: &[&[u8]]) -> Decoded {
+    let (mut decoder, mut bytes) = (Decoder::new(), Vec::new());
+    for chunk in chunks {
+        let mut output = vec![0; (chunk.len() + 1) / 2];
+        let count = decoder.decode(chunk, &mut output)?;
+        bytes.extend_from_slice(&output[..count]);
+    }
+    decoder.finish().map(|()| bytes)
+}
+
+/// What a reader of the text returns.
+fn read_all(text: &[u8]) -> Decoded {
+    let mut bytes = Vec::new();
+    match DecodeReader::new(text).read_to_end(&mut bytes) {
+        Ok(_) => Ok(bytes),
+        Err(error) => Err(*error.get_ref().unwrap().downcast_ref().unwrap()),
+    }
+}
