@@ -57,10 +57,10 @@ fn calls(size: usize) -> (usize, usize) {
 fn repeat_all(only: &[String]) {
     for case in chosen(only) {
         let (few, more) = calls(case.size);
-        let mut prepared = case.prepared();
+        let mut repeat = case.prepared();
         for count in [few, few, more] {
             mark();
-            prepared.repeat(count);
+            repeat(count);
             mark();
         }
     }
