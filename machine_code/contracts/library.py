@@ -339,15 +339,7 @@ class DecoderUpdate(Text):
     name = "every decoder and chunk"
     parts = 6
     regions = DECODER, TEXT, OUTPUT, WRITTEN, ERROR
-    arguments = (
-        base("decoder"),
-        base("input"),
-        N,
-        base("output"),
-        SIZE,
-        base("written"),
-        base("error"),
-    )
+    arguments = base("decoder"), *Decode.arguments
     empty = BUFFERS
 
     def kinds(self, state):
