@@ -1,4 +1,4 @@
-use Rattle.std.proofs.Common.{◌≡◌, [], arith}
+use Rattle.std.proofs.Common.{[], arith}
 use Rattle.const_hex.proofs.lemmas.Decoding.{body-shorter}
 use Rattle.const_hex.specs.Decoding.{NamesCounted}
 use Rattle.const_hex_tests.proofs.examples.streams.check_chunk.Goals as goal
