@@ -132,14 +132,15 @@ pub fn message(line: &Line, length: Option<usize>) {
     }
 }
 
-/// A text that is cut into two, at each place or, if it is long, at some, and one in single bytes.
+/// A text that is cut into two, at each place or, if it is long, at some, and one in single bytes or in small chunks.
 pub fn read_chunks(line: &Line) {
     let text = &line.input[..];
-    for cut in (0..=text.len()).step_by(1 + text.len() / 200) {
+    let step = if text.len() < 10_000 { 1 } else { 100_003 };
+    for cut in (0..=text.len()).step_by(step) {
         same!(line, line.result; decode_chunks(&[&text[..cut], &text[cut..]]));
     }
-    let single: Vec<&[u8]> = text.chunks(1).collect();
-    same!(line, line.result; decode_chunks(&single), read_all(text));
+    let small: Vec<&[u8]> = text.chunks(step.min(4099)).collect();
+    same!(line, line.result; decode_chunks(&small), read_all(text));
 }
 
 /// The bytes that chunks decode to.
