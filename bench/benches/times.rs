@@ -2,7 +2,7 @@
 
 use const_hex_bench::{cases, SIZES};
 use criterion::{criterion_group, criterion_main, BenchmarkId, Criterion, Throughput};
-use std::time::Duration;
+use std::time::{Duration, Instant};
 
 /// The calls that are measured.
 const CALLS: [&str; 7] = [
@@ -22,7 +22,12 @@ fn times(criterion: &mut Criterion) {
             group.throughput(Throughput::Bytes(size as u64));
             for case in cases(size).into_iter().filter(|case| case.call == call) {
                 group.bench_function(BenchmarkId::new(case.library, size), |bencher| {
-                    bencher.iter_custom(|count| case.repeat(count as usize))
+                    bencher.iter_custom(|count| {
+                        let mut repeat = case.prepared();
+                        let start = Instant::now();
+                        repeat(count as usize);
+                        start.elapsed()
+                    })
                 });
             }
         }

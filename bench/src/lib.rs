@@ -5,7 +5,6 @@ mod c;
 mod libraries;
 
 pub use libraries::cases;
-use std::time::{Duration, Instant};
 
 /// The numbers of bytes that are encoded, or decoded to.
 pub const SIZES: [usize; 20] = [
@@ -17,8 +16,11 @@ pub struct Case {
     pub call: String,
     pub library: &'static str,
     pub size: usize,
-    prepare: Box<dyn Fn() -> Box<dyn Repeats>>,
+    prepare: Box<dyn Fn() -> Repeat>,
 }
+
+/// Makes a call so many times. The loop stands with the call, so that only the loop is called through a pointer.
+pub type Repeat = Box<dyn FnMut(usize)>;
 
 impl Case {
     /// A case of the call that `prepare` returns, with its buffers.
@@ -28,40 +30,25 @@ impl Case {
         size: usize,
         prepare: impl Fn() -> F + 'static,
     ) -> Case {
+        let prepare = move || -> Repeat {
+            let mut call = prepare();
+            Box::new(move |count| {
+                for _ in 0..count {
+                    call();
+                }
+            })
+        };
         Case {
             call,
             library,
             size,
-            prepare: Box::new(move || Box::new(prepare())),
+            prepare: Box::new(prepare),
         }
     }
 
-    /// The call with its buffers.
-    pub fn prepared(&self) -> Box<dyn Repeats> {
+    /// The call with its buffers. If they are made for each measurement, they have the same addresses for each library: a
+    /// store that crosses a page takes long.
+    pub fn prepared(&self) -> Repeat {
         (self.prepare)()
-    }
-
-    /// Makes the call so many times, and returns how long that took.
-    pub fn repeat(&self, count: usize) -> Duration {
-        // Prepared here, the buffers have the same addresses for each library: a store that crosses a page takes long.
-        let mut prepared = self.prepared();
-        let start = Instant::now();
-        prepared.repeat(count);
-        start.elapsed()
-    }
-}
-
-pub trait Repeats {
-    /// Makes the call so many times.
-    fn repeat(&mut self, count: usize);
-}
-
-// The loop stands with the call, so that only the loop is called through a pointer.
-impl<F: FnMut()> Repeats for F {
-    #[inline(never)]
-    fn repeat(&mut self, count: usize) {
-        for _ in 0..count {
-            self();
-        }
     }
 }

@@ -138,10 +138,6 @@ macro_rules! with_arrays {
             let text: &[u8; 2 * $size] = text.try_into().unwrap();
             $library::decode_to_array::<_, $size>(text)
         });
-        $cases.encoding("Buffer::format", $name, |bytes, _| {
-            let mut buffer = $library::Buffer::<$size>::new();
-            black_box(buffer.format(bytes.try_into().unwrap())).len()
-        });
     }};
 }
 use with_arrays;

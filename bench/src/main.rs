@@ -4,65 +4,21 @@
 //!     cargo run --release                            # every call of every library
 //!     cargo run --release -- const-hex               # of these libraries alone
 //!     MOST=2048 cargo run                            # without optimization, up to so many bytes
-//!     MOST=2048 cargo run -- --builds                # where const-hex takes fewer, in each of its builds
 //!
 //! The program runs itself once, with all calls. A cell is what two rounds of calls differ by, by the number of calls.
 
 use const_hex_bench::{cases, Case, SIZES};
 use std::io::{self, BufRead, BufReader};
-use std::process::{Command, ExitCode, Stdio};
+use std::process::{Command, Stdio};
 use std::{env, fs, process};
 
-fn main() -> ExitCode {
+fn main() -> io::Result<()> {
     let mut arguments: Vec<String> = env::args().skip(1).collect();
-    let done = match arguments.first().map(String::as_str) {
-        Some("--repeat") => {
-            repeat_all(&arguments.split_off(1));
-            Ok(())
-        }
-        Some("--builds") => BUILDS.into_iter().try_for_each(run_build),
-        _ => print(&arguments),
-    };
-    match done {
-        Ok(()) => ExitCode::SUCCESS,
-        Err(error) => {
-            eprintln!("const-hex-bench: {error}");
-            ExitCode::FAILURE
-        }
+    if arguments.first().map(String::as_str) == Some("--repeat") {
+        repeat_all(&arguments.split_off(1));
+        return Ok(());
     }
-}
-
-/// The builds: what each is called, rustc's flags, and cargo's options.
-const BUILDS: [(&str, &str, &str); 7] = [
-    ("default", "", "--release"),
-    ("x86-64-v3", V3, "--release"),
-    ("fat LTO", "", "--profile lto"),
-    ("x86-64-v3, fat LTO", V3, "--profile lto"),
-    ("portable", "", "--release --features force-generic"),
-    (
-        "portable, fat LTO",
-        "",
-        "--profile lto --features force-generic",
-    ),
-    ("dev", "", ""),
-];
-const V3: &str = "-C target-cpu=x86-64-v3";
-
-/// Counts in a build, and prints the cells in which const-hex takes fewer instructions.
-fn run_build((name, flags, options): (&str, &str, &str)) -> io::Result<()> {
-    let output = Command::new("cargo")
-        .arg("run")
-        .args(options.split_whitespace())
-        .args(["--", "const-hex", "const-hex-proved"])
-        .env("RUSTFLAGS", flags)
-        .stderr(Stdio::inherit())
-        .output()?;
-    let printed = String::from_utf8_lossy(&output.stdout);
-    match printed.split_once(ABOVE) {
-        Some((_, cells)) => println!("\n{ABOVE}, {name}:{}", cells.trim_start_matches(':')),
-        None => return Err(io::Error::other(format!("{name}: {}", output.status))),
-    }
-    Ok(())
+    print(&arguments)
 }
 
 /// Counts the calls of the named libraries, or of all, and prints the tables.
@@ -101,10 +57,10 @@ fn calls(size: usize) -> (usize, usize) {
 fn repeat_all(only: &[String]) {
     for case in chosen(only) {
         let (few, more) = calls(case.size);
-        let mut prepared = case.prepared();
+        let mut repeat = case.prepared();
         for count in [few, few, more] {
             mark();
-            prepared.repeat(count);
+            repeat(count);
             mark();
         }
     }
@@ -233,11 +189,9 @@ fn print_tables(cells: &[Cell]) {
     }
 }
 
-const ABOVE: &str = "More instructions than const-hex";
-
 /// Prints each cell in which const-hex takes fewer instructions than const-hex-proved.
 fn print_above(cells: &[Cell]) {
-    println!("\n{ABOVE}:\n");
+    println!("\nMore instructions than const-hex:\n");
     let of = |library| cells.iter().filter(move |cell| cell.0.library == library);
     for (Case { call, size, .. }, ours) in of("const-hex-proved") {
         let mut theirs =

@@ -1,5 +1,5 @@
 /*
- * What no line of the table of test vectors asks of each build of the library.
+ * What no line of the table of test vectors asks of the library.
  */
 #include "common.h"
 
@@ -33,9 +33,6 @@ TEST(messages) {
     const char *message;
   } rows[] = {
       {{CONST_HEX_ODD_LENGTH, 0, 0}, "odd number of digits"},
-      {{CONST_HEX_INVALID_LENGTH, 0, 0}, "invalid string length"},
-      {{CONST_HEX_INVALID_CHARACTER, 'z', 2}, "invalid character 'z' at position 2"},
-      {{CONST_HEX_INVALID_CHARACTER, '\'', 5}, "invalid character '\\'' at position 5"},
       {{CONST_HEX_INVALID_CHARACTER, 0xE9, 0}, "invalid character '\xC3\xA9' at position 0"},
       {{CONST_HEX_INVALID_CHARACTER, 0x80, SIZE_MAX},
        SIZE_MAX > 0xffffffff ? "invalid character '\\u{80}' at position 18446744073709551615"
@@ -79,7 +76,6 @@ TEST(sizes_that_no_buffer_has) {
       {SIZE_MAX / 2, SIZE_MAX - 1, CONST_HEX_PREFIX | CONST_HEX_NO_NUL},
       {SIZE_MAX / 2, SIZE_MAX - 1, 0},
       {SIZE_MAX / 2 + 1, SIZE_MAX, 0},
-      {SIZE_MAX / 2 + 1, SIZE_MAX, CONST_HEX_NO_NUL},
       {SIZE_MAX, SIZE_MAX, CONST_HEX_PREFIX | CONST_HEX_NO_NUL},
   };
   for (size_t row = 0; row < sizeof rows / sizeof *rows; row++) {

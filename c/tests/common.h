@@ -1,9 +1,9 @@
 /*
- * What the test programs share: the builds that they test, memory whose ends cannot be crossed, and a runner.
+ * What the test programs share: memory whose ends cannot be crossed, and a runner.
  *
  *     PROGRAM [TEST]
  *
- * Runs the named test, or all, for each build. The status is 1 if a test failed.
+ * Runs the named test, or all. The status is 1 if a test failed.
  */
 #ifndef COMMON_H
 #define COMMON_H
@@ -19,72 +19,6 @@
 #else
 #include <sys/mman.h>
 #endif
-
-/* ---- The builds ---- */
-
-#ifdef CONST_HEX_ONE_BUILD
-static const struct build { const char *label; } BUILDS[] = {{"the library"}};
-static const struct build *build = BUILDS;
-#else
-typedef bool check_function(const char *text, size_t text_length);
-typedef void fill_lower_function(const char *bytes, size_t bytes_length, char *text);
-typedef void fill_upper_function(const char *bytes, size_t bytes_length, char *text);
-typedef bool read_function(const char *text, char *bytes, size_t bytes_size);
-/* The function of the kernel that the library picks for this CPU, that of each kernel, and the one that the library
- * calls in its place, by ld's option --wrap. */
-#define FUNCTIONS(name)                                                                            \
-  name##_function __real_const_hex_kernel_##name, const_hex_kernel_##name##_v2,                    \
-      const_hex_kernel_##name##_v3, __wrap_const_hex_kernel_##name
-FUNCTIONS(check);
-FUNCTIONS(fill_lower);
-FUNCTIONS(fill_upper);
-FUNCTIONS(read);
-
-#define BUILD(label, prefix, suffix)                                                               \
-  {                                                                                                \
-    label, prefix##check##suffix, prefix##fill_lower##suffix, prefix##fill_upper##suffix,          \
-        prefix##read##suffix                                                                       \
-  }
-static const struct build {
-  const char *label;
-  check_function *check;
-  fill_lower_function *fill_lower;
-  fill_upper_function *fill_upper;
-  read_function *read;
-} BUILDS[] = {
-    BUILD("the library", __real_const_hex_kernel_, ),
-    BUILD("the kernel for x86-64-v2", const_hex_kernel_, _v2),
-    BUILD("the kernel for x86-64-v3", const_hex_kernel_, _v3),
-};
-static const struct build *build = BUILDS;
-
-bool __wrap_const_hex_kernel_check(const char *text, size_t text_length) {
-  return build->check(text, text_length);
-}
-void __wrap_const_hex_kernel_fill_lower(const char *bytes, size_t bytes_length, char *text) {
-  build->fill_lower(bytes, bytes_length, text);
-}
-void __wrap_const_hex_kernel_fill_upper(const char *bytes, size_t bytes_length, char *text) {
-  build->fill_upper(bytes, bytes_length, text);
-}
-bool __wrap_const_hex_kernel_read(const char *text, char *bytes, size_t bytes_size) {
-  return build->read(text, bytes, bytes_size);
-}
-#endif
-
-/* After the last build that this CPU can run. */
-static const struct build *builds_end(void) {
-  const struct build *end = BUILDS + sizeof BUILDS / sizeof *BUILDS;
-#ifndef CONST_HEX_ONE_BUILD
-  __builtin_cpu_init();
-  /* Old compilers do not know the name "x86-64-v3". A CPU with these two features has all of it. */
-  if (!__builtin_cpu_supports("avx2") || !__builtin_cpu_supports("bmi2")) {
-    puts("This CPU does not support x86-64-v3, so its kernel is not run.");
-    end--;
-  }
-#endif
-  return end;
-}
 
 /* ---- Memory ---- */
 
@@ -149,7 +83,7 @@ static unsigned long checks, failures;
 static inline void expect(bool fact, const char *what, size_t length, size_t detail) {
   checks++;
   if (!fact && failures++ < 20) {
-    printf("FAILED: %s: %s, at %zu, %zu\n", build->label, what, length, detail);
+    printf("FAILED: %s, at %zu, %zu\n", what, length, detail);
   }
 }
 
@@ -180,13 +114,11 @@ static struct test {
 static size_t tests_count;
 
 int main(int words, char **argument) {
-  const struct build *end = builds_end();
   areas.bytes = new_area();
   areas.text = new_area();
   areas.decoded = new_area();
   for (size_t test = 0; test < tests_count; test++) {
-    bool is_asked = words < 2 || strcmp(argument[1], tests[test].name) == 0;
-    for (build = BUILDS; is_asked && build < end; build++) {
+    if (words < 2 || strcmp(argument[1], tests[test].name) == 0) {
       tests[test].run();
     }
   }

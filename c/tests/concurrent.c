@@ -1,5 +1,5 @@
 /*
- * Tests of each build of the library in several threads, and over text that another thread changes meanwhile.
+ * Tests of the library in several threads, and over text that another thread changes meanwhile.
  */
 #include "common.h"
 #include <pthread.h>

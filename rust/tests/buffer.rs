@@ -59,7 +59,6 @@ fn standard_traits() {
         assert_ne!(buffer, lower, "{position}");
         buffer = lower;
     }
-    assert_eq!(Buffer::<2>::new().format(&[1, 2]), "0102");
 }
 
 /// A slice of another length panics, and leaves the buffer as it was.
@@ -84,13 +83,4 @@ fn an_array_of_another_length() {
     let buffer = Buffer::<4, true>::new();
     assert!(catch_unwind(|| buffer.as_byte_array::<8>().len()).is_err());
     assert!(catch_unwind(|| buffer.as_byte_array::<12>().len()).is_err());
-}
-
-#[cfg(feature = "alloc")]
-#[test]
-fn copies() {
-    let mut buffer = Buffer::<4, true>::new();
-    buffer.format(&BYTES);
-    assert_eq!(buffer.to_string(), "0x007f80ff");
-    assert_eq!(buffer.to_vec(), b"0x007f80ff");
 }

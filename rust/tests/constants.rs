@@ -1,9 +1,6 @@
 //! The functions for constants in constants, and the macro. The table asks what they return at run time.
 
-use const_hex_proved::{
-    bytes_of, const_check, const_check_raw, const_decode_to_array, const_encode, hex, Buffer,
-    FromHexError, HEX_CHARS_LOWER, HEX_CHARS_UPPER, HEX_DECODE_LUT, NIL,
-};
+use const_hex_proved::*;
 
 #[test]
 fn tables() {

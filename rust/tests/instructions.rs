@@ -145,7 +145,9 @@ impl Write for Full {
 
 /// Returns how many instructions a call takes, by two runs of this program, in each of which the test makes the call.
 fn counted(test: &str, call: &str, bytes: usize) -> i64 {
-    (run(test, call, bytes, 2000) - run(test, call, bytes, 1000)) / 1000
+    // From run to run the threads of the test itself take up to 3,000 instructions more or fewer.
+    let times = if bytes <= 64 { 4000 } else { 1000 };
+    (run(test, call, bytes, 2 * times) - run(test, call, bytes, times)) / times as i64
 }
 
 /// Returns how many instructions a run of this program takes that makes so many calls.

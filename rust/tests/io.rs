@@ -139,39 +139,33 @@ fn errors_of_the_other_reader() {
     assert_eq!(found, bytes);
 }
 
+/// After an error of the other writer, no digit is lost or written twice.
 #[test]
 fn writers_of_any_speed() {
     let (bytes, text) = bytes_and_text(10_000);
-    for most in [1, 2, 3, 7, 4096, 100_000] {
-        for length in [1, 2, 255, 256, 257, 10_000] {
-            let mut writer = EncodeWriter::new(Slow::new(Vec::new(), most, &[]));
-            assert_eq!(writer.write(&[]).unwrap(), 0);
-            for chunk in bytes.chunks(length) {
-                writer.write_all(chunk).unwrap();
-            }
-            let found = writer.finish().unwrap().inner;
-            assert!(found == text.as_bytes(), "{most} at a time, of {length}");
-        }
-    }
-}
-
-/// After an error of the other writer, no digit is lost or written twice.
-#[test]
-fn errors_of_the_other_writer() {
-    let (bytes, text) = bytes_and_text(10_000);
-    for call in 1..=9 {
-        for kind in [ErrorKind::Interrupted, ErrorKind::WouldBlock] {
-            let errors = [(call, kind), (call + 1, kind)];
-            let mut writer = EncodeWriter::new(Slow::new(Vec::new(), 1500, &errors));
-            let mut rest = &bytes[..];
-            while !rest.is_empty() {
-                if let Ok(count) = writer.write(rest) {
-                    rest = &rest[count..];
+    let kinds = [ErrorKind::Interrupted, ErrorKind::WouldBlock];
+    let errors = (0..=9).flat_map(|call| kinds.map(|kind| [(call, kind), (call + 1, kind)]));
+    for errors in errors {
+        for (most, length) in [
+            (1, 255),
+            (3, 1),
+            (7, 10_000),
+            (1500, 256),
+            (4096, 257),
+            (100_000, 2),
+        ] {
+            let mut writer = EncodeWriter::new(Slow::new(Vec::new(), most, &errors));
+            for mut rest in bytes.chunks(length) {
+                while !rest.is_empty() {
+                    rest = &rest[writer.write(rest).unwrap_or(0)..];
                 }
             }
             while writer.flush().is_err() {}
             let found = writer.finish().unwrap().inner;
-            assert!(found == text.as_bytes(), "{kind} at call {call}");
+            assert!(
+                found == text.as_bytes(),
+                "{most} at a time, of {length}: {errors:?}"
+            );
         }
     }
 }
@@ -179,6 +173,7 @@ fn errors_of_the_other_writer() {
 #[test]
 fn a_writer_that_takes_nothing() {
     let mut writer = EncodeWriter::new(Slow::new(Vec::new(), 0, &[]));
+    assert_eq!(writer.write(&[]).unwrap(), 0);
     writer.write_all(b"kiwi").unwrap();
     assert_eq!(writer.flush().unwrap_err().kind(), ErrorKind::WriteZero);
     assert_eq!(writer.finish().err().unwrap().kind(), ErrorKind::WriteZero);

@@ -20,21 +20,7 @@ struct Fields {
     upper: [u8; 4],
     #[serde(deserialize_with = "const_hex_proved::serde::signed::deserialize")]
     #[serde(skip_serializing)]
-    signed: Held<Vec<i8>>,
-}
-
-/// A type of the user that is read as what it holds.
-#[derive(Debug, Default, PartialEq)]
-struct Held<T>(T);
-
-impl<T: const_hex_proved::traits::signed::FromHex> const_hex_proved::traits::signed::FromHex
-    for Held<T>
-{
-    type Error = T::Error;
-
-    fn from_hex<U: AsRef<[u8]>>(hex: U) -> Result<Self, T::Error> {
-        T::from_hex(hex).map(Held)
-    }
+    signed: Vec<i8>,
 }
 
 #[test]
@@ -44,7 +30,7 @@ fn all_forms() {
         prefixed_upper: [0xBE, 0xEF],
         lower: b"kiwi".to_vec(),
         upper: [0, 1, 0xAB, 0xFF],
-        signed: Held(vec![-1]),
+        signed: vec![-1],
     };
     let text =
         r#"{"prefixed":"0xdead","prefixed_upper":"0xBEEF","lower":"6b697769","upper":"0001ABFF"}"#;

@@ -37,7 +37,7 @@ pub use crate::traits::{BytesToHexChars, FromHex, HexFault, ToHex, ToHexExt};
 pub use crate::write_sink::WriteSink;
 pub use const_hex_arch::{
     BufferedHex, BufferedOutput, CheckFirst, Compact, FixedKernel, HEX_CHARS_LOWER,
-    HEX_CHARS_UPPER, HEX_DECODE_LUT, Kernel, Lanes16, Lanes32, NIL, Output, PieceSink, Plain, Sink,
-    SinkError, SinkOutput, SliceOutput, ascii_text, digit_at, encode_full, fill_text, lanes16,
-    lanes32, text_length, value_at,
+    HEX_CHARS_UPPER, HEX_DECODE_LUT, Interleaved, Kernel, Lanes16, Lanes32, NIL, Output, PieceSink,
+    Plain, Sink, SinkError, SinkOutput, SliceOutput, ascii_text, digit_at, encode_full, fill_text,
+    is_digit, lanes16, lanes32, text_length, value_at,
 };

@@ -1,16 +1,148 @@
-//! What a program that runs this library can rely on, in words of std and of `const_hex`. Nothing exports this
-//! function.
+//! What a program that runs this library can rely on, in words of std and of `const_hex`. Nothing exports these
+//! functions.
 
-ghost use Rattle.std.specs.Prelude.{◌≡◌, ◌⊎◌, [], Bool, map, string_bytes};
-ghost use Rattle.std.specs.Io.KnownBytes.{Appends};
+ghost use Rattle.std.specs.Prelude.{◌≡◌, ◌≢◌, ◌⊎◌, ◌*◌, ◌+◌, ◌-◌, ◌/◌, ◌^◌, ◌<◌, ◌==◌, ◌++◌, ◌∷◌, [], All, Bool, List, ℕ, None, Ok, Err, Option, false, Some, OnErr, OnOk, codes, count_by, length, map, string_bytes, take};
+ghost use Rattle.std.specs.Io.KnownBytes.{Appends, Consumes, IsAtEnd, Keeps};
+ghost use Rattle.std.specs.IoError.{error_kind};
 ghost use Rattle.std.specs.Process.{exit_status};
-ghost use Rattle.hexfilter_core.specs.Dumps.{Groups, IgnoresLines, mirror};
+ghost use Rattle.std.specs.declared.io.Error.{Error};
+ghost use Rattle.std.specs.declared.io.ErrorKind.TheVariants.{Interrupted};
+ghost use Rattle.const_hex.specs.Prelude.{AllDigits, IsOdd, Reads, Spells, body_of, counted, full_text};
+ghost use Rattle.hexfilter_core.specs.Dumps.{FromHexError, Groups, IgnoresLines, InvalidHexCharacter, OddLength, Place, mirror};
 ghost use Rattle.hexfilter_core.specs.Options.{AreFor};
-ghost use Rattle.hexfilter_core.specs.declared.mode.Mode.TheVariants.{Decode, Encode};
+ghost use Rattle.hexfilter_core.specs.Runs.{Decode, Encode, Read, Text, Write};
 
+use crate::error::RunError;
+use crate::mode::{Groups, Mode, Reading};
 use crate::process::{Host, program};
-use std::io::Write;
+use crate::runs::run;
+use std::io::{Read, Write};
 use std::process::ExitCode;
+
+/// Decodes a text without groups.
+fn decode<R: Read, W: Write>(input: &mut R, output: &mut W) -> Result<(), RunError>
+    ensures ok { OnOk result ((x : List ℕ) × (y : List ℕ) × Consumes (R.remaining input.old) (R.remaining input.new) x
+        × IsAtEnd (R.remaining input.new) × Reads x (Ok y)
+        × Appends (W.contents output.old) (W.contents output.new) y) }
+    ensures odd { (place : Option Place) → result ≡ Err (Text OddLength place) → (place ≡ None)
+        × ((x : List ℕ) × (y : List ℕ) × Consumes (R.remaining input.old) (R.remaining input.new) x
+        × IsAtEnd (R.remaining input.new) × IsOdd (length x) × AllDigits (body_of x)
+        × Spells (take (2 * (length (body_of x) / 2)) (body_of x)) y
+        × Appends (W.contents output.old) (W.contents output.new) y) }
+    // Up to the invalid character there are digits alone, and all whole pairs of them were decoded. After it, less than
+    // 16 KiB were read.
+    ensures invalid { (c i : ℕ) (place : Option Place) → result ≡ Err (Text (InvalidHexCharacter c i) place)
+        → (place ≡ None) × ((x : List ℕ) × (rest : List ℕ) × (y : List ℕ)
+        × Consumes (R.remaining input.old) (R.remaining input.new) (x ++ c ∷ rest) × (length rest < 16384)
+        × (i ≡ counted (length x)) × AllDigits (body_of x) × (AllDigits (body_of (x ++ c ∷ [])) → ⊥)
+        × Spells (take (2 * (length (body_of x) / 2)) (body_of x)) y
+        × Appends (W.contents output.old) (W.contents output.new) y) }
+    ensures retried { (e : Error) → (result ≡ Err (Read e)) ⊎ (result ≡ Err (Write e)) → error_kind e ≢ Interrupted }
+{
+    let groups = Groups {
+        size: 0,
+        separator: b' ',
+    };
+    let reading = Reading {
+        is_check: false,
+        ignore_whitespace: false,
+        groups,
+    };
+    run(Mode::Decode(reading), input, output)
+}
+
+/// Decodes lines of a text. An error names the line of the character, and its column.
+fn decode_lines<R: Read, W: Write>(input: &mut R, output: &mut W) -> Result<(), RunError>
+    ensures { (c i : ℕ) (place : Option Place) → result ≡ Err (Text (InvalidHexCharacter c i) place)
+        → (p : Place) × (x : List ℕ) × (rest : List ℕ) × (place ≡ Some p)
+        × Consumes (R.remaining input.old) (R.remaining input.new) (x ++ c ∷ rest)
+        × ((lines line : List ℕ) → x ≡ lines ++ 10 ∷ line → length x < 2 ^ 64 - 1 → All (λ b. b ≢ 10) line
+        → (p.line ≡ 2 + count_by (λ b. b == 10) lines) × (p.column ≡ 1 + length line)) }
+{
+    let groups = Groups {
+        size: 0,
+        separator: b' ',
+    };
+    let reading = Reading {
+        is_check: false,
+        ignore_whitespace: true,
+        groups,
+    };
+    run(Mode::Decode(reading), input, output)
+}
+
+/// Encodes bytes into a text, which is empty before, in any groups, and decodes the text: lines without whitespace. These
+/// are the bytes again.
+fn encode_and_decode_groups<W: Write>(
+    write: Mode,
+    read: Mode,
+    bytes: &[u8],
+    text: &mut Vec<u8>,
+    output: &mut W,
+) -> Result<(), RunError>
+    requires empty { text.old.items ≡ [] }
+    requires modes { (prefix : Bool) × (upper : Bool) × (ignores : Bool) × (g : Groups) × IgnoresLines ignores g
+        × (write ≡ Encode prefix upper g) × (read ≡ Decode (mirror ignores g)) }
+    ensures done { OnOk result (Appends (W.contents output.old) (W.contents output.new) bytes.now) }
+    ensures never_text { (e : FromHexError) (place : Option Place) → result ≢ Err (Text e place) }
+{
+    let mut input = bytes;
+    run(write, &mut input, text)?;
+    let mut input = text.as_slice();
+    run(read, &mut input, output)
+}
+
+/// Runs the program without an argument.
+fn encode<H: Host, R: Read, W: Write>(
+    host: &H,
+    arguments: &[String],
+    input: &mut R,
+    output: &mut W,
+) -> ExitCode
+    requires { map string_bytes arguments.now ≡ [] }
+    ensures done { exit_status result ≡ 0 → (x : List ℕ)
+        × Consumes (R.remaining input.old) (R.remaining input.new) x × IsAtEnd (R.remaining input.new)
+        × Appends (W.contents output.old) (W.contents output.new) (full_text false false x) }
+    ensures begun { exit_status result ≡ 3 → (x : List ℕ) × (y : List ℕ) × (rest : List ℕ)
+        × Consumes (R.remaining input.old) (R.remaining input.new) x × (full_text false false x ≡ y ++ rest)
+        × Appends (W.contents output.old) (W.contents output.new) y }
+    ensures statuses { (exit_status result ≡ 0) ⊎ (exit_status result ≡ 3) }
+{
+    program(host, arguments, input, output)
+}
+
+/// Runs the program with `--check` alone.
+fn check<H: Host, R: Read, W: Write>(
+    host: &H,
+    arguments: &[String],
+    input: &mut R,
+    output: &mut W,
+) -> ExitCode
+    requires { map string_bytes arguments.now ≡ codes "--check" ∷ [] }
+    ensures done { exit_status result ≡ 0 → (x : List ℕ) × (y : List ℕ)
+        × Consumes (R.remaining input.old) (R.remaining input.new) x × IsAtEnd (R.remaining input.new) × Reads x (Ok y) }
+    ensures rejected { (x y : List ℕ) → R.remaining input.old ≡ Some x → Reads x (Ok y) → exit_status result ≢ 1 }
+    ensures nothing { Keeps (W.contents output.old) (W.contents output.new) }
+{
+    program(host, arguments, input, output)
+}
+
+/// Runs the program with `--version` alone.
+fn print_version<R: Read, W: Write>(
+    host: &impl Host,
+    arguments: &[String],
+    input: &mut R,
+    output: &mut W,
+) -> ExitCode
+    requires { map string_bytes arguments.now ≡ codes "--version" ∷ [] }
+    ensures done { exit_status result ≡ 0
+        → Appends (W.contents output.old) (W.contents output.new) (codes "hexfilter 1.0.0" ++ 10 ∷ []) }
+    ensures failed { exit_status result ≡ 3 → (n : ℕ)
+        × Appends (W.contents output.old) (W.contents output.new) (take n (codes "hexfilter 1.0.0" ++ 10 ∷ [])) }
+    ensures statuses { (exit_status result ≡ 0) ⊎ (exit_status result ≡ 3) }
+{
+    program(host, arguments, input, output)
+}
 
 /// Runs the program to encode bytes into a text, which is empty before, and again to decode the text. The arguments are
 /// those of any text, lines or groups, and those that read them back: lines without whitespace. These are the bytes again.
@@ -35,4 +167,24 @@ fn encode_and_decode<H: Host, W: Write>(
     let written = program(host, write, &mut input, text);
     let mut input = text.as_slice();
     (written, program(host, read, &mut input, output))
+}
+
+/// Runs the program to encode bytes into lines of 64 characters or pairs with colons, and again to decode them.
+fn encode_and_decode_by_words<H: Host, W: Write>(
+    host: &H,
+    write: &[String],
+    read: &[String],
+    bytes: &[u8],
+    text: &mut Vec<u8>,
+    output: &mut W,
+) -> (ExitCode, ExitCode)
+    requires empty { text.old.items ≡ [] }
+    requires words { ((map string_bytes write.now ≡ codes "--wrap" ∷ codes "64" ∷ [])
+        × (map string_bytes read.now ≡ codes "--decode" ∷ codes "--ignore-whitespace" ∷ []))
+        ⊎ ((map string_bytes write.now ≡ codes "--group" ∷ codes "1" ∷ codes "--separator" ∷ codes ":" ∷ [])
+        × (map string_bytes read.now ≡ codes "--decode" ∷ codes "--group" ∷ codes "1" ∷ codes "--separator" ∷ codes ":" ∷ [])) }
+    ensures { exit_status result.0 ≡ 0 → exit_status result.1 ≡ 0
+        → Appends (W.contents output.old) (W.contents output.new) bytes.now }
+{
+    encode_and_decode(host, write, read, bytes, text, output)
 }

@@ -3,11 +3,7 @@
 use super::lines::{error_of_secret, fill_secret, Line};
 use const_hex_proved::traits::signed;
 use const_hex_proved::FromHexError::{self, *};
-use const_hex_proved::{
-    check, check_raw, const_check, const_check_raw, const_decode_to_array, decode, decode_append,
-    decode_to_array, decode_to_front, decode_to_slice, secret, strict, DecodeReader, Decoder,
-    FromHex,
-};
+use const_hex_proved::*;
 use std::io::Read;
 
 type Decoded = Result<Vec<u8>, FromHexError>;

@@ -1,73 +1,47 @@
 //! The functions that encode.
 
 use super::lines::{error_of_secret, fill_secret, Line};
-use const_hex_proved::{
-    const_encode, display, encode, encode_append, encode_append_prefixed, encode_append_upper,
-    encode_append_upper_prefixed, encode_prefixed, encode_to_slice, encode_to_slice_prefixed,
-    encode_to_slice_upper, encode_to_slice_upper_prefixed, encode_to_str, encode_to_str_upper,
-    encode_upper, encode_upper_prefixed, secret, Buffer, ToHex, ToHexExt,
-};
+use const_hex_proved::*;
 
-/// The four forms of a line's text.
-struct Forms {
-    lower: String,
-    upper: String,
-    prefixed: String,
-    upper_prefixed: String,
-}
-
-impl Forms {
-    fn of(line: &Line) -> Forms {
-        let lower = line.string();
-        let upper = lower.to_uppercase();
-        Forms {
-            prefixed: format!("0x{lower}"),
-            upper_prefixed: format!("0x{upper}"),
-            lower,
-            upper,
-        }
-    }
-}
+/// A line's text in lowercase and in uppercase, and both with a prefix.
+type Forms = [String; 4];
 
 pub fn write(line: &Line) {
-    let (bytes, forms) = (&line.input[..], Forms::of(line));
+    let bytes = &line.input[..];
     let shown = display(bytes);
-    same!(line, forms.lower;
+    let (lower, upper) = (line.string(), line.string().to_uppercase());
+    let (prefixed, upper_prefixed) = (format!("0x{lower}"), format!("0x{upper}"));
+    same!(line, lower;
         encode(bytes), secret::encode(bytes), ToHexExt::encode_hex(&bytes),
         ToHex::encode_hex::<String>(&bytes), format!("{shown}"), format!("{shown:x}"),
     );
-    same!(line, forms.upper;
+    same!(line, upper;
         encode_upper(bytes), secret::encode_upper(bytes), ToHexExt::encode_hex_upper(&bytes),
         ToHex::encode_hex_upper::<String>(&bytes), format!("{shown:X}"),
     );
-    same!(line, forms.prefixed;
+    same!(line, prefixed;
         encode_prefixed(bytes), bytes.encode_hex_with_prefix(), format!("{shown:#}"),
         format!("{shown:#x}"),
     );
-    same!(line, forms.upper_prefixed;
+    same!(line, upper_prefixed;
         encode_upper_prefixed(bytes), bytes.encode_hex_upper_with_prefix(), format!("{shown:#X}"),
     );
+    write_into(line, lower.len());
+    let forms = [lower, upper, prefixed, upper_prefixed];
     append(line, &forms);
-    write_into(line, forms.lower.len());
     at!(bytes.len(), N => format_array::<N>(line, &forms));
 }
 
 /// What is appended follows what is there, with and without capacity for it.
 fn append(line: &Line, forms: &Forms) {
-    let Forms {
-        lower,
-        upper,
-        prefixed,
-        upper_prefixed,
-    } = forms;
-    for (before, capacity) in [("", 0), ("é", 2), ("é", 3 + lower.len())] {
+    for (before, capacity) in [("", 0), ("é", 2), ("é", 3 + forms[0].len())] {
         let mut text = String::with_capacity(capacity);
         text.push_str(before);
         encode_append(&line.input, &mut text);
         encode_append_upper(&line.input, &mut text);
         encode_append_prefixed(&line.input, &mut text);
         encode_append_upper_prefixed(&line.input, &mut text);
-        same!(line, format!("{before}{lower}{upper}{prefixed}{upper_prefixed}"); text);
+        same!(line, before.to_string() + &forms.concat(); text);
     }
 }
 
@@ -95,23 +69,23 @@ pub fn write_into(line: &Line, length: usize) {
 }
 
 /// The text of an array.
-fn format_array<const N: usize>(line: &Line, forms: &Forms) {
+fn format_array<const N: usize>(line: &Line, [lower, upper, prefixed, upper_prefixed]: &Forms) {
     let bytes: &[u8; N] = line.input[..].try_into().unwrap();
-    let (mut plain, mut prefixed) = (Buffer::<N>::new(), Buffer::<N, true>::new());
-    same!(line, forms.lower;
+    let (mut plain, mut full) = (Buffer::<N>::new(), Buffer::<N, true>::new());
+    same!(line, *lower;
         *plain.format(bytes), *plain.format_slice(bytes), plain.const_format(bytes).as_str(),
         const_encode::<N, false>(bytes).as_str(),
     );
-    same!(line, forms.upper;
+    same!(line, *upper;
         *plain.format_upper(bytes), *plain.format_slice_upper(bytes),
         plain.const_format_upper(bytes).as_str(),
     );
-    same!(line, forms.prefixed;
-        *prefixed.format(bytes), *prefixed.format_slice(bytes), prefixed.const_format(bytes).as_str(),
+    same!(line, *prefixed;
+        *full.format(bytes), *full.format_slice(bytes), full.const_format(bytes).as_str(),
         const_encode::<N, true>(bytes).as_str(),
     );
-    same!(line, forms.upper_prefixed;
-        *prefixed.format_upper(bytes), *prefixed.format_slice_upper(bytes),
-        prefixed.const_format_upper(bytes).as_str(),
+    same!(line, *upper_prefixed;
+        *full.format_upper(bytes), *full.format_slice_upper(bytes),
+        full.const_format_upper(bytes).as_str(),
     );
 }

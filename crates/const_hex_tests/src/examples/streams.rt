@@ -1,9 +1,10 @@
 //! A text in chunks.
 
-ghost use Rattle.std.specs.Prelude.{◌≡◌, ◌≢◌, ◌/◌, ◌<◌, ◌↔◌, length, IfOk, IfErr, IfSome, Some, Err};
+ghost use Rattle.std.specs.Prelude.{◌≡◌, ◌≢◌, ◌/◌, ◌<◌, ◌↔◌, ℕ, length, IfOk, IfErr, IfSome, Some, Err};
 ghost use Rattle.const_hex.specs.Prelude.{error_of, body_of, AllDigits};
+ghost use Rattle.const_hex.specs.Results.{NamesFirstBad};
 ghost use Rattle.const_hex.specs.declared.error.FromHexError.{FromHexError};
-ghost use Rattle.const_hex.specs.declared.error.FromHexError.TheVariants.{InvalidStringLength};
+ghost use Rattle.const_hex.specs.declared.error.FromHexError.TheVariants.{InvalidHexCharacter, InvalidStringLength};
 
 use const_hex::{Decoder, FromHexError};
 
@@ -20,6 +21,14 @@ pub fn check_chunks(
 {
     let begun = decoder.check(first);
     (begun, decoder.check(second))
+}
+
+/// Checks a text in one chunk. An error names its first invalid character.
+pub fn check_chunk(text: &[u8]) -> Result<(), FromHexError>
+    ensures { (c i : ℕ) → result ≡ Err (InvalidHexCharacter c i) → NamesFirstBad text.now c i }
+{
+    let mut decoder = Decoder::new();
+    decoder.check(text)
 }
 
 /// Decodes a text in two chunks. After an error for a character in the first, nothing more is written.

@@ -39,7 +39,7 @@ macro_rules! by_each_kernel {
                 $crate::testing::KernelCase::new("Lanes16", 1, false)),
             $call::<const_hex::Lanes32 $($(, $more)*)?>($($argument,)*
                 $crate::testing::KernelCase::new("Lanes32", 2, false)),
-            $call::<const_hex_arch::Interleaved $($(, $more)*)?>($($argument,)*
+            $call::<const_hex::Interleaved $($(, $more)*)?>($($argument,)*
                 $crate::testing::KernelCase::new("Interleaved", 2, false)),
             $call::<const_hex::CheckFirst<const_hex::Plain> $($(, $more)*)?>($($argument,)*
                 $crate::testing::KernelCase::new("CheckFirst<Plain>", 0, true)),

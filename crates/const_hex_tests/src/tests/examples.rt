@@ -9,7 +9,7 @@ use crate::examples::readers::{
 };
 use crate::examples::sinks::{packets, send_json};
 use crate::examples::store::canonical;
-use crate::examples::streams::{check_chunks, decode_chunks, decode_where_it_fits};
+use crate::examples::streams::{check_chunk, check_chunks, decode_chunks, decode_where_it_fits};
 use crate::examples::writers::{fill_field, put_label};
 use crate::testing::texts::invalid;
 use crate::tests::rows::{Testing, Text, same, same_bytes};
@@ -65,6 +65,7 @@ fn salts_and_chunks(rt: HostRuntime) {
     same!(&rt; read_salt(b"0x6b69", &mut salt), Ok(2));
     same!(&rt; read_salt(&[b'a'; 131], &mut salt), Err(FromHexError::OddLength));
     let bad = invalid(b'z', 1);
+    same!(&rt; check_chunk(b"0x6z"), Err(invalid(b'z', 3)));
     same!(&rt; check_chunks(&mut Decoder::new(), b"6z", b"69"), (Err(bad), Err(bad)));
     let (mut small, mut large) = ([7; 1], [7; 2]);
     same!(&rt; decode_chunks(b"6z", b"69", &mut small, &mut large), (Err(bad), Err(bad)));

@@ -1,8 +1,9 @@
 //! The 288 entries of the three tables, seen from outside.
 
 use crate::tests::rows::{same, same_bytes};
-use const_hex::{HEX_CHARS_LOWER, HEX_CHARS_UPPER, HEX_DECODE_LUT, NIL, digit_at, value_at};
-use const_hex_arch::is_digit;
+use const_hex::{
+    HEX_CHARS_LOWER, HEX_CHARS_UPPER, HEX_DECODE_LUT, NIL, digit_at, is_digit, value_at,
+};
 
 #[test]
 fn digits_of_values(rt: HostRuntime) {

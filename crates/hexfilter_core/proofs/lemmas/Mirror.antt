@@ -76,7 +76,7 @@ body_front (c ∷ d ∷ u) v h =
     ((digits_append (body_of (c ∷ d ∷ u)) v).0 (rw (body-longer (c ∷ d ∷ u) v (omega arith)) at h)).0
 
 -- an input that has an error decodes to no bytes, whatever follows
-not_decoded : (r : Reading) (x rest y bytes : List ℕ) (e : FromHexError) (place : Option Place)
+pub not_decoded : (r : Reading) (x rest y bytes : List ℕ) (e : FromHexError) (place : Option Place)
     → HasError r (Some rest) x y e place → Reads (text_of r (x ++ rest)) (Ok bytes) → ⊥
 not_decoded r x rest y bytes OddLength place (none, end, odd, pairs) (even, spelled) =
     let whole = ap (λ l. x ++ l) end ∙ append-nil x in

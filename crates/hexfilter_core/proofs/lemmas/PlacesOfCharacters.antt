@@ -1,7 +1,8 @@
 -- The places after parts of an input.
-use Rattle.std.proofs.Common.{◌≡◌, ◌≢◌, ℕ, ◌+◌, ◌%◌, ◌^◌, ◌≤◌, ◌==◌, if◌then◌else◌, List, [], ◌∷◌, ◌++◌, length, refl, sym, ◌∙◌, arith, length-append, All}
+use Rattle.std.proofs.Common.{◌≡◌, ◌≢◌, ℕ, ◌+◌, ◌%◌, ◌^◌, ◌-◌, ◌<◌, ◌≤◌, ◌==◌, cond, count_by, if◌then◌else◌, List, [], ◌∷◌, ◌++◌, length, refl, sym, ap, ◌∙◌, arith, length-append, All}
 use Rattle.std.proofs.lemmas.Bool.Decides.{nat_tests}
 use Rattle.std.proofs.lemmas.List.Elements.{All-head, All-tail}
+use Rattle.std.proofs.lemmas.List.Sums.{sum_by-cons}
 use Rattle.hexfilter_core.specs.Dumps.{IsPlace, Place, after, place_after}
 
 abbrev step : Place → ℕ → Place
@@ -50,3 +51,25 @@ place_after_newline x p line is e = λ short.
     let few = (bounds (record { line = 1; column = 1 }) x (omega arith)).0 in
     rw (place_after-append (record { line = 1; column = 1 }) x (10 ∷ []))
     (omega (arith, short, e, before.0, few, size), refl)
+
+newlines : (p : Place) (x : List ℕ) → (place_after p x).line ≡ p.line + count_by (λ b. b == 10) x
+unfolding place_after
+newlines p [] = omega arith
+newlines p (b ∷ x) =
+    let rest = newlines (step p b) x in
+    let count = sum_by-cons (λ b. cond (b == 10) 1 0) b x in grind (arith, nat_tests, rest, count)
+
+-- the place after a newline and more of its line
+pub place_in_line : (x lines line : List ℕ) (p : Place) → IsPlace x p → x ≡ lines ++ 10 ∷ line
+    → length x < 2 ^ 64 - 1 → All (λ b. b ≢ 10) line
+    → (p.line ≡ 2 + count_by (λ b. b == 10) lines) × (p.column ≡ 1 + length line)
+unfolding place_after
+place_in_line x lines line p is cut short plain =
+    let start : Place = record { line = 1; column = 1 } in
+    let here = is short in
+    let whole : after x ≡ place_after (step (after lines) 10) line =
+    ap (place_after start) cut ∙ place_after-append start lines (10 ∷ line) in
+    let last = run (step (after lines) 10) line plain in (
+      here.0 ∙ ap (λ q. q.line) whole ∙ omega (arith, last.0, newlines start lines),
+      here.1 ∙ ap (λ q. q.column) whole ∙ omega (arith, last.1),
+    )

@@ -1,6 +1,6 @@
 -- What errors and exit statuses say of decoders and runs.
-use Rattle.std.proofs.Common.{rules, ◌≡◌, ℕ, List, Option, Result, Err, refl, inl, inr, [], Bool, true, false, arith, OnErr, IfErr, OnOk}
-use Rattle.hexfilter_core.specs.Dumps.{FromHexError, Place, text_from}
+use Rattle.std.proofs.Common.{rules, ◌≡◌, ◌⊎◌, ◌++◌, ◌∙◌, ℕ, List, Option, Some, Result, Err, ap, append-nil, refl, sym, inl, inr, [], Bool, true, false, arith, OnErr, IfErr, OnOk}
+use Rattle.hexfilter_core.specs.Dumps.{FromHexError, Groups, Place, encoded, text_from}
 use Rattle.hexfilter_core.specs.Runs.{Mode, RunError, Text, Decode, Encode, Ends, EndsIf, IsFailedWrite, MakesBeginning, RunsPartly, RunsToEnd, RunsToError, status_of}
 use Rattle.std.proofs.KnownBytes.{Appends-nil, Consumes-nil}
 
@@ -32,3 +32,19 @@ ends_always true m s had left old new h = h
 ends_always false m s had left old new (three, read, wrote) =
     let none : RunsPartly m had left old new = ([], [], rw read (Consumes-nil had), nothing_made m, rw wrote (Appends-nil old)) in
     search rules
+
+-- a run whose text has no error
+pub not_rejected : (m : Mode) (s : ℕ) (had left old new : Option (List ℕ)) → Ends m s had left old new
+    → ((e : FromHexError) (place : Option Place) → RunsToError m had left old new e place → ⊥)
+    → (s ≡ 0) ⊎ (s ≡ 3)
+not_rejected m s had left old new (done, text, begun, inl zero) never = inl zero
+not_rejected m s had left old new (done, text, begun, inr (inl one)) never =
+    let (e, place, rejected) = text one in absurd (never e place rejected)
+not_rejected m s had left old new (done, text, begun, inr (inr three)) never = inr three
+
+-- the text that a run has written of all the bytes
+pub text_written : (prefix up : Bool) (g : Groups) (bytes left old new : List ℕ) → old ≡ []
+    → RunsToEnd (Encode prefix up g) (Some bytes) (Some left) (Some old) (Some new) → new ≡ encoded prefix up g bytes
+text_written prefix up g bytes left old new none (x, y, read, end, is, wrote) =
+    wrote ∙ ap (λ l. l ++ y) none ∙ is
+    ∙ ap (encoded prefix up g) (sym (read ∙ ap (λ l. x ++ l) end ∙ append-nil x))

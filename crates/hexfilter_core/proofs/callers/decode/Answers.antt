@@ -1,0 +1,43 @@
+use Rattle.std.proofs.Common.{◌∷◌, ◌++◌, [], Ok, false, length, refl}
+use Rattle.std.proofs.lemmas.Result.{on_ok_weaker}
+use Rattle.hexfilter_core.proofs.lemmas.Texts.{text_plain}
+use Rattle.hexfilter_core.specs.Dumps.{InvalidHexCharacter, IsOdd, OddLength, Reading}
+use Rattle.hexfilter_core.specs.Runs.{Reads}
+use Rattle.hexfilter_core.proofs.callers.decode.Goals as goal
+
+abbrev plain : Reading
+plain = record { is_check = false; ignore_whitespace = false; groups = record { size = 0; separator = 32 } }
+
+pub returns-clause-ok : goal.returns-clause-ok
+returns-clause-ok g c =
+    on_ok_weaker c.run.result (λ done.
+    let (x, y, read, end, (bytes, reads, is), wrote) = done in
+    let same : Reads x (Ok bytes) = rw (text_plain plain x refl) at reads in (x, y, read, end, rw is same, wrote))
+    c.run.ensures.ok
+
+pub returns-clause-odd : goal.returns-clause-odd
+returns-clause-odd g c = λ place is.
+    let (x, y, read, (bytes, fails, same), wrote) = c.run.ensures.text OddLength place is in
+    let odd : IsOdd (length x) = rw (text_plain plain x refl) at fails.2 in
+    let pairs = rw (text_plain plain x refl) at fails.3 in
+    (fails.0, (x, y, read, fails.1, odd, pairs.0, rw same pairs.1, wrote))
+
+pub returns-clause-invalid : goal.returns-clause-invalid
+returns-clause-invalid g c = λ b i place is.
+    let (x, y, read, (bytes, fails, same), wrote) = c.run.ensures.text (InvalidHexCharacter b i) place is in
+    let pairs = rw (text_plain plain fails.front refl) at fails.bytes in
+    let no_digit = rw (text_plain plain (fails.front ++ b ∷ []) refl) at fails.invalid in (
+      fails.stands,
+      (
+        fails.front,
+        fails.rest,
+        y,
+        rw fails.cut at read,
+        fails.soon,
+        fails.position,
+        pairs.0,
+        no_digit,
+        rw same pairs.1,
+        wrote,
+      ),
+    )
