@@ -8,4 +8,4 @@ returns c = λ b i is.
     let text = c.args.text.now in
     let (n, (p, first, character, index), at) : NamesCounted text b i =
     rw is at (c.check.ensures.answer [] [] c.new-decoder.ensures.starts) in
-    (p, first, character, omega (arith, at, index, first.within, body-shorter text, c.type_inv.text))
+    (p, first, character, omega (arith, at, index, first.within, body-shorter text))
