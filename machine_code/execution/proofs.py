@@ -6,7 +6,6 @@ one, wrong code could be accepted.
 """
 
 import itertools
-import itertools
 import os
 import re
 import textwrap
