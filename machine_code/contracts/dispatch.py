@@ -78,7 +78,7 @@ class Dispatched(Function):
             zip(state.arguments(len(self.arguments)), self.arguments)
         ):
             self.prove_passed(state, index, given, wanted)
-        state.forget_arguments(len(self.arguments))
+        state.havoc_arguments(len(self.arguments))
         state.result_of_call, state.stored_at_call = fresh_secret(64), len(state.stored)
         yield state, state.result_of_call
 

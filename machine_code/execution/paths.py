@@ -155,7 +155,7 @@ def called(state, effect):
         raise ValueError("a contract of what is called leaves no state")
     for other, *results in paths:
         to = other.return_address()
-        other.forget()
+        other.havoc_registers()
         other.loop = None
         other.put_results(results)
         other.drop_below()

@@ -18,7 +18,7 @@ from solver.questions import (
     Rejected,
     conjuncts,
     facts_of,
-    is_impossible,
+    is_unsatisfiable,
     is_public,
     is_valid,
     names,
@@ -370,7 +370,7 @@ class State:
         """Whether what is known of a character alone says that it is a digit, or that it is
         none."""
         wanted = self.contract.is_digit(character) == is_digit
-        return is_impossible([*relevant(self.facts, wanted, 0), z3.Not(wanted)])
+        return is_unsatisfiable([*relevant(self.facts, wanted, 0), z3.Not(wanted)])
 
     def with_digits(self, offset, count, are_named=True):
         """This state where a part of the input has digits alone, or None if it can't: what is known
@@ -441,12 +441,12 @@ class State:
         """How many bytes of the stack belong to a call with so many arguments."""
         return self.RETURN + 8 * max(0, count - len(self.ARGUMENTS))
 
-    def forget_arguments(self, count):
+    def havoc_arguments(self, count):
         """Those in the stack belong to what was called."""
         for offset in range(self.RETURN, self.frame(count)):
             self.put_cells("stack", self.top() + offset, [fresh_secret(8)])
 
-    def forget(self):
+    def havoc_registers(self):
         """A function that was called has changed all registers that it need not keep."""
         kept = (*self.CALLEE_SAVED, self.TOP)
         self.general = {

@@ -108,7 +108,7 @@ class State(state.State):
 
     return_address = leave_function
 
-    def forget(self):
+    def havoc_registers(self):
         """What is called changes no register of its caller."""
 
     # Registers, by the names of those of the function that runs

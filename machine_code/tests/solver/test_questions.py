@@ -59,16 +59,16 @@ def is_true(made, values):
 
 
 def test_integers(monkeypatch):
-    monkeypatch.setattr(integers, "FEW", BITS - 1)
+    monkeypatch.setattr(integers, "NARROW", BITS - 1)
     linear = 0
     for _ in range(150):
         values = [SOME.randrange(1 << BITS) for _ in NAMES]
         facts = [z3.simplify(condition()) for _ in range(5)]
         facts = [fact for fact in facts if is_true(fact, values)]
         goal = z3.simplify(condition())
-        known = integers.Facts(questions.is_impossible_in_integers)
+        known = integers.Facts(questions.is_unsatisfiable_in_integers)
         for fact in [*facts, goal]:
-            before, known = known, known and known.and_also(fact)
+            before, known = known, known and known.with_fact(fact)
         if known:
             linear += 1
             assert is_true(known.conditions[-1], values) == is_true(goal, values), (facts, goal)
@@ -132,7 +132,7 @@ def test_the_quotient_by_ten():
     "factor", (quotient_by_ten.FACTOR - 1, quotient_by_ten.FACTOR + 1, 1 << 63)
 )
 def test_the_lemma_is_false_of_other_factors(factor):
-    assert not questions.is_impossible_in_integers(quotient_by_ten.lemma(factor))
+    assert not questions.is_unsatisfiable_in_integers(quotient_by_ten.lemma(factor))
 
 
 def test_the_second_solver():
