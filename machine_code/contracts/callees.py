@@ -55,11 +55,11 @@ def is_in(name, address):
     return name in names(address)
 
 
-def write(state, address, lane):
+def write(state, address, data):
     """What a kernel writes is compared with the contract of its caller, so it has to go to the
     output."""
     require(is_in("output", address), "a kernel writes to what is no output")
-    state.store(address, lane)
+    state.store(address, data)
 
 
 def checked(state, text, count):

@@ -72,9 +72,9 @@ class Fill(Kernel):
     def __init__(self, is_upper):
         self.is_upper, self.function = is_upper, "fill_upper" if is_upper else "fill_lower"
 
-    def store(self, state, offset, lane):
+    def store(self, state, offset, data):
         """At an even offset stands the higher digit of a byte, and at the next one the lower."""
-        prove_digits_of(state, offset, lane, self.is_upper)
+        prove_digits_of(state, offset, data, self.is_upper)
 
     def reached(self, state, read, written):
         prove_written(state, written, "a character of the text is left out")
@@ -90,12 +90,12 @@ class Fill(Kernel):
         yield state,
 
 
-def prove_digits_of(state, offset, lane, is_upper):
+def prove_digits_of(state, offset, data, is_upper):
     """Characters at an offset in the digits of all bytes are theirs."""
     odd = next((odd for odd in (0, 1) if state.is_valid(offset & 1 == odd)), None)
     require(odd is not None, "an offset in the text that may be odd or even")
     source = simple(z3.LShR(offset, 1))
-    for half, character in enumerate(lane, odd):
+    for half, character in enumerate(data, odd):
         wanted = digits_of(state.byte_of_input(source + half // 2), is_upper)[half % 2]
         state.prove_equal(character, wanted, f"a wrong character at {offset} + {half - odd}")
 
@@ -119,9 +119,9 @@ class Read(Kernel):
     function = "read"
     arguments = base("input"), base("output"), N
 
-    def store(self, state, offset, lane):
+    def store(self, state, offset, data):
         """Only what digits decode to is written that have no invalid character before them."""
-        prove_decoded(state, offset, lane)
+        prove_decoded(state, offset, data)
 
     def called(self, state, input, n, output):
         """Any byte may be written before which, and of which, all is digits. All are, if all is;
@@ -139,15 +139,15 @@ class Read(Kernel):
             yield path, result
 
 
-def prove_decoded(state, offset, lane):
+def prove_decoded(state, offset, data):
     """Bytes at an offset are what the digits of the text decode to, which have no invalid character
     before them. The first half of the first one may be a digit that waits."""
     is_waiting = state.waiting is not None
     is_first = is_waiting and state.is_valid(offset == 0)
     state.prove(z3.Or(not is_waiting, is_first, offset != 0), "whether it is the first byte")
     begin = state.body - is_waiting
-    prove_digits(state, simple(begin + 2 * (offset + len(lane))), "written before it is known")
-    for index, number in enumerate(lane):
+    prove_digits(state, simple(begin + 2 * (offset + len(data))), "written before it is known")
+    for index, number in enumerate(data):
         high, low = [state.byte_of_input(begin + 2 * (offset + index) + more) for more in (0, 1)]
         high = state.waiting if is_first and index == 0 else high
         state.prove_equal(number, decoded(high, low), f"a wrong byte at {offset} + {index}")

@@ -122,26 +122,26 @@ class Encode(Exported):
 
     reached = Fill.reached
 
-    def store(self, state, offset, lane):
+    def store(self, state, offset, data):
         """A text that fits: the prefix, the digits and a NUL. Otherwise a NUL at the start."""
         if state.is_valid(z3.Not(self.fits)):
-            return self.prove_nul(state, offset, lane, word(0))
+            return self.prove_nul(state, offset, data, word(0))
         state.prove(self.fits, "written though the text may not fit")
-        if z3.is_bv_value(offset) and offset.as_long() + len(lane) <= self.begin:
-            require(all(map(z3.is_bv_value, lane)), "a prefix that is not known")
-            written = bytes(character.as_long() for character in lane)
-            return require(written == b"0x"[offset.as_long() :][: len(lane)], "a wrong prefix")
+        if z3.is_bv_value(offset) and offset.as_long() + len(data) <= self.begin:
+            require(all(map(z3.is_bv_value, data)), "a prefix that is not known")
+            written = bytes(character.as_long() for character in data)
+            return require(written == b"0x"[offset.as_long() :][: len(data)], "a wrong prefix")
         if state.is_valid(offset == self.end):
-            return self.prove_nul(state, offset, lane, self.end)
-        is_inside = z3.And(z3.UGE(offset, self.begin), z3.ULE(offset + len(lane), self.end))
+            return self.prove_nul(state, offset, data, self.end)
+        is_inside = z3.And(z3.UGE(offset, self.begin), z3.ULE(offset + len(data), self.end))
         state.prove(is_inside, "written beside the digits")
         prove_digits_of(
-            state, simple(offset - self.begin), lane, bool(self.flags.as_long() & UPPER)
+            state, simple(offset - self.begin), data, bool(self.flags.as_long() & UPPER)
         )
 
-    def prove_nul(self, state, offset, lane, wanted):
+    def prove_nul(self, state, offset, data, wanted):
         state.prove(z3.And(self.has_nul, offset == wanted), "another offset than that of a NUL")
-        require(len(lane) == 1 and lane[0].eq(byte(0)), "no NUL")
+        require(len(data) == 1 and data[0].eq(byte(0)), "no NUL")
 
     def returns(self, state):
         prove_true_if(state, self.fits, "whether the text fits")
@@ -207,11 +207,11 @@ class Text(Exported):
         when it is one, what it is, and the error."""
         return [(N & 1 == 1, "an odd length", ODD_LENGTH)]
 
-    def store(self, state, offset, lane):
+    def store(self, state, offset, data):
         for is_error, what, *_ in self.errors(state):
             state.prove(z3.Not(is_error), f"written though it is {what}")
-        state.prove(z3.ULE(offset + len(lane), self.count(state)), "written after the bytes")
-        prove_decoded(state, offset, lane)
+        state.prove(z3.ULE(offset + len(data), self.count(state)), "written after the bytes")
+        prove_decoded(state, offset, data)
 
     def returns(self, state):
         result = state.result()
@@ -435,7 +435,7 @@ class ChangedDecoder(DecoderUpdate):
     def cases(self, state):
         return [state.branch(self.is_for(state))]
 
-    def store(self, state, offset, lane):
+    def store(self, state, offset, data):
         """Anything may be written to the output."""
 
     def returns(self, state):
@@ -481,9 +481,9 @@ class DecoderFail(FirstInvalid):
                 (result, decoder), self.outcomes(path, position, before, *invalid)
             ):
                 # What comes after these numbers may be anything.
-                lane = [part for number in numbers for part in split(number)]
+                data = [part for number in numbers for part in split(number)]
                 path.store(
-                    address, lane + [fresh_secret(8) for _ in range(2 * path.WORD - len(lane))]
+                    address, data + [fresh_secret(8) for _ in range(2 * path.WORD - len(data))]
                 )
             yield path,
 

@@ -86,9 +86,9 @@ class Ended(Function):
     is_unrolled = True
     near = 2
 
-    def store(self, state, offset, lane):
+    def store(self, state, offset, data):
         (offset,) = values(state.facts, offset, 1)
-        state.put_cells("output", offset, lane)
+        state.put_cells("output", offset, data)
 
     def prove_ended(self, state, length, text):
         """`text` gives so many bytes of the text."""

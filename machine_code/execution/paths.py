@@ -75,8 +75,8 @@ class Loop:
         state.general = {name: fresh_secret(64) for name in state.general}
         state.general |= {name: simple(term) for name, term in self.general.items()}
         state.vectors = {
-            number: lane if number in self.unchanged else [fresh_secret(8) for _ in lane]
-            for number, lane in state.vectors.items()
+            number: data if number in self.unchanged else [fresh_secret(8) for _ in data]
+            for number, data in state.vectors.items()
         }
         for claim in self.claims:
             state.assume(claim)

@@ -122,8 +122,8 @@ class State:
         for region in regions:
             if region.is_object and region is not stack:
                 size = region.size.as_long()
-                lane = [secret(f"{region.name}_{offset}", 8) for offset in range(size)]
-                self.put_cells(region.name, 0, lane)
+                data = [secret(f"{region.name}_{offset}", 8) for offset in range(size)]
+                self.put_cells(region.name, 0, data)
         for index, argument in enumerate(on_stack):
             self.put_cells("stack", self.STACK + self.RETURN + 8 * index, split(argument))
         self.enter()
@@ -268,14 +268,14 @@ class State:
                 z3.ULT(index, len(table)), "an index beyond a table, or a table that may be written"
             )
             return [simple(chosen([*map(byte, table.ljust(256, b"\0"))], z3.Extract(7, 0, index)))]
-        lane = None
+        data = None
         for value in values(self.facts, offset, MOST):
-            data = [byte(part) for part in region.data.read(value, count)]
-            require(len(data) == count, "an address that has no constant, or may be written")
-            lane = (
-                [z3.If(offset == value, new, old) for new, old in zip(data, lane)] if lane else data
-            )
-        return list(map(simple, lane))
+            new = [byte(part) for part in region.data.read(value, count)]
+            require(len(new) == count, "an address that has no constant, or may be written")
+            if data:
+                new = [z3.If(offset == value, *choice) for choice in zip(new, data)]
+            data = new
+        return list(map(simple, data))
 
     def jumps(self, address):
         """The conditions under which a jump leads to addresses of the file, and these addresses; or
@@ -293,19 +293,19 @@ class State:
             for value in values(self.facts, offset, MOST)
         ]
 
-    def store(self, address, lane, aligned=False):
-        region, offset = self._place(address, len(lane), aligned)
+    def store(self, address, data, aligned=False):
+        region, offset = self._place(address, len(data), aligned)
         require(region.is_writable, f"{region.name} is written")
         if region.is_object:
-            self.put_cells(region.name, self._offset_in(region, offset), lane)
+            self.put_cells(region.name, self._offset_in(region, offset), data)
         elif region.name == "static":
-            self.stored += lane
+            self.stored += data
         else:
-            self.contract.store(self, offset, lane)
-            self.writes.append((offset, len(lane)))
+            self.contract.store(self, offset, data)
+            self.writes.append((offset, len(data)))
 
-    def put_cells(self, name, offset, lane):
-        self.cells |= {(name, offset + index): value for index, value in enumerate(lane)}
+    def put_cells(self, name, offset, data):
+        self.cells |= {(name, offset + index): value for index, value in enumerate(data)}
 
     def cell(self, name, offset, count):
         """The number that some bytes of an object make."""
@@ -453,9 +453,9 @@ class State:
             name: value if name in kept else fresh_secret(64)
             for name, value in self.general.items()
         }
-        for number, lane in self.vectors.items():
+        for number, data in self.vectors.items():
             count = self.CALLEE_SAVED_VECTORS.get(number, 0)
-            self.vectors[number] = lane[:count] + [fresh_secret(8) for _ in lane[count:]]
+            self.vectors[number] = data[:count] + [fresh_secret(8) for _ in data[count:]]
         self.flags = None
 
     def put_results(self, results):

@@ -173,11 +173,11 @@ class Unproved:
     def fits(self, term):
         return True
 
-    def store(self, address, lane, aligned=False):
+    def store(self, address, data, aligned=False):
         if "output" in names(simple(address)):
-            self.writes.append((simple(address - self.regions["output"].base), len(lane)))
+            self.writes.append((simple(address - self.regions["output"].base), len(data)))
         else:
-            super().store(address, lane, aligned)
+            super().store(address, data, aligned)
 
     def returned(self):
         raise Rejected("a round that ends elsewhere")

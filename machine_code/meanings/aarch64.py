@@ -34,7 +34,7 @@ from meanings.lanes import (
     logic_flags,
     set_if,
     sum_flags,
-    units,
+    lanes,
 )
 from reading import assembled
 from reading.image import AARCH64
@@ -56,8 +56,8 @@ def _operand(text):
     if match := re.fullmatch(r"([bhsdq])(\d+)", text):
         return Operand("vector", SIZES[match[1]], int(match[2]))
     if match := re.fullmatch(r"\{?v(\d+)\.(\d+)([bhsd])\}?", text):
-        lane = SIZES[match[3]]
-        return Operand("vector", int(match[2]) * lane, int(match[1]), lane=lane)
+        lane_size = SIZES[match[3]]
+        return Operand("vector", int(match[2]) * lane_size, int(match[1]), lane_size=lane_size)
     if match := re.fullmatch(r"\{?v(\d+)\.([bhsd])\}?\[(\d+)\]", text):
         size = SIZES[match[2]]
         return Operand("element", size, int(match[1]), first=int(match[3]) * size)
@@ -145,7 +145,7 @@ class State(state.State):
             number = SHIFTS[shifted.name](self.number(last, size), shifted.value)
         return [*self.numbers(operands, size), simple(number)]
 
-    def lane(self, o):
+    def data(self, o):
         """The bytes of any register."""
         if o.kind == "general":
             return split(self.number(o))
@@ -155,15 +155,15 @@ class State(state.State):
         if o.name != "xzr":
             self.general[o.name] = simple(z3.ZeroExt(32, term) if o.size == 4 else term)
 
-    def put_lane(self, o, lane):
+    def put_data(self, o, data):
         """Writes any register. What lies above in it is cleared, but not what is beside an
         element."""
         if o.kind == "general":
-            return self.put(o, joined(lane))
+            return self.put(o, joined(data))
         if o.kind == "element":
             old = self.vectors[o.name]
-            lane = old[: o.first] + lane + old[o.first + o.size :]
-        self.vectors[o.name] = lane + [byte(0)] * (16 - len(lane))
+            data = old[: o.first] + data + old[o.first + o.size :]
+        self.vectors[o.name] = data + [byte(0)] * (16 - len(data))
 
 
 SHIFTS = {"lsl": SHIFT_LEFT, "lsr": z3.LShR}
@@ -221,13 +221,13 @@ def select(function):
 # Vectors
 def same(*vectors):
     """The vectors have the same lanes."""
-    require(all(o.lane for o in vectors), "vectors are needed")
+    require(all(o.lane_size for o in vectors), "vectors are needed")
 
 
-def by_units(function):
+def by_lanes(function):
     def handler(s, to, one, other):
         same(to, one, other)
-        s.put_lane(to, each(function, to.lane, s.lane(one), s.lane(other)))
+        s.put_data(to, each(function, to.lane_size, s.data(one), s.data(other)))
 
     return handler
 
@@ -241,7 +241,7 @@ def either(of_general, of_vectors):
 def shifted(function):
     def handler(s, to, one, by):
         same(to, one)
-        s.put_lane(to, each(lambda a: function(a, by.value), to.lane, s.lane(one)))
+        s.put_data(to, each(lambda a: function(a, by.value), to.lane_size, s.data(one)))
 
     return handler
 
@@ -250,12 +250,12 @@ def shift_left_and_insert(s, to, one, by):
     """The lower bits of each number stay as they were."""
     same(to, one)
     inserted = lambda a, old: a << by.value | old & (1 << by.value) - 1
-    s.put_lane(to, each(inserted, to.lane, s.lane(one), s.lane(to)))
+    s.put_data(to, each(inserted, to.lane_size, s.data(one), s.data(to)))
 
 
 def constant(s, to, number):
-    require(to.lane, "a vector is needed")
-    s.put_lane(to, split(z3.BitVecVal(number.value, 8 * to.lane)) * (to.size // to.lane))
+    require(to.lane_size, "a vector is needed")
+    s.put_data(to, split(z3.BitVecVal(number.value, 8 * to.lane_size)) * (to.size // to.lane_size))
 
 
 def move(s, to, by):
@@ -264,20 +264,23 @@ def move(s, to, by):
         return s.put(to, s.number(by, to.size))
     # An element comes from the lower bytes of a register, and goes into a register that may be
     # wider.
-    s.put_lane(to, s.lane(by)[: to.size] + [byte(0)] * (to.size - by.size))
+    s.put_data(to, s.data(by)[: to.size] + [byte(0)] * (to.size - by.size))
 
 
 def duplicate(s, to, by):
-    s.put_lane(to, s.lane(by)[: to.lane] * (to.size // to.lane))
+    s.put_data(to, s.data(by)[: to.lane_size] * (to.size // to.lane_size))
 
 
 def narrow(s, to, by):
-    s.put_lane(to, bytes_of(z3.Extract(8 * to.lane - 1, 0, a) for a in units(s.lane(by), by.lane)))
+    s.put_data(
+        to,
+        bytes_of(z3.Extract(8 * to.lane_size - 1, 0, a) for a in lanes(s.data(by), by.lane_size)),
+    )
 
 
 def widen(s, to, by):
-    numbers = units(s.lane(by), by.lane)
-    s.put_lane(to, bytes_of(z3.ZeroExt(8 * (to.lane - by.lane), a) for a in numbers))
+    numbers = lanes(s.data(by), by.lane_size)
+    s.put_data(to, bytes_of(z3.ZeroExt(8 * (to.lane_size - by.lane_size), a) for a in numbers))
 
 
 def mixed(function):
@@ -285,21 +288,21 @@ def mixed(function):
 
     def handler(s, to, one, other):
         same(to, one, other)
-        a, b = units(s.lane(one), to.lane), units(s.lane(other), to.lane)
-        s.put_lane(to, bytes_of(function(a, b)))
+        a, b = lanes(s.data(one), to.lane_size), lanes(s.data(other), to.lane_size)
+        s.put_data(to, bytes_of(function(a, b)))
 
     return handler
 
 
 def extract(s, to, one, other, first):
     same(to, one, other)
-    s.put_lane(to, (s.lane(one) + s.lane(other))[first.value :][: to.size])
+    s.put_data(to, (s.data(one) + s.data(other))[first.value :][: to.size])
 
 
 def look_up(s, to, table, by):
-    entries = s.lane(table)
-    found = [z3.If(z3.ULT(i, 16), chosen(entries, i), byte(0)) for i in s.lane(by)]
-    s.put_lane(to, [*map(simple, found)])
+    entries = s.data(table)
+    found = [z3.If(z3.ULT(i, 16), chosen(entries, i), byte(0)) for i in s.data(by)]
+    s.put_data(to, [*map(simple, found)])
 
 
 # Jumps
@@ -341,11 +344,11 @@ def load(size=None):
     def handler(s, *operands):
         *targets, o = operands
         (address, moved), count = accessed(s, o), size or targets[0].size
-        lane = s.load(address, count * len(targets))
+        data = s.load(address, count * len(targets))
         s.general |= moved
         for number, target in enumerate(targets):
-            part = lane[count * number :][:count]
-            s.put_lane(target, part + [byte(0)] * (target.size - count))
+            part = data[count * number :][:count]
+            s.put_data(target, part + [byte(0)] * (target.size - count))
 
     return handler
 
@@ -357,29 +360,29 @@ def store(size=None):
         *sources, o = operands
         address, moved = accessed(s, o)
         s.general |= moved
-        s.store(address, [x for source in sources for x in s.lane(source)[:size]])
+        s.store(address, [x for source in sources for x in s.data(source)[:size]])
 
     return handler
 
 
 def store_interleaved(s, one, other, o):
     same(one, other)
-    pairs = zip(units(s.lane(one), one.lane), units(s.lane(other), other.lane))
+    pairs = zip(lanes(s.data(one), one.lane_size), lanes(s.data(other), other.lane_size))
     address, moved = accessed(s, o)
     s.general |= moved
     s.store(address, bytes_of(number for pair in pairs for number in pair))
 
 
 HANDLERS = {
-    "add": either(general(ADD), by_units(ADD)),
+    "add": either(general(ADD), by_lanes(ADD)),
     "adds": general(ADD, sum_flags),
     "cmn": general(ADD, sum_flags, is_kept=False),
     "tst": general(AND, logic_flags(AND), is_kept=False),
-    "sub": either(general(SUBTRACT), by_units(SUBTRACT)),
+    "sub": either(general(SUBTRACT), by_lanes(SUBTRACT)),
     "subs": general(SUBTRACT, comparison_flags),
     "cmp": general(SUBTRACT, comparison_flags, is_kept=False),
-    "and": either(general(AND), by_units(AND)),
-    "orr": either(general(OR), by_units(OR)),
+    "and": either(general(AND), by_lanes(AND)),
+    "orr": either(general(OR), by_lanes(OR)),
     "eor": general(XOR),
     "neg": general(lambda a: -a),
     "mvn": general(lambda a: ~a),
@@ -402,9 +405,9 @@ HANDLERS = {
     "cbnz": lambda s, by, to: Branch(simple(s.number(by) != 0), to.value),
     "tbz": jump_if_bit(0),
     "tbnz": jump_if_bit(1),
-    "mul": by_units(MULTIPLY),
-    "umin": by_units(MINIMUM),
-    "uqsub": by_units(SUBTRACT_SATURATED),
+    "mul": by_lanes(MULTIPLY),
+    "umin": by_lanes(MINIMUM),
+    "uqsub": by_lanes(SUBTRACT_SATURATED),
     "ushr": shifted(z3.LShR),
     "shl": shifted(lambda a, count: a << count),
     "sli": shift_left_and_insert,

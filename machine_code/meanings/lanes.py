@@ -23,24 +23,24 @@ class Operand:
     offset: int = 0
     # On AArch64: the bytes of a vector's lane, where an element begins, whether an address is
     # written back to its base, and what is added to the base afterwards.
-    lane: int = None
+    lane_size: int = None
     first: int = None
     is_moved: bool = False
     after: object = None
 
 
-def units(lane, size):
-    """The numbers of so many bytes that a lane has."""
-    return [joined(lane[first : first + size]) for first in range(0, len(lane), size)]
+def lanes(data, size):
+    """The lanes of a vector, as numbers of so many bytes."""
+    return [joined(data[first : first + size]) for first in range(0, len(data), size)]
 
 
 def bytes_of(numbers):
     return [byte for number in numbers for byte in split(simple(number))]
 
 
-def each(function, size, *lanes):
-    """Does the same to the numbers of so many bytes of some lanes."""
-    return bytes_of(map(function, *[units(lane, size) for lane in lanes]))
+def each(function, size, *vectors):
+    """Does the same to each lane, of so many bytes, of some vectors."""
+    return bytes_of(map(function, *[lanes(vector, size) for vector in vectors]))
 
 
 def saturated(numbers):

@@ -137,7 +137,7 @@ class State(state.State):
             return simple(self.code.placed(self.next + o.offset))
         return super().address_of(o)
 
-    def lane(self, o, size=None):
+    def data(self, o, size=None):
         """The lowest bytes of an operand, or all."""
         if o.kind == "general":
             return split(z3.Extract(8 * o.size - 1, 0, self.general[o.name]))[:size]
@@ -152,7 +152,7 @@ class State(state.State):
             return z3.BitVecVal(o.value, 8 * size)
         if o.kind == "general" and o.size == 8:
             return self.general[o.name]
-        return joined(self.lane(o))
+        return joined(self.data(o))
 
     def numbers(self, operands, size):
         return [self.number(o, size) for o in operands]
@@ -167,11 +167,11 @@ class State(state.State):
             term = z3.Concat(z3.Extract(63, 8 * o.size, self.general[o.name]), term)
         self.general[o.name] = simple(term)
 
-    def put_vector(self, o, lane):
+    def put_vector(self, o, data):
         """Writes a vector: what lies above is kept by the old forms of instructions, and cleared by
         the new ones."""
         above = self.vectors[o.name][o.size :] if self.is_legacy else [byte(0)] * (32 - o.size)
-        self.vectors[o.name] = [*lane, *[byte(0)] * (o.size - len(lane)), *above]
+        self.vectors[o.name] = [*data, *[byte(0)] * (o.size - len(data)), *above]
         self.is_clean &= o.size == 16
 
 
@@ -233,20 +233,20 @@ def move_if(condition):
     return lambda s, to, by: s.put(to, s.either(holds(s, condition), s.number(by), s.number(to)))
 
 
-def pushed(s, lane):
+def pushed(s, data):
     s.general["rsp"] = simple(s.general["rsp"] - 8)
-    s.store(s.general["rsp"], lane)
+    s.store(s.general["rsp"], data)
 
 
 def push(s, o):
     require(o.size == 8, "an unsupported operand size")
-    pushed(s, s.lane(o))
+    pushed(s, s.data(o))
 
 
 def popped(s):
-    lane = s.load(s.general["rsp"], 8)
+    data = s.load(s.general["rsp"], 8)
     s.general["rsp"] = simple(s.general["rsp"] + 8)
-    return joined(lane)
+    return joined(data)
 
 
 def pop(s, o):

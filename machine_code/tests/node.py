@@ -124,11 +124,11 @@ class Concrete:
             return [UNKNOWN[address]]
         return [BYTES[value] for value in self.memory[address : address + count]]
 
-    def store(self, address, lane, aligned=False):
+    def store(self, address, data, aligned=False):
         address = simple(address).as_long()
-        require(len(lane) & len(lane) - 1 == 0, "an access of another size")
-        self.memory[address : address + len(lane)] = bytes(
-            self.known(value).as_long() for value in lane
+        require(len(data) & len(data) - 1 == 0, "an access of another size")
+        self.memory[address : address + len(data)] = bytes(
+            self.known(value).as_long() for value in data
         )
 
     def known(self, term):

@@ -89,13 +89,13 @@ class Memory:
         address = self.known(address).as_long()
         require(count & count - 1 == 0, "an access of another size")
         require(not aligned or address % count == 0, "not aligned")
-        data, start = (self.scratch, SCRATCH) if address >= SCRATCH else (self.object, TEXT)
-        return [BYTES[value] for value in data[address - start :][:count]]
+        memory, start = (self.scratch, SCRATCH) if address >= SCRATCH else (self.object, TEXT)
+        return [BYTES[value] for value in memory[address - start :][:count]]
 
-    def store(self, address, lane, aligned=False):
+    def store(self, address, data, aligned=False):
         first = simple(address).as_long() - SCRATCH
-        require(len(lane) & len(lane) - 1 == 0, "an access of another size")
-        self.scratch[first : first + len(lane)] = [simple(value).as_long() for value in lane]
+        require(len(data) & len(data) - 1 == 0, "an access of another size")
+        self.scratch[first : first + len(data)] = [simple(value).as_long() for value in data]
 
     def known(self, term):
         """A term in which the base of the object is known."""
@@ -167,7 +167,7 @@ class Processor:
         state.general = {name: word(value) for name, value in general.items()}
         state.flags = {name: z3.BoolVal(some.random() < 0.5) for name in self.kind.flags}
         state.raw = {n: _random_bytes(some, state.WIDTH) for n in range(state.VECTORS)}
-        state.vectors = {n: [BYTES[value] for value in lane] for n, lane in state.raw.items()}
+        state.vectors = {n: [BYTES[value] for value in data] for n, data in state.raw.items()}
         state.next = i.address + i.size
         return state
 
@@ -203,9 +203,9 @@ class Processor:
             if _number(state.known(state.general[name]), 64) != number:
                 yield name
         offset = 8 * count
-        for name, lane in state.vectors.items():
+        for name, data in state.vectors.items():
             raw, now = state.raw[name], after[offset : offset + state.WIDTH]
-            if [*now] != ([*raw] if lane is old[name] else [_number(part, 8) for part in lane]):
+            if [*now] != ([*raw] if data is old[name] else [_number(part, 8) for part in data]):
                 yield f"vector {name}"
             if state.is_clean and now[16:] not in (raw[16:], bytes(len(raw) - 16)):
                 yield f"what lies above in vector {name}"
