@@ -79,7 +79,8 @@ class Dispatched(Function):
         ):
             self.prove_passed(state, index, given, wanted)
         state.havoc_arguments(len(self.arguments))
-        state.result_of_call, state.stored_at_call = fresh_secret(64), len(state.stored)
+        state.result_of_call = fresh_secret(64)
+        state.stored_at_call = len(state.stored)
         yield state, state.result_of_call
 
     def prove_passed(self, state, index, given, wanted):
@@ -105,11 +106,11 @@ class Kernel(Dispatched):
         number = self.builds[end]
         if not state.stored:
             return state.prove(
-                z3.Or(*[read == number for read in state.seen]), "not the one that is stored"
+                z3.Or(*[read == number for read in state.loaded]), "not the one that is stored"
             )
         for named in self.builds.values():
             state.prove(
-                z3.Or(*[read != named for read in state.seen]),
+                z3.Or(*[read != named for read in state.loaded]),
                 "the CPU is asked although a kernel is stored",
             )
         for stored in state.stored:

@@ -15,8 +15,8 @@ N, INDEX = public("n", 64), public("index", 64)
 ODD_LENGTH = 1
 INVALID_LENGTH = 2
 INVALID_CHARACTER = 3
-# The kind of an invalid character within the library, and what a decoder waits for after one.
-FOUND = FAILED = 2
+FOUND = 2  # the kind of an invalid character within the library
+FAILED = 2  # what a decoder has in place of what it waits for, after an invalid character
 
 
 def size_max(state):
@@ -61,7 +61,7 @@ def base(name):
     return public(name, 64)
 
 
-def of_32_bits(term):
+def uint32_argument(term):
     """An argument of 32 bits: what lies above may be anything."""
     return z3.Concat(secret("above", 32), term)
 
@@ -227,9 +227,9 @@ def first_invalid(state):
     return N, byte(0)
 
 
-def moved(state, position, count):
-    """A position so many characters later, or SIZE_MAX if it is greater. Of all numbers the bits of
-    a size_t count."""
+def saturating_add(state, position, count):
+    """A position so many characters later, or SIZE_MAX if that overflows. Of all numbers the bits
+    of a size_t count."""
     later = simple(position + count)
     is_greater = z3.ULT(in_size_t(state, later), in_size_t(state, position))
-    return state.either(is_greater, word(size_max(state)), later)
+    return state.if_then_else(is_greater, word(size_max(state)), later)

@@ -8,7 +8,7 @@ isize::MAX bytes: below 2^63.
 
 import z3
 
-from contracts.callees import any_below, is_in, checked, offset_in, write
+from contracts.callees import arbitrary_index, is_in, checked, offset_in, write
 from contracts.functions import (
     N,
     Function,
@@ -83,9 +83,10 @@ class Fill(Kernel):
         self.reached(state, None, self.output_size)
 
     def called(self, state, input, n, output):
-        some, index = any_below(state, n)
-        if some:
-            write(some, output + 2 * index, digits_of(*some.load(input + index, 1), self.is_upper))
+        at_index, index = arbitrary_index(state, n)
+        if at_index:
+            digits = digits_of(*at_index.load(input + index, 1), self.is_upper)
+            write(at_index, output + 2 * index, digits)
             self.has_written(state, output, n)
         yield state,
 
@@ -126,15 +127,15 @@ class Read(Kernel):
     def called(self, state, input, n, output):
         """Any byte may be written before which, and of which, all is digits. All are, if all is;
         else a front."""
-        some, index = any_below(state, n)
-        if some:
-            pair = some.load(input + 2 * index, 2)
+        at_index, index = arbitrary_index(state, n)
+        if at_index:
+            pair = at_index.load(input + 2 * index, 2)
             if is_in("input", input):
-                some = some.with_digits(offset_in(some, "input", input), 2 * index + 2)
-            if some := some and some.branch(z3.And(*map(is_digit, pair))):
-                write(some, output + index, [decoded(*pair)])
+                at_index = at_index.with_digits(offset_in(at_index, "input", input), 2 * index + 2)
+            if at_index := at_index and at_index.branch(z3.And(*map(is_digit, pair))):
+                write(at_index, output + index, [decoded(*pair)])
         for path, result in checked(state, input, simple(2 * n)):
-            if some:
+            if at_index:
                 self.has_written(path, output, n if result else word(0))
             yield path, result
 

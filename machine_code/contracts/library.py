@@ -25,7 +25,7 @@ from contracts.functions import (
     in_size_t,
     is_digit,
     is_prefix,
-    moved,
+    saturating_add,
     prove_no_gap,
     prove_digits,
     prove_true_if,
@@ -33,7 +33,7 @@ from contracts.functions import (
     prove_written,
     prove_failure,
     prove_has,
-    of_32_bits,
+    uint32_argument,
     size_max,
     with_prefix_or_without,
 )
@@ -85,7 +85,7 @@ class EncodedSize(Exported):
     """encoded_size(bytes_length, flags): what is needed, or SIZE_MAX if that is no size, or for
     unknown flags."""
 
-    function, arguments = "encoded_size", (N, of_32_bits(FLAGS))
+    function, arguments = "encoded_size", (N, uint32_argument(FLAGS))
 
     def returns(self, state):
         size = needed(FLAGS)
@@ -107,7 +107,7 @@ class Encode(Exported):
     def __init__(self, flags):
         self.name = "unknown flags" if flags is None else f"flags {flags}"
         self.flags = FLAGS if flags is None else z3.BitVecVal(flags, 32)
-        self.arguments = base("input"), N, base("output"), SIZE, simple(of_32_bits(self.flags))
+        self.arguments = base("input"), N, base("output"), SIZE, simple(uint32_argument(self.flags))
         self.fits = simple(
             z3.And(z3.ULT(self.flags, 8), z3.ULE(needed(self.flags), z3.ZeroExt(2, SIZE)))
         )
@@ -403,7 +403,7 @@ class DecoderUpdate(Text):
     def accepts(self, state):
         super().accepts(state)
         position, character, _ = decoder_of(state)
-        prove_has(state, "decoder", in_size_t(state, moved(state, position, N)))
+        prove_has(state, "decoder", in_size_t(state, saturating_add(state, position, N)))
         waits = self.waits(state)
         prove_has(state, "decoder", z3.If(waits, byte(1), byte(0)), offset=state.WORD + 1)
         if other := state.branch(z3.And(waits, N == 0)):
@@ -412,7 +412,7 @@ class DecoderUpdate(Text):
             prove_has(other, "decoder", other.byte_of_input(N - 1), offset=state.WORD)
 
     def rejects(self, state, index, character):
-        position = moved(state, decoder_of(state)[0], index)
+        position = saturating_add(state, decoder_of(state)[0], index)
         super().rejects(state, position, character)
         prove_has(state, "decoder", in_size_t(state, position), character)
         state.prove(
@@ -463,7 +463,9 @@ class DecoderFail(FirstInvalid):
         """What is found, and what the decoder keeps. In the module an error has no kind of its
         own."""
         kind = [z3.BitVecVal(FOUND, 32)] if state.WORD == 8 else []
-        index = in_size_t(state, moved(state, moved(state, position, before), index))
+        index = in_size_t(
+            state, saturating_add(state, saturating_add(state, position, before), index)
+        )
         return [*kind, z3.ZeroExt(24, character), index], [index, character, byte(FAILED)]
 
     def returns(self, state):

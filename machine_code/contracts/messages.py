@@ -21,7 +21,7 @@ KIND = secret("error_kind", 32)
 CHARACTER = secret("error_character", 32)
 POSITION = secret("error_position", 64)
 SIZE = secret("message_size", 64)
-MOST = 64  # the greatest length of a text that is written
+MAX_SOURCE = 64  # the greatest length of what message_write_ended writes
 
 
 def shown(character):
@@ -118,7 +118,7 @@ class WriteEnded(Ended):
         base("output"),
         SIZE,
     )
-    requires = (z3.ULE(N, MOST),)
+    requires = (z3.ULE(N, MAX_SOURCE),)
 
     def returns(self, state):
         self.prove_ended(

@@ -47,7 +47,7 @@ class Region:
 
 
 STATIC = Region("static", word(1))  # which lasts from call to call
-MOST = 64  # values that the offset of a constant may have, or a jump
+MAX_VALUES = 64  # of the offset of a constant, or of a jump
 
 
 @dataclass
@@ -82,8 +82,8 @@ class State:
     reads: list = field(default_factory=list)
     writes: list = field(default_factory=list)
     digits: dict = field(default_factory=dict)
-    # What was read of the static byte, and what was stored there.
-    seen: list = field(default_factory=list)
+    # What was loaded from the static byte, and what was stored there.
+    loaded: list = field(default_factory=list)
     stored: list = field(default_factory=list)
     # Where the digits of the input begin, and the digit that waits before them, if there is one.
     body: object = word(0)
@@ -161,7 +161,7 @@ class State:
         """That the input is valid, as far as it was read."""
         return [fact for condition in self.contract.valid(self) for fact in facts_of(condition)]
 
-    def either(self, condition, one, other, is_asked=False):
+    def if_then_else(self, condition, one, other, is_asked=False):
         """The first of two terms where a condition holds, else the second; that one alone, if it is
         asked and known."""
         if is_asked or is_public(condition):
@@ -170,14 +170,14 @@ class State:
                     return term
         return simple(z3.If(condition, one, other))
 
-    def choose(self, choice):
+    def truth_for_valid_input(self, condition):
         """Whether a condition holds for all valid inputs, or for none; None where it is public."""
-        if self.is_declassified or is_public(choice):
+        if self.is_declassified or is_public(condition):
             return None
         facts = self.facts + self.input_is_valid()
-        paths = (True, choice), (False, z3.Not(choice))
-        for truth, condition in sorted(paths, key=lambda path: -len(conjuncts(path[1]))):
-            if is_valid(facts, condition):
+        goals = (True, condition), (False, z3.Not(condition))
+        for truth, goal in sorted(goals, key=lambda pair: -len(conjuncts(pair[1]))):
+            if is_valid(facts, goal):
                 return truth
         raise Rejected("a branch depends on bytes that are secret")
 
@@ -248,8 +248,8 @@ class State:
             return [self.byte_of_input(offset + index) for index in range(count)]
         if region.name == "static":
             # Another thread may have written it since it was read before.
-            self.seen += [fresh_public(8) for _ in range(count)]
-            return self.seen[-count:]
+            self.loaded += [fresh_public(8) for _ in range(count)]
+            return self.loaded[-count:]
         require(region.is_object, f"{region.name} is read")
         first = self._offset_in(region, offset)
         known = [self.cells.get((region.name, first + index)) for index in range(count)]
@@ -269,7 +269,7 @@ class State:
             )
             return [simple(chosen([*map(byte, table.ljust(256, b"\0"))], z3.Extract(7, 0, index)))]
         data = None
-        for value in values(self.facts, offset, MOST):
+        for value in values(self.facts, offset, MAX_VALUES):
             new = [byte(part) for part in region.data.read(value, count)]
             require(len(new) == count, "an address that has no constant, or may be written")
             if data:
@@ -290,7 +290,7 @@ class State:
         offset = simple(address - base)
         return [
             (offset == value, self.code.object.first + value)
-            for value in values(self.facts, offset, MOST)
+            for value in values(self.facts, offset, MAX_VALUES)
         ]
 
     def store(self, address, data, aligned=False):

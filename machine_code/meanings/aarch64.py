@@ -188,32 +188,34 @@ def upper_product(s, to, one, other):
     s.put(to, simple(z3.Extract(127, 64, s.product(s.number(one), s.number(other)))))
 
 
-def move_part(s, to, number, *by):
+def move_part(s, to, number, *shift):
     """Writes 16 bits, and keeps the others."""
-    bit = by[0].value if by else 0
+    bit = shift[0].value if shift else 0
     s.put(to, simple(s.number(to) & ~(0xFFFF << bit) | number.value << bit))
 
 
-def insert_bits(s, to, by, low, count):
+def insert_bits(s, to, source, low, count):
     """So many bits from anywhere in a register replace the lowest of another."""
     require(count.value < 8 * to.size, "all bits")
     rest = z3.Extract(8 * to.size - 1, count.value, s.number(to))
-    new = z3.Extract(low.value + count.value - 1, low.value, s.number(by, to.size))
+    new = z3.Extract(low.value + count.value - 1, low.value, s.number(source, to.size))
     s.put(to, simple(z3.Concat(rest, new)))
 
 
 def shift(function):
-    def handler(s, to, by, count):
+    def handler(s, to, source, count):
         require(count.kind == "number", "a shift")
-        s.put(to, simple(function(s.number(by, to.size), count.value)))
+        s.put(to, simple(function(s.number(source, to.size), count.value)))
 
     return handler
 
 
 def select(function):
-    def handler(s, to, one, other, name):
-        a, b = s.number(one, to.size), s.number(other, to.size)
-        s.put(to, s.either(holds(s, CONDITIONS[name.name]), a, simple(function(b)), is_asked=True))
+    def handler(s, to, one, other, condition):
+        is_one = holds(s, CONDITIONS[condition.name])
+        a = s.number(one, to.size)
+        b = simple(function(s.number(other, to.size)))
+        s.put(to, s.if_then_else(is_one, a, b, is_asked=True))
 
     return handler
 
@@ -232,25 +234,27 @@ def by_lanes(function):
     return handler
 
 
-def either(of_general, of_vectors):
-    return lambda s, to, *sources: (of_general if to.kind == "general" else of_vectors)(
-        s, to, *sources
-    )
-
-
-def shifted(function):
-    def handler(s, to, one, by):
-        same(to, one)
-        s.put_data(to, each(lambda a: function(a, by.value), to.lane_size, s.data(one)))
+def by_kind(on_general, on_vectors):
+    def handler(s, to, *sources):
+        function = on_general if to.kind == "general" else on_vectors
+        return function(s, to, *sources)
 
     return handler
 
 
-def shift_left_and_insert(s, to, one, by):
+def shifted(function):
+    def handler(s, to, source, count):
+        same(to, source)
+        s.put_data(to, each(lambda a: function(a, count.value), to.lane_size, s.data(source)))
+
+    return handler
+
+
+def shift_left_and_insert(s, to, source, count):
     """The lower bits of each number stay as they were."""
-    same(to, one)
-    inserted = lambda a, old: a << by.value | old & (1 << by.value) - 1
-    s.put_data(to, each(inserted, to.lane_size, s.data(one), s.data(to)))
+    same(to, source)
+    inserted = lambda a, old: a << count.value | old & (1 << count.value) - 1
+    s.put_data(to, each(inserted, to.lane_size, s.data(source), s.data(to)))
 
 
 def constant(s, to, number):
@@ -258,29 +262,27 @@ def constant(s, to, number):
     s.put_data(to, split(z3.BitVecVal(number.value, 8 * to.lane_size)) * (to.size // to.lane_size))
 
 
-def move(s, to, by):
+def move(s, to, source):
     """Between registers of any kind. What is above in a register is cleared."""
-    if by.kind == "number" or by.kind == to.kind == "general":
-        return s.put(to, s.number(by, to.size))
+    if source.kind == "number" or source.kind == to.kind == "general":
+        return s.put(to, s.number(source, to.size))
     # An element comes from the lower bytes of a register, and goes into a register that may be
     # wider.
-    s.put_data(to, s.data(by)[: to.size] + [byte(0)] * (to.size - by.size))
+    s.put_data(to, s.data(source)[: to.size] + [byte(0)] * (to.size - source.size))
 
 
-def duplicate(s, to, by):
-    s.put_data(to, s.data(by)[: to.lane_size] * (to.size // to.lane_size))
+def duplicate(s, to, source):
+    s.put_data(to, s.data(source)[: to.lane_size] * (to.size // to.lane_size))
 
 
-def narrow(s, to, by):
-    s.put_data(
-        to,
-        bytes_of(z3.Extract(8 * to.lane_size - 1, 0, a) for a in lanes(s.data(by), by.lane_size)),
-    )
+def narrow(s, to, source):
+    numbers = lanes(s.data(source), source.lane_size)
+    s.put_data(to, bytes_of(z3.Extract(8 * to.lane_size - 1, 0, a) for a in numbers))
 
 
-def widen(s, to, by):
-    numbers = lanes(s.data(by), by.lane_size)
-    s.put_data(to, bytes_of(z3.ZeroExt(8 * (to.lane_size - by.lane_size), a) for a in numbers))
+def widen(s, to, source):
+    numbers = lanes(s.data(source), source.lane_size)
+    s.put_data(to, bytes_of(z3.ZeroExt(8 * (to.lane_size - source.lane_size), a) for a in numbers))
 
 
 def mixed(function):
@@ -299,9 +301,9 @@ def extract(s, to, one, other, first):
     s.put_data(to, (s.data(one) + s.data(other))[first.value :][: to.size])
 
 
-def look_up(s, to, table, by):
+def look_up(s, to, table, indices):
     entries = s.data(table)
-    found = [z3.If(z3.ULT(i, 16), chosen(entries, i), byte(0)) for i in s.data(by)]
+    found = [z3.If(z3.ULT(i, 16), chosen(entries, i), byte(0)) for i in s.data(indices)]
     s.put_data(to, [*map(simple, found)])
 
 
@@ -317,8 +319,9 @@ def ret(s, *operands):
 
 
 def jump_if_bit(is_set):
-    def handler(s, by, bit, to):
-        return Branch(simple(z3.Extract(bit.value, bit.value, s.number(by)) == is_set), to.value)
+    def handler(s, source, bit, to):
+        value = z3.Extract(bit.value, bit.value, s.number(source))
+        return Branch(simple(value == is_set), to.value)
 
     return handler
 
@@ -343,7 +346,8 @@ def load(size=None):
 
     def handler(s, *operands):
         *targets, o = operands
-        (address, moved), count = accessed(s, o), size or targets[0].size
+        address, moved = accessed(s, o)
+        count = size or targets[0].size
         data = s.load(address, count * len(targets))
         s.general |= moved
         for number, target in enumerate(targets):
@@ -374,15 +378,15 @@ def store_interleaved(s, one, other, o):
 
 
 HANDLERS = {
-    "add": either(general(ADD), by_lanes(ADD)),
+    "add": by_kind(general(ADD), by_lanes(ADD)),
     "adds": general(ADD, sum_flags),
     "cmn": general(ADD, sum_flags, is_kept=False),
     "tst": general(AND, logic_flags(AND), is_kept=False),
-    "sub": either(general(SUBTRACT), by_lanes(SUBTRACT)),
+    "sub": by_kind(general(SUBTRACT), by_lanes(SUBTRACT)),
     "subs": general(SUBTRACT, comparison_flags),
     "cmp": general(SUBTRACT, comparison_flags, is_kept=False),
-    "and": either(general(AND), by_lanes(AND)),
-    "orr": either(general(OR), by_lanes(OR)),
+    "and": by_kind(general(AND), by_lanes(AND)),
+    "orr": by_kind(general(OR), by_lanes(OR)),
     "eor": general(XOR),
     "neg": general(lambda a: -a),
     "mvn": general(lambda a: ~a),
@@ -392,17 +396,17 @@ HANDLERS = {
     "bfxil": insert_bits,
     "lsl": shift(SHIFT_LEFT),
     "lsr": shift(z3.LShR),
-    "adr": lambda s, to, by: s.put(to, s.code.placed(by.value)),
-    "adrp": lambda s, to, by: s.put(to, s.code.placed(by.value)),
+    "adr": lambda s, to, target: s.put(to, s.code.placed(target.value)),
+    "adrp": lambda s, to, target: s.put(to, s.code.placed(target.value)),
     "nop": lambda s: None,
-    "cset": lambda s, to, name: set_if(CONDITIONS[name.name])(s, to),
+    "cset": lambda s, to, condition: set_if(CONDITIONS[condition.name])(s, to),
     "csel": select(lambda b: b),
     "csinv": select(lambda b: ~b),
     "b": lambda s, to: to.value,
     "bl": call,
     "ret": ret,
-    "cbz": lambda s, by, to: Branch(simple(s.number(by) == 0), to.value),
-    "cbnz": lambda s, by, to: Branch(simple(s.number(by) != 0), to.value),
+    "cbz": lambda s, source, to: Branch(simple(s.number(source) == 0), to.value),
+    "cbnz": lambda s, source, to: Branch(simple(s.number(source) != 0), to.value),
     "tbz": jump_if_bit(0),
     "tbnz": jump_if_bit(1),
     "mul": by_lanes(MULTIPLY),

@@ -6,7 +6,7 @@ from dataclasses import dataclass
 import z3
 
 from execution.paths import Branch
-from execution.terms import joined, simple, split
+from execution.terms import byte, joined, simple, split
 from solver.questions import require
 
 
@@ -35,12 +35,17 @@ def lanes(data, size):
 
 
 def bytes_of(numbers):
-    return [byte for number in numbers for byte in split(simple(number))]
+    return [part for number in numbers for part in split(simple(number))]
 
 
 def each(function, size, *vectors):
     """Does the same to each lane, of so many bytes, of some vectors."""
     return bytes_of(map(function, *[lanes(vector, size) for vector in vectors]))
+
+
+def zero_extended(data):
+    """Each byte as two, of which the upper one is 0."""
+    return [part for value in data for part in (value, byte(0))]
 
 
 def saturated(numbers):
@@ -123,7 +128,7 @@ def general(function, flags=None, is_kept=True):
 def set_if(condition):
     def handler(s, to):
         one, zero = z3.BitVecVal(1, 8 * to.size), z3.BitVecVal(0, 8 * to.size)
-        s.put(to, s.either(holds(s, condition), one, zero))
+        s.put(to, s.if_then_else(holds(s, condition), one, zero))
 
     return handler
 

@@ -20,8 +20,9 @@ from meanings.lanes import (
     SHIFT_LEFT,
     SUBTRACT,
     each,
-    saturated,
     lanes,
+    saturated,
+    zero_extended,
 )
 from meanings.webassembly_blocks import instructions  # as each processor has it
 from reading.module import SPACE
@@ -187,11 +188,11 @@ def computes(name, takes, function):
 def compares(name, takes, condition):
     """The same: 1 if a condition on the operands holds, else 0."""
     one, zero = z3.BitVecVal(1, 1), z3.BitVecVal(0, 1)
-    accesses(
-        name,
-        takes,
-        lambda s, numbers, *values: z3.ZeroExt(63, s.either(simple(condition(*values)), one, zero)),
-    )
+
+    def compare(s, numbers, *values):
+        return z3.ZeroExt(63, s.if_then_else(simple(condition(*values)), one, zero))
+
+    accesses(name, takes, compare)
 
 
 # Numbers
@@ -326,6 +327,11 @@ def loads(name, count, function):
     accesses(name, "n", lambda s, numbers, a: function(s.load(simple(a + numbers[0]), count)))
 
 
+def _load_lane(s, numbers, a, data):
+    offset, index = numbers
+    return [*data[:index], *s.load(simple(a + offset), 1), *data[index + 1 :]]
+
+
 def stores(name, takes, function):
     def store(s, numbers, a, value):
         s.store(simple(a + numbers[0]), function(value, *numbers[1:]))
@@ -337,16 +343,8 @@ for _name, _size in {"i32.load": 4, "i32.load8_u": 1, "i32.load16_u": 2, "i64.lo
     loads(_name, _size, lambda data: z3.ZeroExt(64 - 8 * len(data), joined(data)))
 loads("v128.load", 16, lambda data: data)
 loads("v128.load64_zero", 8, lambda data: data + [byte(0)] * 8)
-loads("v128.load8x8_u", 8, lambda data: [part for value in data for part in (value, byte(0))])
-accesses(
-    "v128.load8_lane",
-    "nv",
-    lambda s, numbers, a, data: [
-        *data[: numbers[1]],
-        *s.load(simple(a + numbers[0]), 1),
-        *data[numbers[1] + 1 :],
-    ],
-)
+loads("v128.load8x8_u", 8, zero_extended)
+accesses("v128.load8_lane", "nv", _load_lane)
 stores("i32.store", "ni", lambda value: split(value)[:4])
 stores("i32.store8", "ni", lambda value: split(value)[:1])
 stores("i32.store16", "ni", lambda value: split(value)[:2])
@@ -384,16 +382,8 @@ computes(
     lambda a, b: [simple(z3.If(z3.ULT(index, 16), chosen(a, index), byte(0))) for index in b],
 )
 computes("i8x16.narrow_i16x8_u", "vv", lambda a, b: saturated(lanes(a + b, 2)))
-computes(
-    "i16x8.extend_low_i8x16_u",
-    "v",
-    lambda a: [part for value in a[:8] for part in (value, byte(0))],
-)
-computes(
-    "i16x8.extend_high_i8x16_u",
-    "v",
-    lambda a: [part for value in a[8:] for part in (value, byte(0))],
-)
+computes("i16x8.extend_low_i8x16_u", "v", lambda a: zero_extended(a[:8]))
+computes("i16x8.extend_high_i8x16_u", "v", lambda a: zero_extended(a[8:]))
 compares("v128.any_true", "v", lambda a: z3.Or(*[part != 0 for part in a]))
 accesses("i8x16.shuffle", "vv", lambda s, numbers, a, b: [(a + b)[index] for index in numbers])
 accesses("i8x16.extract_lane_u", "v", lambda s, numbers, a: z3.ZeroExt(56, a[numbers[0]]))

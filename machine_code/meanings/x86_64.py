@@ -200,37 +200,40 @@ def by_one(function, flags):
 
 
 def shift(function):
-    def handler(s, to, by):
-        require(by.kind == "number" and 0 < by.value < 8 * to.size, "a shift")
-        result = simple(function(s.number(to), by.value))
+    def handler(s, to, count):
+        require(count.kind == "number" and 0 < count.value < 8 * to.size, "a shift")
+        result = simple(function(s.number(to), count.value))
         s.put(to, result)
         s.flags = {"s": result < 0, "z": result == 0, "c": None, "o": None}
 
     return handler
 
 
-def multiply(s, by):
-    require(by.size == 8, "an unsupported operand size")
-    product = s.product(s.general["rax"], s.number(by))
+def multiply(s, source):
+    require(source.size == 8, "an unsupported operand size")
+    product = s.product(s.general["rax"], s.number(source))
     s.general["rax"] = simple(z3.Extract(63, 0, product))
     s.general["rdx"] = simple(z3.Extract(127, 64, product))
     s.flags = None
 
 
 def move(extension):
-    def handler(s, to, by):
-        number = s.number(by, to.size)
+    def handler(s, to, source):
+        number = s.number(source, to.size)
         s.put(to, simple(extension(8 * to.size - number.size(), number)))
 
     return handler
 
 
-def lea(s, to, by):
-    s.put(to, simple(z3.Extract(8 * to.size - 1, 0, s.address_of(by))))
+def lea(s, to, source):
+    s.put(to, simple(z3.Extract(8 * to.size - 1, 0, s.address_of(source))))
 
 
 def move_if(condition):
-    return lambda s, to, by: s.put(to, s.either(holds(s, condition), s.number(by), s.number(to)))
+    def handler(s, to, source):
+        s.put(to, s.if_then_else(holds(s, condition), s.number(source), s.number(to)))
+
+    return handler
 
 
 def pushed(s, data):

@@ -13,19 +13,20 @@ from meanings.lanes import (
     SUBTRACT_SATURATED,
     XOR,
     each,
-    saturated,
     lanes,
+    saturated,
+    zero_extended,
 )
 from solver.questions import require
 
 
-def three(handler):
+def with_three_operands(handler):
     """The old form of an instruction has its target for the first source."""
     return lambda s, to, *others: handler(s, to, *[to] * (len(others) == 1), *others)
 
 
 def by_lanes(size, function):
-    @three
+    @with_three_operands
     def handler(s, to, one, other):
         s.put_vector(to, each(function, size, s.data(one), s.data(other)))
 
@@ -35,7 +36,7 @@ def by_lanes(size, function):
 def by_halves(function):
     """Does the same to each 16 bytes of two operands."""
 
-    @three
+    @with_three_operands
     def handler(s, to, one, other):
         a = s.data(one)
         b = s.data(other)
@@ -48,10 +49,10 @@ def by_halves(function):
 
 
 def shift_lanes(size, function):
-    @three
-    def handler(s, to, one, by):
-        require(by.kind == "number" and by.value < 8 * size, "a shift")
-        s.put_vector(to, each(lambda a: function(a, by.value), size, s.data(one)))
+    @with_three_operands
+    def handler(s, to, one, count):
+        require(count.kind == "number" and count.value < 8 * size, "a shift")
+        s.put_vector(to, each(lambda a: function(a, count.value), size, s.data(one)))
 
     return handler
 
@@ -61,12 +62,12 @@ def looked_up(table, index):
 
 
 def move_vector(is_aligned):
-    def handler(s, to, by):
+    def handler(s, to, source):
         if to.kind == "memory":
-            return s.store(s.address_of(to), s.data(by), is_aligned)
-        if by.kind == "memory":
-            return s.put_vector(to, s.load(s.address_of(by), by.size, is_aligned))
-        s.put_vector(to, s.data(by))
+            return s.store(s.address_of(to), s.data(source), is_aligned)
+        if source.kind == "memory":
+            return s.put_vector(to, s.load(s.address_of(source), source.size, is_aligned))
+        s.put_vector(to, s.data(source))
 
     return handler
 
@@ -79,15 +80,15 @@ def put_low(s, to, data):
 
 
 def move_low(size):
-    return lambda s, to, by: put_low(s, to, s.data(by, size))
+    return lambda s, to, source: put_low(s, to, s.data(source, size))
 
 
 def insert(size):
     def handler(s, to, *others):
-        *one, by, index = others
+        *one, source, index = others
         require(index.value < to.size // size, "an index")
         data, first = s.data([*one, to][0]), index.value * size
-        s.put_vector(to, data[:first] + s.data(by, size) + data[first + size :])
+        s.put_vector(to, data[:first] + s.data(source, size) + data[first + size :])
 
     return handler
 
@@ -102,24 +103,30 @@ def extract(size):
 
 
 def broadcast(size):
-    return lambda s, to, by: s.put_vector(to, s.data(by, size) * (to.size // size))
+    return lambda s, to, source: s.put_vector(to, s.data(source, size) * (to.size // size))
+
+
+def _are_zero(parts):
+    return z3.And(*[simple(part) == 0 for part in parts])
 
 
 def test_vector(s, one, other):
     a, b = s.data(one), s.data(other)
-    z, c = [
-        z3.And(*[simple(part) == 0 for part in map(function, a, b)]) for function in (AND, AND_NOT)
-    ]
+    z, c = [_are_zero(map(function, a, b)) for function in (AND, AND_NOT)]
     s.flags = {"z": z, "c": c, "s": z3.BoolVal(False), "o": z3.BoolVal(False)}
 
 
-def widen(s, to, by):
-    s.put_vector(to, [x for low in s.data(by, to.size // 2) for x in (low, byte(0))])
+def widen(s, to, source):
+    s.put_vector(to, zero_extended(s.data(source, to.size // 2)))
 
 
-def permute(s, to, by, how):
-    data = s.data(by)
-    s.put_vector(to, [x for bit in range(0, 8, 2) for x in data[8 * (how.value >> bit & 3) :][:8]])
+def permute(s, to, source, control):
+    data = s.data(source)
+    result = []
+    for bit in range(0, 8, 2):
+        first = 8 * (control.value >> bit & 3)
+        result += data[first : first + 8]
+    s.put_vector(to, result)
 
 
 def vzeroupper(s):
@@ -135,7 +142,7 @@ VECTORS = {
     "pminub": by_lanes(1, MINIMUM),
     "por": by_lanes(1, OR),
     "pxor": by_lanes(1, XOR),
-    "psllw": shift_lanes(2, lambda a, by: a << by),
+    "psllw": shift_lanes(2, lambda a, count: a << count),
     "psrlw": shift_lanes(2, z3.LShR),
     "punpcklqdq": by_halves(lambda a, b: a[:8] + b[:8]),
     "pshufb": by_halves(lambda a, b: [looked_up(a, index) for index in b]),
