@@ -33,7 +33,8 @@ static void encode(size_t length, unsigned flags) {
 /* Whether each function takes the text for what it is. */
 static bool decode(size_t length, const char *prefix) {
   size_t written, start = strlen(prefix);
-  bool is_even = length % 2 == 0, is_right = true;
+  bool is_even = length % 2 == 0;
+  bool is_right = true;
   for (size_t index = 0; index < length; index++) {
     text[index] = "0123456789abcdefABCDEF"[(7 * index + length) % 22];
   }

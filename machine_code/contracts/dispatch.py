@@ -48,7 +48,8 @@ def for_this_cpu():
     leaves = [z3.UGE(reported("cpuid", leaf, "rax"), least) for leaf, least in LEAVES.items()]
     is_saved = reported("xgetbv", 0, "rax") & SAVED_REGISTERS == SAVED_REGISTERS
     has_v3 = z3.And(reports(FEATURES), *leaves, is_saved)
-    return z3.If(reports(FEATURES_OF_V2), z3.If(has_v3, word(3), 2), 1)
+    level = z3.If(has_v3, word(3), 2)
+    return z3.If(reports(FEATURES_OF_V2), level, 1)
 
 
 class Dispatched(Function):

@@ -75,7 +75,8 @@ def text_of(state):
 def ended(length):
     """How many bytes of a text are written before a NUL: all, or as many as fit; or nothing, not
     even a NUL."""
-    return z3.If(SIZE == 0, word(0), z3.If(z3.ULT(length, SIZE), length, SIZE - 1))
+    truncated = z3.If(z3.ULT(length, SIZE), length, SIZE - 1)
+    return z3.If(SIZE == 0, word(0), truncated)
 
 
 class Ended(Function):

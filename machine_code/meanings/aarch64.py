@@ -43,6 +43,7 @@ from solver.questions import public, require
 # An address, registers in braces, or anything else without a comma.
 OPERAND = re.compile(r"\[[^]]*\]!?|\{[^}]*\}(?:\[\d+\])?|[^,\s][^,]*")
 SIZES = {"b": 1, "h": 2, "s": 4, "d": 8, "q": 16}
+ADRP_IMMEDIATE = 0x60FFFFE0  # the bits of immlo and immhi
 # Of a general register: not x18, which belongs to the platform.
 NUMBER = r"(?!18\b)\d+"
 
@@ -86,15 +87,17 @@ def _operands(text):
 
 
 def _is_page(i, old, new):
-    """The assembler leaves it to the linker which page the instruction has."""
-    words = [int.from_bytes(code[:4], "little") for code in (old, new)]
-    pages = words[0] >> 29 & 3 | words[0] >> 3 & 0x1FFFFC
-    to = (i.address >> 12) + pages - (pages >> 20 << 21) << 12
-    return (
-        i.mnemonic == "adrp"
-        and (words[0] ^ words[1]) & ~0x60FFFFE0 == 0
-        and i.operands[1].value == to
-    )
+    """Whether an `adrp` has the page of its text, which the assembler leaves to the linker."""
+    if i.mnemonic != "adrp":
+        return False
+    code, without_page = [int.from_bytes(part[:4], "little") for part in (old, new)]
+    immlo = code >> 29 & 3
+    immhi = code >> 5 & 0x7FFFF
+    pages = immhi << 2 | immlo
+    signed_pages = pages - (pages >> 20 << 21)
+    target = (i.address >> 12) + signed_pages << 12
+    is_same = (code ^ without_page) & ~ADRP_IMMEDIATE == 0
+    return is_same and i.operands[1].value == target
 
 
 def instructions(code, part, level):

@@ -50,10 +50,12 @@ def zero_extended(data):
 
 def saturated(numbers):
     """Signed numbers as bytes: each one, or the nearest one that is a byte."""
-    return [
-        simple(z3.Extract(7, 0, z3.If(number < 0, 0, z3.If(number > 255, 255, number))))
-        for number in numbers
-    ]
+
+    def clamped(number):
+        at_most = z3.If(number > 255, 255, number)
+        return z3.If(number < 0, 0, at_most)
+
+    return [simple(z3.Extract(7, 0, clamped(number))) for number in numbers]
 
 
 # By two numbers of any size.
