@@ -55,9 +55,9 @@
  *    process that shares the memory, the function still returns and writes only to its own arguments, but the
  *    result is unspecified. This is tested and not verified.
  *
- * The next four sections are about the verified machine code, for Linux, macOS and BSD on x86-64 and AArch64. With
- * MinGW for x86-64 it is the same source, and not verified as it is linked. Elsewhere the library is portable.c, whose
- * source is verified against the contracts below, which are comments in ACSL: c/README.md says what holds for it.
+ * The next four sections are about the machine code as it is linked for Linux on x86-64 and AArch64. For macOS, BSD
+ * and, with MinGW for x86-64, Windows it is the same source. Elsewhere the library is portable.c, whose source is
+ * verified against the contracts below, which are comments in ACSL. c/README.md says what holds for each.
  *
  * FORMAL VERIFICATION
  *

@@ -6,82 +6,60 @@
 #[path = "../../rust/tests/random/mod.rs"]
 mod random;
 
-use const_hex as theirs;
-use const_hex_proved as ours;
-use const_hex_proved::FromHexError::{self, *};
 use random::Random;
 
-/// The error of ours that an error of theirs stands for. `added` is the length of a prefix that it did not count.
-fn as_ours(error: theirs::FromHexError, added: usize) -> FromHexError {
-    match error {
-        theirs::FromHexError::OddLength => OddLength,
-        theirs::FromHexError::InvalidStringLength => InvalidStringLength,
-        theirs::FromHexError::InvalidHexCharacter { c, index } => InvalidHexCharacter {
-            c,
-            index: index + added,
-        },
-    }
+/// What a library encodes bytes to, also into an output of a size.
+macro_rules! encoded {
+    ($library:ident, $bytes:expr, $size:expr) => {{
+        let (mut lower, mut upper) = (vec![7; $size], vec![7; $size]);
+        let results = [
+            $library::encode_to_slice($bytes, &mut lower).map_err(|error| error.to_string()),
+            $library::encode_to_slice_upper($bytes, &mut upper).map_err(|error| error.to_string()),
+        ];
+        let shown = $library::display($bytes);
+        let texts = [
+            $library::encode($bytes),
+            $library::encode_upper($bytes),
+            $library::encode_prefixed($bytes),
+            $library::encode_upper_prefixed($bytes),
+            format!("{shown:#x}{shown:X}"),
+        ];
+        (results, lower, upper, texts)
+    }};
 }
 
-/// Compares the results of calls that both crates have.
-macro_rules! same {
-    ($input:ident; $($name:ident),+) => {$(
-        assert_eq!(theirs::$name($input), ours::$name($input), "{} of {:?}", stringify!($name), $input);
-    )+};
-    // Results with errors.
-    ($input:ident, $added:expr; $($name:ident $(::<$($size:tt),+>)?),+) => {$(
-        let wanted = theirs::$name $(::<$($size),+>)?($input).map_err(|error| as_ours(error, $added));
-        assert_eq!(wanted, ours::$name $(::<$($size),+>)?($input), "{} of {:?}", stringify!($name), $input);
-    )+};
-}
-
-/// Compares functions that fill an output. After an invalid character each may have decoded more or fewer of the bytes
-/// before it.
-macro_rules! same_output {
-    ($input:ident, $added:expr, $space:ident; $($name:ident),+) => {$(
-        let (mut output, mut other) = (vec![7; $space], vec![7; $space]);
-        let wanted = theirs::$name($input, &mut output).map_err(|error| as_ours(error, $added));
-        assert_eq!(wanted, ours::$name($input, &mut other), "{} of {:?}", stringify!($name), $input);
-        if !matches!(wanted, Err(InvalidHexCharacter { .. })) {
-            assert_eq!(output, other, "the output of {} of {:?}", stringify!($name), $input);
+/// What a library decodes a text to, also into an output of a size. `$added` is the length of a prefix that its positions
+/// do not count. After an invalid character a library may have decoded more or fewer of the bytes before it.
+macro_rules! decoded {
+    ($library:ident, $text:expr, $size:expr, $added:expr) => {{
+        use $library::FromHexError::{self, *};
+        let in_text = |added| {
+            move |error: FromHexError| match error {
+                InvalidHexCharacter { c, index } => (c, index + added, String::new()),
+                error => (' ', 0, error.to_string()),
+            }
+        };
+        let mut output = vec![7; $size];
+        let result = $library::decode_to_slice($text, &mut output).map_err(in_text($added));
+        if matches!(&result, Err((_, _, message)) if message.is_empty()) {
+            output.clear();
         }
-    )+};
-}
-
-fn encodes(bytes: &[u8], space: usize) {
-    same!(bytes; encode, encode_upper, encode_prefixed, encode_upper_prefixed);
-    same_output!(bytes, 0, space; encode_to_slice, encode_to_slice_upper);
-    let (theirs, ours) = (theirs::display(bytes), ours::display(bytes));
-    assert_eq!(
-        format!("{theirs:#x}{theirs:X}"),
-        format!("{ours:#x}{ours:X}")
-    );
-}
-
-fn decodes(text: &[u8], space: usize) {
-    let added = match text {
-        [b'0', b'x' | b'X', ..] if text.len() % 2 == 0 => 2,
-        _ => 0,
-    };
-    same!(text; check_raw);
-    same!(text, 0; check);
-    same!(text, added; decode);
-    same_output!(text, added, space; decode_to_slice);
-    arrays::<0>(text, added);
-    arrays::<1>(text, added);
-    arrays::<20>(text, added);
-    arrays::<33>(text, added);
-}
-
-fn arrays<const N: usize>(text: &[u8], added: usize) {
-    same!(text, added; decode_to_array::<_, N>, const_decode_to_array::<N>);
-    if let Ok(bytes) = ours::decode_to_array::<_, N>(text) {
-        let (mut theirs, mut ours) = (
-            theirs::Buffer::<N, true>::new(),
-            ours::Buffer::<N, true>::new(),
-        );
-        assert_eq!(theirs.format_upper(&bytes), ours.format_upper(&bytes));
-    }
+        macro_rules! arrays {
+            ($count:literal) => {
+                [
+                    $library::decode_to_array::<_, $count>($text),
+                    $library::const_decode_to_array::<$count>($text),
+                ]
+                .map(|array| array.map_err(in_text($added)))
+            };
+        }
+        (
+            (result, output, $library::check_raw($text)),
+            $library::decode($text).map_err(in_text($added)),
+            $library::check($text).map_err(in_text(0)),
+            (arrays!(0), arrays!(1), arrays!(20)),
+        )
+    }};
 }
 
 #[test]
@@ -89,10 +67,22 @@ fn random_inputs() {
     let count = std::env::var("CASES").map_or(100_000, |count| count.parse().unwrap());
     let mut random = Random(0x9E37_79B9_7F4A_7C15);
     for _ in 0..count {
-        let (bytes, text) = (random.bytes(), random.text());
-        let space = (2 * bytes.len() + random.below(3)).saturating_sub(random.below(3));
-        encodes(&bytes, space);
-        let space = (text.len() / 2 + random.below(2)).saturating_sub(random.below(3));
-        decodes(&text, space);
+        let (bytes, text) = (&random.bytes()[..], &random.text()[..]);
+        let size = (2 * bytes.len() + random.below(3)).saturating_sub(random.below(3));
+        let theirs = encoded!(const_hex, bytes, size);
+        assert_eq!(theirs, encoded!(const_hex_proved, bytes, size), "{bytes:?}");
+        let has_prefix = text.starts_with(b"0x") || text.starts_with(b"0X");
+        let added = if has_prefix && text.len() % 2 == 0 {
+            2
+        } else {
+            0
+        };
+        let size = (text.len() / 2 + random.below(2)).saturating_sub(random.below(3));
+        let theirs = decoded!(const_hex, text, size, added);
+        assert_eq!(
+            theirs,
+            decoded!(const_hex_proved, text, size, 0),
+            "{text:?}"
+        );
     }
 }

@@ -178,10 +178,11 @@ function arraysAndViews() {
     for (const make of [copy, share, (data) => data, (data) => new Odd(data),
         (data) => new Uint8ClampedArray(data), (data) => Uint8Array.of(0, ...data, 0).subarray(1, -1),
         (data) => new Uint16Array(copy(data)), (data) => new DataView(share(data).buffer, 5, data.length)]) {
-        equal(encode(make(KIWI)), '6b697769', make);
-        equal(encode(make(new Uint8Array(100000).fill(0xab))), 'ab'.repeat(100000), make);
-        equal(resultOf(() => decode(make(utf8('6b697769')))), '6b697769', make);
-        equal(decode(make(new Uint8Array(100000).fill(0x30))).length, 50000, make);
+        for (const bytes of [KIWI, new Uint8Array(50000).fill(0xab)]) {
+            const digits = digitsOf(bytes);
+            equal(encode(make(bytes)), digits, make);
+            equal(resultOf(() => decode(make(utf8(digits)))), digits, make);
+        }
     }
     equal(Object.entries(decodeInto('6b69', new Odd(2))).join(), '0,107,1,105');
     const result = decode('6b697769');

@@ -72,7 +72,7 @@ def checked(state, text, count):
     if is_input:  # of which any character is read
         characters = at_index.load(simple(text + index), 1)
     else:
-        state.prove(count == 2, "a text that is neither in the input nor a pair")
+        state.prove(count == 2, "text that is neither in the input nor a pair")
         at_index, characters = state, state.load(text, 2)
     are_digits = z3.And(*map(is_digit, characters))
     true = (
@@ -83,7 +83,7 @@ def checked(state, text, count):
     input_is_valid = at_index.truth_for_valid_input(are_digits)
     require(
         input_is_valid is not False,
-        "a text that is never valid is read: its bytes may decide how long that takes",
+        "text that is never valid is read: its bytes may decide how long that takes",
     )
     if false := at_index.branch(z3.Not(are_digits)):
         false.is_declassified |= input_is_valid is True

@@ -143,7 +143,7 @@ class Function:
         return state.STACK_OF_CALLED if self.is_called else state.STACK, state.STACK_OF_CALLED
 
     def cases(self, state):
-        """The cases of the start, such as whether a text has a prefix."""
+        """The cases of the start, such as whether the text has a prefix."""
         return [state]
 
     def is_for(self, state):

@@ -26,7 +26,7 @@ from solver.questions import is_valid, require
 
 
 class Kernel(Function):
-    """A function with a text of 2n characters or n bytes, and perhaps an output."""
+    """A function with text of 2n characters or n bytes, and perhaps an output."""
 
     is_called = True
     name = "any text"

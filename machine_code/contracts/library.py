@@ -75,7 +75,7 @@ class Version(Exported):
 
 
 def needed(flags):
-    """The size that a text needs, in as many bits as it takes: two digits for each byte, the
+    """The size that the text needs, in as many bits as it takes: two digits for each byte, the
     prefix, and a NUL."""
     prefix, no_nul = [z3.ZeroExt(65, z3.Extract(bit, bit, flags)) for bit in (1, 2)]
     return simple(2 * z3.ZeroExt(2, N) + 2 * prefix + 1 - no_nul)
@@ -188,8 +188,8 @@ class FirstInvalid(Function):
 
 
 class Text(Exported):
-    """A function that returns true for a text of digits, whose bytes it writes if it has an output,
-    and false for another one."""
+    """A function that returns true for text of digits, whose bytes it writes if it has an output,
+    and false for other text."""
 
     name = "any text"
     empty = (("input", N),)
@@ -247,7 +247,7 @@ class Text(Exported):
 
 
 class Check(Text):
-    """check(text, length, error): whether a text can be decoded."""
+    """check(text, length, error): whether text can be decoded."""
 
     function = "check"
     regions = (TEXT, ERROR)
@@ -339,15 +339,7 @@ class DecoderUpdate(Text):
     name = "every decoder and chunk"
     parts = 6
     regions = DECODER, TEXT, OUTPUT, WRITTEN, ERROR
-    arguments = (
-        base("decoder"),
-        base("input"),
-        N,
-        base("output"),
-        SIZE,
-        base("written"),
-        base("error"),
-    )
+    arguments = base("decoder"), *Decode.arguments
     empty = BUFFERS
 
     def kinds(self, state):

@@ -73,14 +73,14 @@ def text_of(state):
 
 
 def ended(length):
-    """How many bytes of a text are written before a NUL: all, or as many as fit; or nothing, not
+    """How many bytes of the text are written before a NUL: all, or as many as fit; or nothing, not
     even a NUL."""
     truncated = z3.If(z3.ULT(length, SIZE), length, SIZE - 1)
     return z3.If(SIZE == 0, word(0), truncated)
 
 
 class Ended(Function):
-    """A function that writes a text, or as much of it as fits, and a NUL to its output, and returns
+    """A function that writes text, or as much of it as fits, and a NUL to its output, and returns
     how many bytes stand before the NUL. It writes nothing to an output of size 0."""
 
     is_declassified = True
@@ -131,7 +131,7 @@ class WriteEnded(Ended):
         (count,) = values(state.facts, n, 1)
         state.prove(message_size == SIZE, "another size")
         state.prove(z3.Or(SIZE == 0, output == base("output")), "another output")
-        require(state.ended is None and not state.writes, "a text is written before")
+        require(state.ended is None and not state.writes, "text is written before")
         state.ended = state.load(input, count) if count else []
         yield state, ended(word(count))
 

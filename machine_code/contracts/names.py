@@ -1,6 +1,6 @@
 """The functions of const_hex.h, without const_hex_ before their names. This is the one table of
-them: docs/check compares it with the header, c/asm/dispatch.S, js/module, the JavaScript, and
-the pages."""
+them: docs/check compares it with the header and the pages, and `prove` with the symbols of a library
+and the exports of the module."""
 
 import pathlib
 from collections import namedtuple

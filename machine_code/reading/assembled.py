@@ -1,6 +1,6 @@
 """The instructions of a section, as `objdump` prints them, assembled again.
 
-`objdump` prints one text for several encodings, also for some that a CPU refuses to run, and it
+`objdump` prints several encodings as the same text, also some that a CPU rejects, and it
 knows instructions that not every CPU has. So each text goes to the assembler, which knows what
 the CPU has. An instruction is rejected where it is run, unless the assembler makes the same bytes
 of its text and has nothing to say.

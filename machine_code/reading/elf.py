@@ -58,7 +58,7 @@ def _reject_shared_pages(image):
 
 
 def _reject_features(file):
-    """A system may refuse to run code without endbr64 or bti in a file that is marked so."""
+    """A system may reject code without endbr64 or bti in a file that is marked so."""
     for section in file.iter_sections("SHT_NOTE"):
         for note in section.iter_notes():
             is_of_properties = note["n_type"] == "NT_GNU_PROPERTY_TYPE_0"

@@ -9,8 +9,12 @@ import subprocess
 from collections import namedtuple
 
 SIZES, SPACE = {"i32": 4, "i64": 8, "v128": 16}, 1 << 32
-# Local functions have no names. These are known by the sizes of their arguments and results.
-LOCAL = {"const_hex_decoder_fail": ([4] * 5, []), "const_hex_kernel_read": ([4] * 3, [4])}
+# Local functions have no names. These are known by the sizes of their parameters and, after None,
+# of their results.
+LOCAL = {
+    (4, 4, 4, 4, 4, None): "const_hex_decoder_fail",
+    (4, 4, 4, None, 4): "const_hex_kernel_read",
+}
 # What a module may have beside functions, data, globals and exports.
 OTHERS = (")", "(module", "(type", "(memory (;0;) 1 1)")
 Data = namedtuple("Data", "address content")
@@ -66,20 +70,15 @@ def read(data):
     # Each part begins in a line with two spaces, and the instructions of a function follow.
     for part in re.split(r"\n  (?=\()", made.stdout.decode().rstrip().removesuffix(")")):
         _add(module, part if part.startswith("(data") else re.sub(r" *;;.*", "", part))
-    for function in module.functions:
-        _name_local(module, function)
     return module
-
-
-def _name_local(module, function):
-    for name, sizes in LOCAL.items():
-        if (function.parameters, function.results) == sizes:
-            module.symbols[name] = function.address
 
 
 def _add(module, part):
     if part.startswith("(func"):
-        module.functions.append(_function(len(module.functions), part))
+        function = _function(len(module.functions), part)
+        module.functions.append(function)
+        if name := LOCAL.get((*function.parameters, None, *function.results)):
+            module.symbols[name] = function.address
     elif fields := re.fullmatch(
         r'\(data \(;\d+;\) \(i32\.const (\d+)\) "((\\[0-9a-f]{2}|[^\\])*)"\)', part
     ):

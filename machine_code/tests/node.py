@@ -20,7 +20,7 @@ from execution.paths import step
 from execution.terms import byte, simple, word
 from meanings import webassembly
 from meanings.webassembly import EFFECTS
-from solver.questions import Rejected, public, require, secret
+from solver.questions import public, require, secret
 from build import MODULE, TOP, linked_module
 
 SIZE = 1024
@@ -109,15 +109,6 @@ def _memory(generator, is_access):
     )
 
 
-def rejected_or(meaning, *arguments):
-    """What a meaning returns. One that raises anything rejects the code, as it does in
-    execution/proofs.py."""
-    try:
-        return meaning(*arguments)
-    except Exception as error:
-        raise Rejected(f"{type(error).__name__}: {error}") from error
-
-
 class Concrete:
     """What a state does whose memory is known, except for UNKNOWN."""
 
@@ -204,7 +195,7 @@ class Node:
         state.general = {"global 0": word(self.code.object.globals[0])}
         state.address = self.code.object.symbols[name]
         state.begin(self.code.object.code_at(state.address), [], public("return", 64))
-        while after := [path for path in rejected_or(step, self.code, state) if path.is_right()]:
+        while after := [path for path in step(self.code, state) if path.is_right()]:
             require(len(after) == 1, "several paths")
             (state,) = after
         require(state.general["global 0"].eq(word(SIZE)), "another global")

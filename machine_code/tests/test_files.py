@@ -76,7 +76,7 @@ HONEST = {
     **{f"a library by {linker}": so(f"-fuse-ld={linker}") for linker in ("gold", "lld", "mold")},
     "a library with packed relocations": so("-Wl,-z,pack-relative-relocs"),
     "a library with unique symbols": so("-Wl,-z,unique-symbol"),
-    "a library that dlopen refuses": so("-Wl,-z,nodlopen,-z,initfirst,-z,interpose"),
+    "a library that dlopen rejects": so("-Wl,-z,nodlopen,-z,initfirst,-z,interpose"),
     "symbol versions": with_source("", script=VERSIONS),
     "default symbol versions": so("-Wl,--default-symver"),
     "patchelf": after(*RUNPATH),

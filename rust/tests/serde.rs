@@ -6,7 +6,8 @@ use serde::de::value::{BytesDeserializer, Error, StrDeserializer};
 use serde::de::{Error as _, IntoDeserializer, Visitor};
 use serde::{Deserialize, Deserializer, Serialize};
 
-#[derive(Debug, Deserialize, PartialEq, Serialize)]
+#[derive(Debug, Default, Deserialize, PartialEq, Serialize)]
+#[serde(default)]
 struct Fields {
     #[serde(with = "const_hex_proved")]
     prefixed: Vec<u8>,
@@ -17,32 +18,7 @@ struct Fields {
     lower: Vec<u8>,
     #[serde(serialize_with = "const_hex_proved::serde::no_prefix::serialize_upper")]
     #[serde(deserialize_with = "const_hex_proved::serde::no_prefix::deserialize")]
-    upper: [u8; 4],
-    #[serde(deserialize_with = "const_hex_proved::serde::signed::deserialize")]
-    #[serde(skip_serializing)]
-    signed: Vec<i8>,
-}
-
-#[test]
-fn all_forms() {
-    let fields = Fields {
-        prefixed: vec![0xDE, 0xAD],
-        prefixed_upper: [0xBE, 0xEF],
-        lower: b"kiwi".to_vec(),
-        upper: [0, 1, 0xAB, 0xFF],
-        signed: vec![-1],
-    };
-    let text =
-        r#"{"prefixed":"0xdead","prefixed_upper":"0xBEEF","lower":"6b697769","upper":"0001ABFF"}"#;
-    assert_eq!(serde_json::to_string(&fields).unwrap(), text);
-    let text = r#"{"prefixed":"DEAD","prefixed_upper":"beef","lower":"0x6B697769",
-        "upper":"0X0001abff","signed":"ff"}"#;
-    assert_eq!(serde_json::from_str::<Fields>(text).unwrap(), fields);
-}
-
-#[derive(Debug, Default, Deserialize, PartialEq, Serialize)]
-#[serde(default)]
-struct Several {
+    upper: [u8; 2],
     #[serde(with = "const_hex_proved::serde::option")]
     option: Option<[u8; 2]>,
     #[serde(with = "const_hex_proved::serde::vec")]
@@ -57,6 +33,9 @@ struct Several {
     strict_option: Option<[u8; 1]>,
     #[serde(with = "const_hex_proved::serde::strict::vec")]
     strict_vec: Vec<Box<[u8]>>,
+    #[serde(deserialize_with = "const_hex_proved::serde::signed::deserialize")]
+    #[serde(skip_serializing)]
+    signed: Vec<i8>,
     #[serde(deserialize_with = "const_hex_proved::serde::signed::option::deserialize")]
     #[serde(skip_serializing)]
     signed_option: Option<[i8; 1]>,
@@ -66,9 +45,13 @@ struct Several {
 }
 
 #[test]
-fn options_and_vectors() {
-    let text = r#"{"option":"0xdead","vec":["0x6b69","0x"],"bare_option":"6b","bare_vec":["6b","69"],"strict":"6b","strict_option":"69","strict_vec":["6b","6977"]}"#;
-    let mut several = Several {
+fn all_forms() {
+    let text = r#"{"prefixed":"0xdead","prefixed_upper":"0xBEEF","lower":"6bff","upper":"01AB","option":"0xdead","vec":["0x6b69","0x"],"bare_option":"6b","bare_vec":["6b","69"],"strict":"6b","strict_option":"69","strict_vec":["6b","6977"]}"#;
+    let mut fields = Fields {
+        prefixed: vec![0xDE, 0xAD],
+        prefixed_upper: [0xBE, 0xEF],
+        lower: b"k\xFF".to_vec(),
+        upper: [1, 0xAB],
         option: Some([0xDE, 0xAD]),
         vec: vec![b"ki".to_vec(), Vec::new()],
         bare_option: Some(b"k".to_vec()),
@@ -76,24 +59,30 @@ fn options_and_vectors() {
         strict: b"k".to_vec(),
         strict_option: Some(*b"i"),
         strict_vec: vec![b"k"[..].into(), b"iw"[..].into()],
-        ..Several::default()
+        ..Fields::default()
     };
-    assert_eq!(serde_json::to_string(&several).unwrap(), text);
-    let text = text.replace('}', r#","signed_option":"0xff","signed_vec":["80"]}"#);
-    (several.signed_option, several.signed_vec) = (Some([-1]), vec![[-128]]);
+    assert_eq!(serde_json::to_string(&fields).unwrap(), text);
+    let text = text.replace(
+        '}',
+        r#","signed":"ff","signed_option":"0xff","signed_vec":["80"]}"#,
+    );
+    fields.signed = vec![-1];
+    (fields.signed_option, fields.signed_vec) = (Some([-1]), vec![[-128]]);
     // A prefix may be there or not.
-    let other = text
-        .replace("0xdead", "dead")
-        .replace(r#"n":"6b"#, r#"n":"0X6B"#);
-    for text in [text, other] {
-        assert_eq!(serde_json::from_str::<Several>(&text).unwrap(), several);
+    let other = text.replace("0xdead", "DEAD").replace("6bff", "0X6Bff");
+    for text in [text, other.replace(r#"n":"6b"#, r#"n":"0X6B"#)] {
+        assert_eq!(serde_json::from_str::<Fields>(&text).unwrap(), fields);
     }
-    let empty = r#"{"option":null,"vec":[],"bare_option":null,"bare_vec":[],"strict":"","strict_option":null,"strict_vec":[]}"#;
-    assert_eq!(serde_json::to_string(&Several::default()).unwrap(), empty);
-    // A field may be missing or nothing, and a vector empty.
-    for text in ["{}", empty, r#"{"signed_option":null}"#] {
-        let found = serde_json::from_str::<Several>(text).unwrap();
-        assert_eq!(found, Several::default());
+}
+
+/// A field may be missing or nothing, and a vector empty.
+#[test]
+fn empty_fields() {
+    let empty = serde_json::to_string(&Fields::default()).unwrap();
+    assert!(empty.ends_with(r#""option":null,"vec":[],"bare_option":null,"bare_vec":[],"strict":"","strict_option":null,"strict_vec":[]}"#));
+    for text in ["{}", &empty, r#"{"signed_option":null}"#] {
+        let found = serde_json::from_str::<Fields>(text).unwrap();
+        assert_eq!(found, Fields::default());
     }
 }
 
@@ -120,7 +109,7 @@ fn errors_in_options_and_vectors() {
         (r#""strict_option":"0x""#, x_at_1),
         (r#""strict_vec":["","0x6b"]"#, x_at_1),
     ] {
-        let found = serde_json::from_str::<Several>(&format!("{{{field}}}")).unwrap_err();
+        let found = serde_json::from_str::<Fields>(&format!("{{{field}}}")).unwrap_err();
         assert!(found.to_string().contains(error), "{field}: {found}");
     }
 }

@@ -37,6 +37,9 @@ fn decode<R: Read, W: Write>(input: &mut R, output: &mut W) -> Result<(), RunErr
         × (i ≡ counted (length x)) × AllDigits (body_of x) × (AllDigits (body_of (x ++ c ∷ [])) → ⊥)
         × Spells (take (2 * (length (body_of x) / 2)) (body_of x)) y
         × Appends (W.contents output.old) (W.contents output.new) y) }
+    ensures begun { OnErr result ((x : List ℕ) × (y : List ℕ)
+        × Consumes (R.remaining input.old) (R.remaining input.new) x
+        × Spells (take (2 * length y) (body_of x)) y × Appends (W.contents output.old) (W.contents output.new) y) }
     ensures retried { (e : Error) → (result ≡ Err (Read e)) ⊎ (result ≡ Err (Write e)) → error_kind e ≢ Interrupted }
 {
     let groups = Groups {

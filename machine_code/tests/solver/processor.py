@@ -23,7 +23,7 @@ from execution.paths import Branch
 from execution.proofs import PROCESSORS
 from execution.terms import simple, word
 from hints.loops import successors
-from node import BYTES, EDGES, rejected_or
+from node import BYTES, EDGES
 from reading import library
 from solver.questions import require
 
@@ -196,7 +196,7 @@ class Processor:
         )
         self.process.stdin.flush()
         after = self.process.stdout.read(len(request))
-        to = rejected_or(self.meanings.HANDLERS[i.mnemonic], state, *i.operands)
+        to = self.meanings.HANDLERS[i.mnemonic](state, *i.operands)
         return ", ".join(self._compared(state, old, after, target, to))
 
     def _compared(self, state, old, after, target, to):

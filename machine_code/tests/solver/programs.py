@@ -125,7 +125,7 @@ def text_of(build):
 
 def parts_of(build, function):
     """Where functions, constants or macros of a build with such a name begin and end; in the
-    module, where a function does that is exported, or has such a text."""
+    module, where a function does that is exported, or has such text."""
     text = text_of(build)
     if build == WASM:
         bodies = list(re.finditer(r"^\(func .*\n(?:\(local.*\n)?((?:(?!\().*\n)*)", text, re.M))

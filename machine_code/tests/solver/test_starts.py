@@ -25,7 +25,7 @@ def random_text():
 
 
 def is_start(state, text, decoder):
-    """Whether what is known at a start may hold with a text and a decoder, of buffers that are not
+    """Whether what is known at a start may hold with some text and a decoder, of buffers that are not
     NULL."""
     solver = z3.SolverFor("QF_BV")
     solver.add(*[fact.term for fact in state.facts], base("input") != 0, base("output") != 0)

@@ -21,20 +21,20 @@
 	sete   al
 	ret
 2:
+	movdqu xmm1,XMMWORD PTR [rdi]
 	cmp    rsi,0x20
 	ja     4f
-	movdqu xmm0,XMMWORD PTR [rdi]
-	movdqu xmm1,XMMWORD PTR [rdi+rsi*1-0x10]
+	movdqu xmm0,XMMWORD PTR [rdi+rsi*1-0x10]
 	movdqa xmm2,XMMWORD PTR [rip + const_hex_1_0_0_constant_1_v2]
 	movdqa xmm3,XMMWORD PTR [rip + const_hex_1_0_0_constant_2_v2]
 	movdqa xmm4,xmm3
-	pshufb xmm4,xmm0
-	paddb  xmm0,xmm2
-	psubusb xmm0,xmm4
-	paddb  xmm2,xmm1
-	pshufb xmm3,xmm1
+	pshufb xmm4,xmm1
+	paddb  xmm1,xmm2
+	psubusb xmm1,xmm4
+	paddb  xmm2,xmm0
+	pshufb xmm3,xmm0
 	psubusb xmm2,xmm3
-	por    xmm2,xmm0
+	por    xmm2,xmm1
 	ptest  xmm2,XMMWORD PTR [rip + const_hex_1_0_0_constant_3_v2]
 	sete   al
 	ret
@@ -48,7 +48,6 @@
 	pinsrd xmm0,eax,0x3
 	jmp    7f
 4:
-	movdqu xmm1,XMMWORD PTR [rdi]
 	movdqa xmm2,XMMWORD PTR [rip + const_hex_1_0_0_constant_1_v2]
 	paddb  xmm2,xmm1
 	movdqa xmm0,XMMWORD PTR [rip + const_hex_1_0_0_constant_2_v2]
@@ -89,7 +88,7 @@
 	cmp    rsi,0x51
 	jb     12f
 	lea    rcx,[rsi-0x10]
-	nop
+	.byte 0xf, 0x1f, 0x44, 0x0, 0x0  /* nop    DWORD PTR [rax+rax*1+0x0] */
 9:
 	movdqa xmm1,XMMWORD PTR [rip + const_hex_1_0_0_constant_1_v2]
 	movdqu xmm2,XMMWORD PTR [rdi+rax*1]

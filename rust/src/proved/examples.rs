@@ -5,6 +5,13 @@ use crate::proved::examples as const_hex;
 use crate::std_shim::prelude::*;
 
 #[test]
+fn arch_by_length_bylength() {
+    let mut text = [0; 8];
+    CheckFirst::<Plain>::fill(b"kiwi", false, &mut text);
+    assert_eq!(text, *b"6b697769");
+}
+
+#[test]
 fn arch_check_first_checkfirst() {
     let mut bytes = [0; 2];
     assert!(!CheckFirst::<Plain>::decode_checked(b"6bzz", &mut bytes));

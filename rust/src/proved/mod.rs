@@ -28,8 +28,8 @@ pub use self::error::*;
 //    2  a formatter has a lifetime in place of its writer's type
 //   54  all crates are one module
 //    2  an allocation never fails: without memory the program ends
-//   78  an assertion names no runtime
-//    2  an example names a kernel that each target has
+//   79  an assertion names no runtime
+//    3  an example names a kernel that each target has
 //    4  an example uses no allocator
 //    2  and a constant converts by a cast
 //    1  and an error is borrowed
@@ -37,8 +37,8 @@ pub use self::error::*;
 //   13  and panics instead of returning an error
 //    1  and the crate's decoder is cloned
 //    2  before it reads a part, or ends
-//   47  deleted: attribute
-//  427  deleted: clause
+//   46  deleted: attribute
+//  424  deleted: clause
 //   78  deleted: ghost item
 //    3  deleted: model
 //    5  deleted: output

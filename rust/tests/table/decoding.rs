@@ -23,7 +23,8 @@ pub fn read(line: &Line) {
     let text = &line.input[..];
     same!(line, line.result;
         decode(text), Vec::<u8>::from_hex(text), <Box<[u8]>>::from_hex(text).map(Vec::from),
-        unsigned(<Vec<i8> as signed::FromHex>::from_hex(text)), append(text),
+        unsigned(<Vec<i8> as signed::FromHex>::from_hex(text)), append(text, 4),
+        append(text, 4 + text.len()),
     );
     same!(line, line.checked(); check(text), const_check(text));
     let strict = without_prefix(line, text.len() / 2);
@@ -38,6 +39,10 @@ pub fn read(line: &Line) {
         if let Ok(bytes) = &line.result {
             assert_eq!(output[..count], bytes[..]);
         }
+    }
+    if count > 0 && line.result != Err(OddLength) {
+        let too_small = &mut vec![0; count - 1];
+        same!(line, Err(InvalidStringLength); decode_to_front(text, too_small));
     }
     read_without_prefix(line, count);
     // A decoder reports an invalid character before an odd length.
@@ -68,8 +73,9 @@ fn read_without_prefix(line: &Line, length: usize) {
 }
 
 /// What is appended follows what is there, which an error leaves alone.
-fn append(text: &[u8]) -> Decoded {
-    let mut all = b"kiwi".to_vec();
+fn append(text: &[u8], capacity: usize) -> Decoded {
+    let mut all = Vec::with_capacity(capacity);
+    all.extend(b"kiwi");
     let result = decode_append(text, &mut all);
     let bytes = all.split_off(4);
     assert_eq!((&all[..], bytes.len()), (&b"kiwi"[..], result.unwrap_or(0)));
@@ -91,6 +97,7 @@ fn read_array<const N: usize>(line: &Line) {
     same!(line, strict;
         strict::decode_to_array::<_, N>(text).map(Vec::from),
         <[u8; N] as strict::FromHex>::from_hex(text).map(Vec::from),
+        <Box<[u8; N]> as strict::FromHex>::from_hex(text).map(|bytes| bytes.to_vec()),
     );
     let secret = strict.map_err(error_of_secret);
     same!(line, secret; secret::decode_to_array::<_, N>(text).map(Vec::from));
@@ -132,14 +139,15 @@ pub fn message(line: &Line, length: Option<usize>) {
     }
 }
 
-/// A text that is cut into two, at each place or, if it is long, at some, and one in single bytes.
+/// A text that is cut into two, at each place or, if it is long, at some, and one in single bytes or in small chunks.
 pub fn read_chunks(line: &Line) {
     let text = &line.input[..];
-    for cut in (0..=text.len()).step_by(1 + text.len() / 200) {
+    let step = if text.len() < 10_000 { 1 } else { 100_003 };
+    for cut in (0..=text.len()).step_by(step) {
         same!(line, line.result; decode_chunks(&[&text[..cut], &text[cut..]]));
     }
-    let single: Vec<&[u8]> = text.chunks(1).collect();
-    same!(line, line.result; decode_chunks(&single), read_all(text));
+    let small: Vec<&[u8]> = text.chunks(step.min(4099)).collect();
+    same!(line, line.result; decode_chunks(&small), read_all(text));
 }
 
 /// The bytes that chunks decode to.

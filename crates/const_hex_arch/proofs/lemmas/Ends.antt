@@ -23,19 +23,25 @@ hex_text-parts up k bs h =
 
 -- ---- digits
 
--- of what a step holds: the first and the last bytes of a list, and digits
+-- the first n and the last n bytes
+pub digits_pair : (n : ℕ) (u : List ℕ) → n ≤ length u → length u ≤ 2 * n
+    → AllDigits (take n u ++ drop (length u - n) u) ↔ AllDigits u
+digits_pair n u h k =
+    let start = length u - n in
+    let pair = digits_append (take n u) (drop start u) in (
+      λ d.
+          let both = pair.0 d in
+          (digits_last u n start (omega arith) both.0).0 (rw (take_rest u start) both.1),
+      λ d. pair.1 (All-take IsDigit n u d, All-drop IsDigit start u d),
+    )
+
+-- these in a step, and digits after them
 pub digits_ends : (n : ℕ) (u step : List ℕ) → n ≤ length u → length u ≤ 2 * n
     → take (2 * n) step ≡ take n u ++ drop (length u - n) u
     → AllDigits (drop (2 * n) step) → AllDigits step ↔ AllDigits u
 digits_ends n u step h k e rest =
-    let start = length u - n in
     let all = digits_parts (2 * n) step in
-    let pair = digits_append (take n u) (drop start u) in (
-      λ d.
-          let both = pair.0 (rw e at (all.0 d).0) in
-          (digits_last u n start (omega arith) both.0).0 (rw (take_rest u start) both.1),
-      λ d. all.1 (rw e (pair.1 (All-take IsDigit n u d, All-drop IsDigit start u d)), rest),
-    )
+    let pair = digits_pair n u h k in (λ d. pair.0 (rw e at (all.0 d).0), λ d. all.1 (rw e (pair.1 d), rest))
 
 -- what the first d and the last d digits decode to, put into place
 pub spells_ends : (h d n : ℕ) (u step bytes : List ℕ) → d ≡ 2 * h → length u ≡ 2 * n → h ≤ n → n ≤ 2 * h

@@ -31,20 +31,6 @@ digits_last u i e h d = (
   λ whole. rw take_rest (All-drop IsDigit e u whole),
 )
 
--- the first bytes are digits, and so are all bytes, from those up to `end`, and those after e, which is not past it
-pub digits_rest : (u : List ℕ) (i end e : ℕ) → i ≤ end → e ≤ end → AllDigits (take i u)
-    → AllDigits (take (end - i) (drop i u) ++ take (length u - e) (drop e u)) ↔ AllDigits u
-digits_rest u i end e h k d =
-    let both = digits_append (take (end - i) (drop i u)) (take (length u - e) (drop e u)) in (
-      λ t.
-          let pair = both.0 t in
-          (digits_last u end e k (digits_step u i (end - i) end (omega arith) d pair.0)).0 pair.1,
-      λ all. both.1 (
-        All-take IsDigit (end - i) (drop i u) (All-drop IsDigit i u all),
-        All-take IsDigit (length u - e) (drop e u) (All-drop IsDigit e u all),
-      ),
-    )
-
 -- a part of ASCII text
 pub part_ascii : (u front rest part after : List ℕ) → front ++ rest ≡ u → part ++ after ≡ rest → IsAscii u
     → IsAscii part

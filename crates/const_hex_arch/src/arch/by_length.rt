@@ -10,6 +10,12 @@ use crate::arch::{Kernel, long, short, steps};
 use std::marker::PhantomData;
 
 /// A kernel whose steps have `N` lanes, and 16 for what is shorter. `V` has the operations on their vectors.
+///
+/// ```rust
+/// let mut text = [0; 8];
+/// Lanes16::fill(b"kiwi", false, &mut text);
+/// assert_eq!(rt; text, *b"6b697769");
+/// ```
 #[derive(Drop)]
 pub struct ByLength<const N: usize, V> {
     operations: PhantomData<V>,

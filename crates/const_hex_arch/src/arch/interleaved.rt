@@ -1,15 +1,15 @@
 //! The kernel for AArch64, whose vector instructions interleave the lanes of two vectors, and take them apart.
 
-ghost use Rattle.std.specs.Prelude.{◌≡◌, ◌↔◌, [], ◌∷◌, ◌*◌, ◌<◌, ◌++◌, length, take, map, IsTrue, false};
-ghost use Rattle.std.specs.List.{AllZip, concat};
+ghost use Rattle.std.specs.Prelude.{◌≡◌, ◌↔◌, ◌<◌, ◌++◌, length, IsTrue};
+ghost use Rattle.std.specs.List.{AllZip};
 ghost use Rattle.const_hex_arch.specs.{hex_text, AllNibbles, AllUnmarked, byte_pairs, IsLimitOf};
 
 use crate::arch::by_length::ByLength;
 use crate::arch::lanes::{LaneOps, Multiplying};
-use crate::arch::lanes16;
+use crate::arch::{lanes16, lanes32};
 use std::simd::prelude::*;
 
-/// As [`Lanes32`], for a processor that interleaves the lanes of two vectors by one instruction.
+/// As [`Lanes32`](crate::Lanes32), for a processor that interleaves the lanes of two vectors by one instruction.
 ///
 /// ```rust
 /// let mut bytes = [0; 4];
@@ -69,9 +69,7 @@ impl LaneOps<32> for Interleaving {
         requires { length output.old ≡ 64 }
         ensures { output.new ≡ hex_text upper v }
     {
-        let (front, back) = output.split_at_mut(32);
-        <Interleaving as LaneOps<16>>::write_digits(v.extract::<0, 16>(), upper, front);
-        <Interleaving as LaneOps<16>>::write_digits(v.extract::<16, 16>(), upper, back);
+        lanes32::write_halves::<Interleaving>(v, upper, output);
     }
 
     #[inline(always)]

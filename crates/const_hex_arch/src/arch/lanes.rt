@@ -3,7 +3,7 @@
 //! example.
 
 ghost use Rattle.std.specs.Prelude.{◌≡◌, ◌*◌, ◌/◌, ◌++◌, ◌≤◌, ◌↔◌, length, map, IsTrue};
-ghost use Rattle.std.specs.List.{AllZip, concat};
+ghost use Rattle.std.specs.List.{AllZip};
 ghost use Rattle.const_hex_arch.specs.{hex_value, hex_text, AllDigits, Spells, AllNibbles, AllUnmarked, byte_pairs, as_value, IsValueOf, IsPartOf, IsLimitOf, IsMarkOf};
 
 use std::simd::prelude::*;

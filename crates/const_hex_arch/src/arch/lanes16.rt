@@ -3,7 +3,7 @@
 //! Each of these calls has a contract for every vector: [`encode_chunk`], [`check_chunk`],
 //! [`decode_chunk`], [`nibbles`] and [`unhex`].
 
-ghost use Rattle.std.specs.Prelude.{◌≡◌, ◌↔◌, [], ◌∷◌, ◌++◌, length, take, map, replicate, IsTrue, false, IsNone, IfSome};
+ghost use Rattle.std.specs.Prelude.{◌≡◌, ◌↔◌, [], ◌∷◌, ◌++◌, length, take, map, replicate, IsTrue, IsNone, IfSome};
 ghost use Rattle.std.specs.List.{AllZip, concat, range_with_len};
 ghost use Rattle.const_hex_arch.specs.{hex_digit, hex_value, hex_text, AllDigits, Spells, AllNibbles, AllUnmarked, byte_pairs, halves_of, as_value, IsValueOf, IsLimitOf};
 
@@ -243,10 +243,9 @@ fn decode_flagged(text: [u8x16; 2]) -> (u8x16, bool)
     ensures digits { IsTrue result.1 ↔ AllDigits (concat text) }
     ensures spells { IsTrue result.1 → Spells (concat text) result.0 }
 {
-    let are_digits = lanes::are_all_digits::<16, Multiplying>(text[0], text[1]);
     (
         lanes::decode::<16, Multiplying>(text[0], text[1]),
-        are_digits,
+        lanes::are_all_digits::<16, Multiplying>(text[0], text[1]),
     )
 }
 

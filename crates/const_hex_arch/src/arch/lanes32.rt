@@ -3,7 +3,7 @@
 //! Each of these calls has a contract for every vector: [`encode_chunk`], [`check_chunk`],
 //! [`decode_chunk`], [`nibbles`] and [`unhex`].
 
-ghost use Rattle.std.specs.Prelude.{◌≡◌, ◌↔◌, [], ◌∷◌, ◌++◌, length, map, IsTrue, false, IsNone, IfSome};
+ghost use Rattle.std.specs.Prelude.{◌≡◌, ◌↔◌, [], ◌∷◌, ◌++◌, length, map, IsTrue, IsNone, IfSome};
 ghost use Rattle.std.specs.List.{AllZip, concat};
 ghost use Rattle.const_hex_arch.specs.{hex_value, hex_text, AllDigits, Spells, AllNibbles, AllUnmarked, byte_pairs, as_value, IsValueOf, IsLimitOf};
 
@@ -86,9 +86,11 @@ pub fn unhex(v: u8x32) -> u8x32
 }
 
 /// The kernel for vectors of 32 lanes. It encodes 32 bytes, checks 32 characters and decodes 64
-/// characters at a time. The remainder is encoded and checked together with what stands before it.
-/// Decoding takes at most one step of half that size, by 16 lanes, and then goes on as
-/// [`Lanes16`].
+/// characters at a time. The remainder is encoded, checked and decoded together with what stands
+/// before it, as one more vector that overlaps the last one. Vectors of 16 lanes take up to 32 bytes
+/// to encode or characters to check, and up to 16 bytes to decode. After an invalid character was
+/// found, the steps before it are decoded again, at most one step of 16 lanes after them, and then
+/// the pairs before it.
 ///
 /// ```rust
 /// let mut bytes = [0; 4];
@@ -103,9 +105,7 @@ impl LaneOps<32> for Multiplying {
         requires { length output.old ≡ 64 }
         ensures { output.new ≡ hex_text upper v }
     {
-        let (front, back) = output.split_at_mut(32);
-        <Multiplying as LaneOps<16>>::write_digits(v.extract::<0, 16>(), upper, front);
-        <Multiplying as LaneOps<16>>::write_digits(v.extract::<16, 16>(), upper, back);
+        write_halves::<Multiplying>(v, upper, output);
     }
 
     // In halves of 16 lanes, for which the mask costs nothing. With AVX2 the compiler makes one shuffle
@@ -139,6 +139,17 @@ impl LaneOps<32> for Multiplying {
     ghost sizes = { (Prim.omega arith, Prim.omega arith, Prim.omega arith) };
 }
 
+/// Fills the output with two digits for each lane, in order, by 16 lanes at a time.
+#[inline(always)]
+pub(crate) fn write_halves<V: LaneOps<16>>(v: u8x32, upper: bool, output: &mut [u8])
+    requires { length output.old ≡ 64 }
+    ensures { output.new ≡ hex_text upper v }
+{
+    let (front, back) = output.split_at_mut(32);
+    V::write_digits(v.extract::<0, 16>(), upper, front);
+    V::write_digits(v.extract::<16, 16>(), upper, back);
+}
+
 /// Decodes the lanes of a text, and says whether each of these lanes is a digit. If one is not, the
 /// bytes are unspecified.
 // Once for each width: Rattle has no rule yet for a tuple with a vector of any number of lanes.
@@ -148,10 +159,9 @@ fn decode_flagged(text: [u8x32; 2]) -> (u8x32, bool)
     ensures digits { IsTrue result.1 ↔ AllDigits (concat text) }
     ensures spells { IsTrue result.1 → Spells (concat text) result.0 }
 {
-    let are_digits = lanes::are_all_digits::<32, Multiplying>(text[0], text[1]);
     (
         lanes::decode::<32, Multiplying>(text[0], text[1]),
-        are_digits,
+        lanes::are_all_digits::<32, Multiplying>(text[0], text[1]),
     )
 }
 

@@ -1,10 +1,9 @@
 //! Short inputs: all of their bytes are among the first and the last ones, which one or two vectors hold.
 //!
-//! `V` has the operations on vectors. Where the first and the last bytes overlap, some are encoded, checked or decoded
-//! twice.
+//! `V` has the operations on vectors. Where the first and the last bytes overlap, some are taken twice.
 
 ghost use Rattle.std.specs.Prelude.{◌≡◌, [], ◌∷◌, ◌*◌, ◌-◌, ◌<◌, ◌≤◌, ◌++◌, ◌↔◌, length, take, drop, IsTrue, false};
-ghost use Rattle.const_hex_arch.specs.{IsDigit, AllDigits, Spells, hex_text};
+ghost use Rattle.const_hex_arch.specs.{AllDigits, Spells, hex_text};
 
 use crate::arch::lanes::{self, LaneOps};
 use crate::arch::{lanes16, steps};
@@ -115,7 +114,8 @@ pub(crate) fn check_pair<const N: usize, V: LaneOps<N>>(text: &[u8]) -> bool
     requires most { length text.now ≤ 2 * N }
     ensures { IsTrue result ↔ AllDigits text.now }
 {
-    steps::check_pair::<N, V>(&text[..N], &text[text.len() - N..])
+    let first = Simd::from_slice(text);
+    lanes::are_all_digits::<N, V>(first, Simd::from_slice(&text[text.len() - N..]))
 }
 
 /// Decodes a text to at most 16 bytes and returns true. If some character is invalid, returns false, and the output is
@@ -196,11 +196,11 @@ pub(crate) fn decode_pair<const N: usize, V: LaneOps<N>>(
     ensures spells { IsTrue result → Spells text.now output.new }
     ensures unchanged { result ≡ false → output.new ≡ output.old }
 {
-    let (first, last) = (&text[..N], &text[text.len() - N..]);
-    let are_digits = steps::check_pair::<N, V>(first, last);
+    let are_digits = check_pair::<N, V>(text);
     if are_digits {
-        let bytes = lanes::decode::<N, V>(Simd::from_slice(first), Simd::from_slice(last));
-        put_ends(&bytes.to_array(), half, output);
+        let first = Simd::from_slice(text);
+        let last = Simd::from_slice(&text[text.len() - N..]);
+        put_ends(&lanes::decode::<N, V>(first, last).to_array(), half, output);
     }
     are_digits
 }

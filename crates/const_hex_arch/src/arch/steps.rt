@@ -2,8 +2,8 @@
 //!
 //! `V` has the `N` lanes of a step.
 
-ghost use Rattle.std.specs.Prelude.{◌≡◌, ◌-◌, ◌*◌, ◌≤◌, ◌++◌, ◌↔◌, IsTrue, false, length, take, drop};
-ghost use Rattle.const_hex_arch.specs.{IsDigit, hex_text, AllDigits, Spells, AllUnmarked};
+ghost use Rattle.std.specs.Prelude.{◌≡◌, ◌*◌, ◌↔◌, IsTrue, false, length};
+ghost use Rattle.const_hex_arch.specs.{hex_text, AllDigits, Spells, AllUnmarked};
 
 use crate::arch::lanes::{self, LaneOps};
 use std::simd::prelude::*;
@@ -29,19 +29,8 @@ pub(crate) fn check_step<const N: usize, V: LaneOps<N>>(text: &[u8]) -> bool
     lanes::are_digits::<N, V>(Simd::from_slice(text))
 }
 
-/// As `check_step`, for two steps that need not follow one another, by one test.
-#[inline(always)]
-#[tactic(auto, using(std::proofs::lemmas::List::take_all))]
-pub(crate) fn check_pair<const N: usize, V: LaneOps<N>>(first: &[u8], second: &[u8]) -> bool
-    requires first { length first.now ≡ N }
-    requires second { length second.now ≡ N }
-    ensures { IsTrue result ↔ AllDigits (first.now ++ second.now) }
-{
-    lanes::are_all_digits::<N, V>(Simd::from_slice(first), Simd::from_slice(second))
-}
-
 /// As `check_step`, for the text of two steps, by one test.
-// Not by `check_pair` of its halves, which would make the proof of `decode_step` longer.
+// Not by `lanes::are_all_digits`, which would make the proof of `decode_step` longer.
 #[inline(always)]
 #[tactic(auto, using(crate::proofs::lemmas::Standard::through))]
 pub(crate) fn check_two_steps<const N: usize, V: LaneOps<N>>(text: &[u8]) -> bool

@@ -1,10 +1,10 @@
 //! A response of Ethereum's JSON-RPC that has a contract's code.
 
-ghost use Rattle.std.specs.Prelude.{◌≡◌, ◌↔◌, codes, string_bytes, None, Ok, Err, IfOk, IfSome, option_and_then};
+ghost use Rattle.std.specs.Prelude.{◌≡◌, ◌↔◌, ◌++◌, ℕ, codes, decimal, string_bytes, None, Ok, Err, IfOk, IfSome, option_and_then};
 ghost use Rattle.serde_json.specs.Find.{as_str, get};
 ghost use Rattle.serde_json.specs.View.{view};
 ghost use Rattle.const_hex.specs.Prelude.{Reads};
-ghost use Rattle.const_hex.specs.declared.error.FromHexError.TheVariants.{OddLength};
+ghost use Rattle.const_hex.specs.declared.error.FromHexError.TheVariants.{InvalidHexCharacter, InvalidStringLength, OddLength};
 ghost use Rattle.const_hex.specs.declared.serde.error.JsonError.TheVariants.{Hex, NotText};
 
 use const_hex::{FromHexError, JsonError, deserialize};
@@ -31,6 +31,10 @@ pub fn reason(alloc: Global, error: &JsonError<FromHexError>) -> Result<String, 
         → IfOk result (λ s. string_bytes s ≡ codes "expected a hex encoded string") }
     ensures odd { error.now ≡ Hex OddLength
         → IfOk result (λ s. string_bytes s ≡ codes "odd number of digits") }
+    ensures length { error.now ≡ Hex InvalidStringLength
+        → IfOk result (λ s. string_bytes s ≡ codes "invalid string length") }
+    ensures space { (i : ℕ) → error.now ≡ Hex (InvalidHexCharacter 32 i)
+        → IfOk result (λ s. string_bytes s ≡ codes "invalid character ' ' at position " ++ decimal i) }
 {
     format!(in alloc; "{error}")
 }

@@ -95,11 +95,14 @@ pub fn replace_whole_key(key: &mut [u8; 32], text: &[u8]) -> Result<(), FromHexE
     decode_to_slice_with::<CheckFirst<FixedKernel>>(text, key)
 }
 
-/// Reads a salt of at most 64 bytes, and returns its number of bytes. An odd number of digits is
-/// always reported as such, also if there are more than 128.
+/// Reads a salt of at most 64 bytes, and returns its number of bytes. The rest of the array is unchanged. An odd number
+/// of digits is always reported as such, also if there are more than 128, and leaves the array unchanged.
 pub fn read_salt(text: &[u8], salt: &mut [u8; 64]) -> Result<usize, FromHexError>
     ensures read { IfOk result (λ n. Reads text.now (Ok (take n salt.new))) }
+    ensures rest { IfOk result (λ n. (length (body_of text.now) ≡ 2 * n) × (drop n salt.new ≡ drop n salt.old)) }
     ensures odd { (result ≡ Err OddLength) ↔ IsOdd (length text.now) }
+    ensures kept { IfErr result (λ e. (e ≡ OddLength) ⊎ (e ≡ InvalidStringLength)
+        → salt.new ≡ salt.old) }
 {
     decode_to_front(text, salt)
 }

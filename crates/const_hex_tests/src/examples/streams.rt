@@ -1,6 +1,6 @@
 //! A text in chunks.
 
-ghost use Rattle.std.specs.Prelude.{◌≡◌, ◌≢◌, ◌/◌, ◌<◌, ◌↔◌, ℕ, length, IfOk, IfErr, IfSome, Some, Err};
+ghost use Rattle.std.specs.Prelude.{◌≡◌, ◌≢◌, ◌/◌, ◌<◌, ◌↔◌, ℕ, drop, length, IfOk, IfErr, IfSome, Some, Err};
 ghost use Rattle.const_hex.specs.Prelude.{error_of, body_of, AllDigits};
 ghost use Rattle.const_hex.specs.Results.{NamesFirstBad};
 ghost use Rattle.const_hex.specs.declared.error.FromHexError.{FromHexError};
@@ -57,6 +57,7 @@ pub fn decode_where_it_fits(
         ↔ (length small.old < length (body_of text.now) / 2) }
     ensures other { result.0 ≡ Err InvalidStringLength → (small.new ≡ small.old)
         × IfOk result.1 (λ n. AllDigits (body_of text.now) × (n ≡ length (body_of text.now) / 2)) }
+    ensures rest { IfOk result.1 (λ n. drop n large.new ≡ drop n large.old) }
 {
     let mut decoder = Decoder::new();
     let first = decoder.decode(text, small);

@@ -158,10 +158,9 @@ pub(crate) fn split_lanes(v: u8x16) -> u8x32 {
 // Once for each width: Rattle has no rule yet for a tuple with a vector of any number of lanes.
 #[inline(always)]
 fn decode_flagged(text: [u8x16; 2]) -> (u8x16, bool) {
-    let are_digits = lanes::are_all_digits::<16, Multiplying>(text[0], text[1]);
     (
         lanes::decode::<16, Multiplying>(text[0], text[1]),
-        are_digits,
+        lanes::are_all_digits::<16, Multiplying>(text[0], text[1]),
     )
 }
 

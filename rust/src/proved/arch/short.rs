@@ -1,8 +1,7 @@
 // Made by rust/erase from crates/const_hex_arch/src/arch/short.rt. Do not edit.
 //! Short inputs: all of their bytes are among the first and the last ones, which one or two vectors hold.
 //!
-//! `V` has the operations on vectors. Where the first and the last bytes overlap, some are encoded, checked or decoded
-//! twice.
+//! `V` has the operations on vectors. Where the first and the last bytes overlap, some are taken twice.
 
 use crate::std_shim::prelude::*;
 use crate::proved::arch::lanes::{self, LaneOps};
@@ -79,7 +78,8 @@ fn check_two<V: LaneOps<16>>(first: u8, second: u8) -> bool {
 /// Whether every one of `N` to `2 * N` bytes is a digit: one test covers the first `N` and the last `N`.
 #[inline(always)]
 pub(crate) fn check_pair<const N: usize, V: LaneOps<N>>(text: &[u8]) -> bool {
-    steps::check_pair::<N, V>(&text[..N], &text[text.len() - N..])
+    let first = Simd::from_slice(text);
+    lanes::are_all_digits::<N, V>(first, Simd::from_slice(&text[text.len() - N..]))
 }
 
 /// Decodes a text to at most 16 bytes and returns true. If some character is invalid, returns false, and the output is
@@ -130,11 +130,11 @@ pub(crate) fn decode_pair<const N: usize, V: LaneOps<N>>(
     half: usize,
     output: &mut [u8],
 ) -> bool {
-    let (first, last) = (&text[..N], &text[text.len() - N..]);
-    let are_digits = steps::check_pair::<N, V>(first, last);
+    let are_digits = check_pair::<N, V>(text);
     if are_digits {
-        let bytes = lanes::decode::<N, V>(Simd::from_slice(first), Simd::from_slice(last));
-        put_ends(&bytes.to_array(), half, output);
+        let first = Simd::from_slice(text);
+        let last = Simd::from_slice(&text[text.len() - N..]);
+        put_ends(&lanes::decode::<N, V>(first, last).to_array(), half, output);
     }
     are_digits
 }

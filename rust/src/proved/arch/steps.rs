@@ -19,14 +19,8 @@ pub(crate) fn check_step<const N: usize, V: LaneOps<N>>(text: &[u8]) -> bool {
     lanes::are_digits::<N, V>(Simd::from_slice(text))
 }
 
-/// As `check_step`, for two steps that need not follow one another, by one test.
-#[inline(always)]
-pub(crate) fn check_pair<const N: usize, V: LaneOps<N>>(first: &[u8], second: &[u8]) -> bool {
-    lanes::are_all_digits::<N, V>(Simd::from_slice(first), Simd::from_slice(second))
-}
-
 /// As `check_step`, for the text of two steps, by one test.
-// Not by `check_pair` of its halves, which would make the proof of `decode_step` longer.
+// Not by `lanes::are_all_digits`, which would make the proof of `decode_step` longer.
 #[inline(always)]
 pub(crate) fn check_two_steps<const N: usize, V: LaneOps<N>>(text: &[u8]) -> bool {
     V::are_unmarked(marks_of_two_steps::<N, V>(text))

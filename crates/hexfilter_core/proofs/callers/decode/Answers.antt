@@ -1,7 +1,7 @@
-use Rattle.std.proofs.Common.{◌∷◌, ◌++◌, [], Ok, false, length, refl}
-use Rattle.std.proofs.lemmas.Result.{on_ok_weaker}
+use Rattle.std.proofs.Common.{◌∷◌, ◌++◌, ◌*◌, [], Ok, false, length, refl, take}
+use Rattle.std.proofs.lemmas.Result.{on_err_weaker, on_ok_weaker}
 use Rattle.hexfilter_core.proofs.lemmas.Texts.{text_plain}
-use Rattle.hexfilter_core.specs.Dumps.{InvalidHexCharacter, IsOdd, OddLength, Reading}
+use Rattle.hexfilter_core.specs.Dumps.{InvalidHexCharacter, IsOdd, OddLength, Reading, Spells, body_of}
 use Rattle.hexfilter_core.specs.Runs.{Reads}
 use Rattle.hexfilter_core.proofs.callers.decode.Goals as goal
 
@@ -41,3 +41,10 @@ returns-clause-invalid g c = λ b i place is.
         wrote,
       ),
     )
+
+pub returns-clause-begun : goal.returns-clause-begun
+returns-clause-begun g c =
+    on_err_weaker c.run.result (λ part.
+    let (x, y, read, (bytes, spelled, is), wrote) = part in
+    let begun : Spells (take (2 * length bytes) (body_of x)) bytes = rw (text_plain plain x refl) at spelled in
+    (x, y, read, rw is begun, wrote)) c.run.ensures.begun

@@ -1,13 +1,12 @@
-use native.Mathlib.Numerals.{unary_clauses}
-use Rattle.std.proofs.Common.{◌-◌, length, arith}
-use Rattle.std.proofs.lemmas.List.Elements.{All-nil}
-use Rattle.const_hex_arch.specs.{IsDigit}
+use Rattle.std.proofs.Common.{◌≡◌, ◌-◌, length, take, drop, arith, take_all, length-drop}
+use Rattle.const_hex_arch.proofs.lemmas.Ends.{digits_pair}
 use Rattle.const_hex_arch.proofs.lemmas.Standard.{through}
-use Rattle.const_hex_arch.proofs.lemmas.Steps.{digits_rest}
 use Rattle.const_hex_arch.proofs.arch.short.check_pair.Goals as goal
 
 pub returns : goal.returns
 returns g c =
-    let start = length c.args.text.now - g.row.N in
-    let rest = digits_rest c.args.text.now 0 g.row.N start (omega arith) (omega arith) (All-nil IsDigit) in
-    through c.check_pair.ensures (simp unary_clauses at rest)
+    let n = g.row.N in
+    let u = c.args.text.now in
+    let start = length u - n in
+    let last : take n (drop start u) ≡ drop start u = take_all n (drop start u) (omega (arith, length-drop start u)) in
+    through (rw last at c.are_all_digits.ensures) (digits_pair n u (omega arith) (omega arith))

@@ -1,4 +1,4 @@
-use Rattle.std.proofs.Common.{◌≡◌, [], arith}
+use Rattle.std.proofs.Common.{[], arith}
 use Rattle.const_hex.proofs.lemmas.Decoding.{body-shorter}
 use Rattle.const_hex.specs.Decoding.{NamesCounted}
 use Rattle.const_hex_tests.proofs.examples.streams.check_chunk.Goals as goal
@@ -8,4 +8,4 @@ returns c = λ b i is.
     let text = c.args.text.now in
     let (n, (p, first, character, index), at) : NamesCounted text b i =
     rw is at (c.check.ensures.answer [] [] c.new-decoder.ensures.starts) in
-    (p, first, character, omega (arith, at, index, first.within, body-shorter text, c.type_inv.text))
+    (p, first, character, omega (arith, at, index, first.within, body-shorter text))

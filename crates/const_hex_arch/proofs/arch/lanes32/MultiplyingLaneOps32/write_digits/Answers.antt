@@ -1,6 +1,0 @@
-use Rattle.const_hex_arch.proofs.lemmas.LaneText.{text_of_halves}
-use Rattle.const_hex_arch.proofs.arch.lanes32.MultiplyingLaneOps32.write_digits.Goals as goal
-
-pub returns : goal.returns
-returns c =
-    text_of_halves 16 c.args.upper c.args.v _ _ c.fits-v.0 c.write_digits.ensures c.write_digits-2.ensures
