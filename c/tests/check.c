@@ -112,7 +112,8 @@ TEST(null_errors) {
   static const char *const texts[] = {"", "0x6b697769", "6b6", "6b697z", "0x"};
   for (size_t which = 0; which < sizeof texts / sizeof *texts; which++) {
     const char *text = texts[which];
-    size_t length = strlen(text), written;
+    size_t length = strlen(text);
+    size_t written;
     unsigned char bytes[4];
     struct const_hex_error error;
     struct const_hex_decoder decoder = {{0, 0}};

@@ -144,7 +144,7 @@ class State(state.State):
         if size == 8 and last.size == 4 and shifted.name == "uxtw":
             number = z3.ZeroExt(32, self.number(last))
         else:
-            require(shifted.name in SHIFTS, "a shift")
+            require(shifted.name in SHIFTS, "an unsupported shift")
             number = SHIFTS[shifted.name](self.number(last, size), shifted.value)
         return [*self.numbers(operands, size), simple(number)]
 
@@ -199,7 +199,7 @@ def move_part(s, to, number, *shift):
 
 def insert_bits(s, to, source, low, count):
     """So many bits from anywhere in a register replace the lowest of another."""
-    require(count.value < 8 * to.size, "all bits")
+    require(count.value < 8 * to.size, "an unsupported bit field")
     rest = z3.Extract(8 * to.size - 1, count.value, s.number(to))
     new = z3.Extract(low.value + count.value - 1, low.value, s.number(source, to.size))
     s.put(to, simple(z3.Concat(rest, new)))
@@ -207,7 +207,7 @@ def insert_bits(s, to, source, low, count):
 
 def shift(function):
     def handler(s, to, source, count):
-        require(count.kind == "number", "a shift")
+        require(count.kind == "number", "an unsupported shift")
         s.put(to, simple(function(s.number(source, to.size), count.value)))
 
     return handler

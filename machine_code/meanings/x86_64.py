@@ -201,7 +201,7 @@ def by_one(function, flags):
 
 def shift(function):
     def handler(s, to, count):
-        require(count.kind == "number" and 0 < count.value < 8 * to.size, "a shift")
+        require(count.kind == "number" and 0 < count.value < 8 * to.size, "an unsupported shift")
         result = simple(function(s.number(to), count.value))
         s.put(to, result)
         s.flags = {"s": result < 0, "z": result == 0, "c": None, "o": None}

@@ -51,7 +51,7 @@ def by_halves(function):
 def shift_lanes(size, function):
     @with_three_operands
     def handler(s, to, one, count):
-        require(count.kind == "number" and count.value < 8 * size, "a shift")
+        require(count.kind == "number" and count.value < 8 * size, "an unsupported shift")
         s.put_vector(to, each(lambda a: function(a, count.value), size, s.data(one)))
 
     return handler
@@ -86,7 +86,7 @@ def move_low(size):
 def insert(size):
     def handler(s, to, *others):
         *one, source, index = others
-        require(index.value < to.size // size, "an index")
+        require(index.value < to.size // size, "an unsupported index")
         data, first = s.data([*one, to][0]), index.value * size
         s.put_vector(to, data[:first] + s.data(source, size) + data[first + size :])
 
@@ -96,7 +96,7 @@ def insert(size):
 def extract(size):
     def handler(s, to, one, index):
         data = s.data(one)
-        require(index.value < len(data) // size, "an index")
+        require(index.value < len(data) // size, "an unsupported index")
         put_low(s, to, data[index.value * size :][:size])
 
     return handler

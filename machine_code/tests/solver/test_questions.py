@@ -68,7 +68,8 @@ def test_integers(monkeypatch):
         goal = z3.simplify(condition())
         known = integers.Facts(questions.is_unsatisfiable_in_integers)
         for fact in [*facts, goal]:
-            before, known = known, known and known.with_fact(fact)
+            before = known
+            known = known and known.with_fact(fact)
         if known:
             linear += 1
             assert is_true(known.conditions[-1], values) == is_true(goal, values), (facts, goal)
@@ -84,7 +85,8 @@ def test_conjuncts():
 
 
 def test_what_follows_is_true_of_all_values():
-    answers, every = {True: 0, False: 0}, list(itertools.product(range(1 << BITS), repeat=2))
+    answers = {True: 0, False: 0}
+    every = list(itertools.product(range(1 << BITS), repeat=2))
     for _ in range(40):
         facts, goal = [condition(), condition()], condition()
         known = [part for fact in facts for part in questions.facts_of(fact)]
