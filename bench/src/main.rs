@@ -3,7 +3,7 @@
 //!
 //!     cargo run --release                            # every call of every library
 //!     cargo run --release -- const-hex               # of these libraries alone
-//!     MOST=2048 cargo run                            # without optimization, up to so many bytes
+//!     MAX_BYTES=2048 cargo run                       # without optimization, up to so many bytes
 //!
 //! The program runs itself once, with all calls. A cell is what two rounds of calls differ by, by the number of calls.
 
@@ -32,12 +32,12 @@ fn print(only: &[String]) -> io::Result<()> {
 /// A case, and the instructions of one call.
 type Cell = (Case, u64);
 
-/// The cases of the named libraries, or of all, up to the number of bytes that the variable `MOST` says.
+/// The cases of the named libraries, or of all, up to the number of bytes that the variable `MAX_BYTES` says.
 fn chosen(only: &[String]) -> impl Iterator<Item = Case> + '_ {
-    let most = env::var("MOST").ok().and_then(|most| most.parse().ok());
+    let limit = env::var("MAX_BYTES").ok().and_then(|max| max.parse().ok());
     let sizes = SIZES
         .into_iter()
-        .filter(move |size| *size <= most.unwrap_or(usize::MAX));
+        .filter(move |size| *size <= limit.unwrap_or(usize::MAX));
     sizes
         .flat_map(cases)
         .filter(move |case| only.is_empty() || only.iter().any(|name| name == case.library))

@@ -47,8 +47,8 @@ TEST(messages) {
   for (size_t row = 0; row < sizeof rows / sizeof *rows; row++) {
     for (size_t size = 0; size <= CONST_HEX_MESSAGE_SIZE; size++) {
       struct buffer message = marked(areas.text, size, false);
-      size_t length = const_hex_error_message(&rows[row].error, message.bytes, size),
-             nul = least(size, 1);
+      size_t length = const_hex_error_message(&rows[row].error, message.bytes, size);
+      size_t nul = least(size, 1);
       size_t wanted = least(strlen(rows[row].message), size - nul);
       expect(length == wanted && memcmp(message.bytes, rows[row].message, wanted) == 0 &&
                  memcmp(message.bytes + wanted, "", nul) == 0 &&
@@ -87,7 +87,8 @@ TEST(sizes_that_no_buffer_has) {
 TEST(null_buffers) {
   struct const_hex_error error = UNSET;
   struct const_hex_decoder decoder = {{0, 0}};
-  size_t written = 99, newly_written = 99;
+  size_t written = 99;
+  size_t newly_written = 99;
   expect(!const_hex_encode(NULL, 0, NULL, 0, 0) &&
              const_hex_encode(NULL, 0, NULL, 0, CONST_HEX_NO_NUL),
          "encode", 0, 0);
@@ -111,7 +112,8 @@ TEST(null_errors) {
   static const char *const texts[] = {"", "0x6b697769", "6b6", "6b697z", "0x"};
   for (size_t which = 0; which < sizeof texts / sizeof *texts; which++) {
     const char *text = texts[which];
-    size_t length = strlen(text), written;
+    size_t length = strlen(text);
+    size_t written;
     unsigned char bytes[4];
     struct const_hex_error error;
     struct const_hex_decoder decoder = {{0, 0}};
@@ -147,7 +149,8 @@ TEST(any_contents_of_a_decoder) {
   for (size_t turn = 0; turn < 50000; turn++) {
     struct const_hex_decoder decoder = {{any_number(), any_number()}};
     struct const_hex_error error = UNSET;
-    size_t length = (size_t)(rand() >> 4) % sizeof TEXT, written = 99;
+    size_t length = (size_t)(rand() >> 4) % sizeof TEXT;
+    size_t written = 99;
     const char *start = TEXT + (size_t)(rand() >> 4) % (sizeof TEXT - length);
     const char *text = memcpy(position(areas.text, length, false), start, length);
     struct buffer bytes = marked(areas.decoded, (size_t)(rand() >> 4) % (length / 2 + 3), false);

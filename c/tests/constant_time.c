@@ -14,11 +14,11 @@ static size_t public(size_t value) {
 #define PUBLIC(value) public(value)
 #include PORTABLE
 
-enum { MOST = 200 };
+enum { MAX_LENGTH = 200 };
 
 /* Not on the stack: a compiler might then leave out what writes them. */
-unsigned char bytes[MOST];
-char text[CONST_HEX_ENCODED_SIZE(MOST, CONST_HEX_PREFIX)];
+unsigned char bytes[MAX_LENGTH];
+char text[CONST_HEX_ENCODED_SIZE(MAX_LENGTH, CONST_HEX_PREFIX)];
 
 static void encode(size_t length, unsigned flags) {
   for (size_t index = 0; index < length; index++) {
@@ -33,7 +33,8 @@ static void encode(size_t length, unsigned flags) {
 /* Whether each function takes the text for what it is. */
 static bool decode(size_t length, const char *prefix) {
   size_t written, start = strlen(prefix);
-  bool is_even = length % 2 == 0, is_right = true;
+  bool is_even = length % 2 == 0;
+  bool is_right = true;
   for (size_t index = 0; index < length; index++) {
     text[index] = "0123456789abcdefABCDEF"[(7 * index + length) % 22];
   }
@@ -54,7 +55,7 @@ static bool decode(size_t length, const char *prefix) {
 }
 
 int main(void) {
-  for (size_t length = 0; length <= MOST; length++) {
+  for (size_t length = 0; length <= MAX_LENGTH; length++) {
     for (unsigned flags = 0; flags < 8; flags++) {
       encode(length, flags);
     }

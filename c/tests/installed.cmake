@@ -28,48 +28,48 @@ endforeach()
 test(installed.version NEEDS pkg-config COMMAND env "PKG_CONFIG_PATH=${LIB}/pkgconfig"
   pkg-config --modversion const_hex ${WITH} PASS_REGULAR_EXPRESSION "^${PROJECT_VERSION}\n$")
 
-# A shell's line that makes the program unhex, in a folder of its own. ARGN is what it needs.
-function(made_by how line)
-  file(MAKE_DIRECTORY ${HERE}/${how})
+# Adds a test of the program unhex, which commands of a shell make in a folder of its own. ARGN is what they need.
+function(test_made_by name commands)
+  file(MAKE_DIRECTORY ${HERE}/${name})
   list(JOIN TEST_UNHEX "' '" run)
-  test(${how} NEEDS python3 ${ARGN} COMMAND sh -ec "cd '${HERE}/${how}'\n${line}\n'${run}' ./unhex"
+  test(${name} NEEDS python3 ${ARGN} COMMAND sh -ec "cd '${HERE}/${name}'\n${commands}\n'${run}' ./unhex"
     PROPERTIES FIXTURES_REQUIRED "installed;unpacked" ENVIRONMENT
     "PKG_CONFIG_PATH=${LIB}/pkgconfig;LD_LIBRARY_PATH=${LIB}")
 endfunction()
-# By a compiler's line, in which `rest` says where the library is, or pkg-config does, whose words xargs reads.
-function(compiled how compiler language rest)
+# The same, by a compiler. `library` has the options for the library, or else pkg-config prints them.
+function(test_compiled name compiler language library)
   set(flags "${TARGET} -Wall -Wextra -Werror -O2 -x ${language} '${EXAMPLES}/unhex.c' -x none -o unhex")
-  made_by(installed.${how} "${FOUND}'${compiler}' ${flags} ${rest}" ${compiler} ${ARGN})
+  test_made_by(installed.${name} "${PKG_CONFIG}'${compiler}' ${flags} ${library}" ${compiler} ${ARGN})
 endfunction()
-set(FOUND "pkg-config --cflags --libs const_hex | xargs ")
-compiled(pkg-config_C ${CMAKE_C_COMPILER} c "" pkg-config)
-compiled(pkg-config_C_static ${CMAKE_C_COMPILER} c -static pkg-config)
+set(PKG_CONFIG "pkg-config --cflags --libs const_hex | xargs ")
+test_compiled(pkg-config_C ${CMAKE_C_COMPILER} c "" pkg-config)
+test_compiled(pkg-config_C_static ${CMAKE_C_COMPILER} c -static pkg-config)
 if(NOT CMAKE_CROSSCOMPILING)
-  compiled(pkg-config_CXX c++ c++ "" pkg-config)
+  test_compiled(pkg-config_CXX c++ c++ "" pkg-config)
   # With another libc.
-  set(FOUND)
+  set(PKG_CONFIG)
   set(INCLUDE "'-I${INSTALLED}/include'")
-  compiled(musl_static musl-gcc c "${INCLUDE} -static '${LIB}/libconst_hex.a'")
-  compiled(musl_shared musl-gcc c "${INCLUDE} '${LIB}/libconst_hex.so' '-Wl,-rpath,${LIB}'")
+  test_compiled(musl_static musl-gcc c "${INCLUDE} -static '${LIB}/libconst_hex.a'")
+  test_compiled(musl_shared musl-gcc c "${INCLUDE} '${LIB}/libconst_hex.so' '-Wl,-rpath,${LIB}'")
   test(installed.musl_check NEEDS musl-gcc ${WITH} COMMAND sh -c "musl-gcc -std=c99 -O2 -static ${INCLUDE} \\
     '-I${PROJECT_SOURCE_DIR}' '${SOURCE}/check.c' '${LIB}/libconst_hex.a' -o musl_check && ./musl_check")
 endif()
 # By CMake, from this folder or the archive.
-set(tool)
+set(toolchain)
 if(CMAKE_TOOLCHAIN_FILE)
-  get_filename_component(tool ${CMAKE_TOOLCHAIN_FILE} ABSOLUTE BASE_DIR ${PROJECT_SOURCE_DIR})
-  set(tool -DCMAKE_TOOLCHAIN_FILE=${tool})
+  get_filename_component(toolchain ${CMAKE_TOOLCHAIN_FILE} ABSOLUTE BASE_DIR ${PROJECT_SOURCE_DIR})
+  set(toolchain -DCMAKE_TOOLCHAIN_FILE=${toolchain})
 endif()
-function(configured name folder)
+function(test_cmake_project name prefix)
   test(${name} NEEDS python3 COMMAND ${CMAKE_CTEST_COMMAND} --build-and-test ${EXAMPLES} ${HERE}/${name}
-    --build-generator ${CMAKE_GENERATOR} --build-options "-DCMAKE_PREFIX_PATH=${folder}" ${tool} ${ARGN}
+    --build-generator ${CMAKE_GENERATOR} --build-options "-DCMAKE_PREFIX_PATH=${prefix}" ${toolchain} ${ARGN}
     --test-command ${TEST_UNHEX} ./unhex PROPERTIES FIXTURES_REQUIRED "installed;unpacked")
 endfunction()
-configured(installed.cmake ${INSTALLED})
-configured(installed.cmake_static ${INSTALLED} -DLIBRARY=const_hex::static)
+test_cmake_project(installed.cmake ${INSTALLED})
+test_cmake_project(installed.cmake_static ${INSTALLED} -DLIBRARY=const_hex::static)
 foreach(version 1.99 0.9)
   set(name installed.cmake_version_${version})
-  configured(${name} ${INSTALLED} -DWANTED=${version})
+  test_cmake_project(${name} ${INSTALLED} -DWANTED=${version})
   set_tests_properties(${name} PROPERTIES PASS_REGULAR_EXPRESSION "compatible with requested version")
 endforeach()
 
@@ -82,17 +82,17 @@ target_link_libraries(unhex const_hex::\${LIBRARY})
 install(TARGETS unhex)\n" @ONLY)
 foreach(library const_hex static)
   test(subdirectory.${library} NEEDS python3 COMMAND ${CMAKE_CTEST_COMMAND} --build-and-test ${HERE}/project
-    ${HERE}/subdirectory_${library} --build-generator ${CMAKE_GENERATOR} --build-options -DLIBRARY=${library} ${tool}
+    ${HERE}/subdirectory_${library} --build-generator ${CMAKE_GENERATOR} --build-options -DLIBRARY=${library} ${toolchain}
     -DCONST_HEX_PORTABLE=${CONST_HEX_PORTABLE} --test-command ${TEST_UNHEX} ./unhex)
 endforeach()
 # By the compiler alone.
-set(code "'${PROJECT_SOURCE_DIR}'/asm/*.S")
+set(sources "'${PROJECT_SOURCE_DIR}'/asm/*.S")
 if(CONST_HEX_PORTABLE)
-  set(code "'${PROJECT_SOURCE_DIR}/portable.c'")
+  set(sources "'${PROJECT_SOURCE_DIR}/portable.c'")
 endif()
 list(JOIN TEST_UNHEX "' '" run)
 test(one_line NEEDS python3 COMMAND sh -ec "rm -rf one_line && mkdir one_line && cd one_line
-  '${CMAKE_C_COMPILER}' ${TARGET} -c ${code} && ar rcs libconst_hex.a *.o
+  '${CMAKE_C_COMPILER}' ${TARGET} -c ${sources} && ar rcs libconst_hex.a *.o
   '${CMAKE_C_COMPILER}' ${TARGET} '-I${PROJECT_SOURCE_DIR}' '${EXAMPLES}/unhex.c' libconst_hex.a -o unhex
   '${run}' ./unhex")
 
@@ -112,11 +112,11 @@ test(archive.has_licences_and_no_build_output ${WITH} COMMAND sh -ec "cd '${ARCH
   test -s LICENSE-APACHE && test -s LICENSE-MIT && test -s NOTICE
   test \"$(grep -c '@' README.md)\" = 0
   test \"$(find . -name build -o -name out -o -name 'CMakeCache*')\" = ''")
-configured(archive.cmake ${ARCHIVE})
+test_cmake_project(archive.cmake ${ARCHIVE})
 if(NOT CMAKE_CROSSCOMPILING)
   # The line for cc of its README, and that for c++.
   foreach(compiler cc c++)
-    made_by(archive.readme_${compiler} "cp -R '${ARCHIVE}/.' .
+    test_made_by(archive.readme_${compiler} "cp -R '${ARCHIVE}/.' .
       cp '${EXAMPLES}/unhex.c' program.c && cp program.c program.cpp
       eval \"$(sed -n 's/^    ${compiler} /${compiler} /p' README.md)\" && mv program unhex" ${compiler})
   endforeach()

@@ -52,8 +52,9 @@ static struct const_hex_error error_of(const char *cell) {
 static bool read_line(FILE *file, struct line *line) {
   static char text[LINE];
   while (fgets(text, LINE, file) != NULL) {
-    char *question = strtok(text, "\t\n"), *input = strtok(NULL, "\t\n"),
-         *result = strtok(NULL, "\t\n");
+    char *question = strtok(text, "\t\n");
+    char *input = strtok(NULL, "\t\n");
+    char *result = strtok(NULL, "\t\n");
     if (question == NULL || question[0] == '#') {
       continue;
     }
@@ -97,7 +98,9 @@ static struct output new_output(size_t size, bool at_start) {
  * an invalid character something may be in the place of the bytes before it. */
 static void compare(const struct line *line, struct output output, size_t from, size_t to,
                     struct const_hex_error wanted, const char *what) {
-  size_t first = count_before(line, from), written = 0, changed = 0;
+  size_t first = count_before(line, from);
+  size_t written = 0;
+  size_t changed = 0;
   if (wanted.kind == 0) {
     written = changed = count_before(line, to) - first;
   } else if (wanted.kind == CONST_HEX_INVALID_CHARACTER && wanted.index > from) {
@@ -113,7 +116,8 @@ static void compare(const struct line *line, struct output output, size_t from, 
 /* Decodes the text into a buffer of this size, which has to be right or, for decode_exact, the number of bytes. */
 static void decode(const struct line *line, const char *text, size_t size, bool at_start) {
   static const struct const_hex_error no_space = {CONST_HEX_INVALID_LENGTH, 0, 0};
-  size_t length = line->length, count = count_before(line, length);
+  size_t length = line->length;
+  size_t count = count_before(line, length);
   bool is_odd = line->error.kind == CONST_HEX_ODD_LENGTH;
   struct output output = new_output(size, at_start);
   output.result =
@@ -143,7 +147,8 @@ static void decode_chunks(const struct line *line, size_t cut) {
   struct const_hex_error wanted = none, error = UNSET;
   size_t ends[] = {0, cut, line->length};
   for (size_t chunk = 1; chunk <= 2; chunk++) {
-    size_t from = ends[chunk - 1], to = ends[chunk];
+    size_t from = ends[chunk - 1];
+    size_t to = ends[chunk];
     size_t count = count_before(line, to) - count_before(line, from);
     old = decoder;
     if (count > 0 && wanted.kind == 0) {
@@ -176,7 +181,8 @@ static void read_chunks(const struct line *line) {
 
 /* A decoder reports an invalid character before an odd length. */
 static void read_text(const struct line *line) {
-  size_t length = line->length, count = count_before(line, length);
+  size_t length = line->length;
+  size_t count = count_before(line, length);
   for (int at_start = 0; at_start < 2; at_start++) {
     const char *text = memcpy(position(areas.text, length, at_start), line->input, length);
     struct const_hex_error error = UNSET;
@@ -213,7 +219,8 @@ static void each_byte(const struct line *line) {
 
 /* Puts what the flags add to the digits. Returns the size. */
 static size_t add_by_flags(const struct line *line, unsigned flags, char *text) {
-  size_t prefix = flags & CONST_HEX_PREFIX ? 2 : 0, size = prefix + line->result_length;
+  size_t prefix = flags & CONST_HEX_PREFIX ? 2 : 0;
+  size_t size = prefix + line->result_length;
   memcpy(text, "0x", prefix);
   for (size_t index = 0; index < line->result_length; index++) {
     char digit = line->result[index];
@@ -227,8 +234,10 @@ static size_t add_by_flags(const struct line *line, unsigned flags, char *text) 
 static void write_text(const struct line *line) {
   static char wanted[AREA];
   for (unsigned which = 0; which < 16; which++) {
-    unsigned flags = which % 8, at_start = which / 8;
-    size_t count = line->length, size = add_by_flags(line, flags, wanted);
+    unsigned flags = which % 8;
+    unsigned at_start = which / 8;
+    size_t count = line->length;
+    size_t size = add_by_flags(line, flags, wanted);
     size_t cleared = flags & CONST_HEX_NO_NUL ? 0 : 1;
     const void *bytes = memcpy(position(areas.bytes, count, at_start), line->input, count);
     expect(const_hex_encoded_size(count, flags) == size, "encoded_size", count, flags);
@@ -288,6 +297,5 @@ TEST(table) {
   while (file != NULL && read_line(file, &line)) {
     expect(ask(&line), line.question, ++lines, 0);
   }
-  /* docs/check counts the lines. */
   expect(lines > 0 && feof(file) && fclose(file) == 0, "the whole table", lines, 0);
 }

@@ -41,8 +41,8 @@ def _called(contract, state):
         yield from contract.called(path, **arguments)
 
 
-def any_below(state, count):
-    """The state with a number below another one, or None if there is none; and the number."""
+def arbitrary_index(state, count):
+    """The state with an index below a count, or None if there is none; and the index."""
     index = word(0) if state.is_valid(count == 1) else fresh_public(64)
     return state.branch(z3.ULT(index, count)), index
 
@@ -55,37 +55,37 @@ def is_in(name, address):
     return name in names(address)
 
 
-def write(state, address, lane):
+def write(state, address, data):
     """What a kernel writes is compared with the contract of its caller, so it has to go to the
     output."""
     require(is_in("output", address), "a kernel writes to what is no output")
-    state.store(address, lane)
+    state.store(address, data)
 
 
 def checked(state, text, count):
     """The state in which all characters are digits, and the one in which some are not, each with
     the result. In the second, time may depend on the text if it is no valid one."""
     is_input = is_in("input", text)
-    some, index = any_below(state, count)
-    if not some:
+    at_index, index = arbitrary_index(state, count)
+    if not at_index:
         return [(state, 1)]
     if is_input:  # of which any character is read
-        characters = some.load(simple(text + index), 1)
+        characters = at_index.load(simple(text + index), 1)
     else:
         state.prove(count == 2, "text that is neither in the input nor a pair")
-        some, characters = state, state.load(text, 2)
+        at_index, characters = state, state.load(text, 2)
     are_digits = z3.And(*map(is_digit, characters))
     true = (
         state.with_digits(offset_in(state, "input", text), count)
         if is_input
         else state.branch(are_digits)
     )
-    input_is_valid = some.choose(are_digits)
+    input_is_valid = at_index.truth_for_valid_input(are_digits)
     require(
         input_is_valid is not False,
         "text that is never valid is read: its bytes may decide how long that takes",
     )
-    if false := some.branch(z3.Not(are_digits)):
+    if false := at_index.branch(z3.Not(are_digits)):
         false.is_declassified |= input_is_valid is True
     return [(path, result) for path, result in ((true, 1), (false, 0)) if path]
 
@@ -94,14 +94,14 @@ def first_invalid_from(state, text, count):
     """The states after a search, with the index of the first character that is no digit, which may
     be any, and the character; or, if all are digits, the length and 0."""
     start = offset_in(state, "input", text)
-    some, index = any_below(state, count)
-    if some:
+    at_index, index = arbitrary_index(state, count)
+    if at_index:
         require(is_in("input", text), "a search in what is no input")
-        some.load(simple(text + index), 1)
-    if none := state.with_digits(start, count):
-        yield none, count, byte(0)
+        at_index.load(simple(text + index), 1)
+    if all_digits := state.with_digits(start, count):
+        yield all_digits, count, byte(0)
     index = fresh_public(64)
-    some = state.branch(z3.ULT(index, count))
-    some = some and some.with_no_digit(start + index)
-    if some := some and some.with_digits(start, index, are_named=False):
-        yield some, index, some.byte_of_input(start + index)
+    found = state.branch(z3.ULT(index, count))
+    found = found and found.with_no_digit(start + index)
+    if found := found and found.with_digits(start, index, are_named=False):
+        yield found, index, found.byte_of_input(start + index)

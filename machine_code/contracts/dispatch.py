@@ -48,7 +48,8 @@ def for_this_cpu():
     leaves = [z3.UGE(reported("cpuid", leaf, "rax"), least) for leaf, least in LEAVES.items()]
     is_saved = reported("xgetbv", 0, "rax") & SAVED_REGISTERS == SAVED_REGISTERS
     has_v3 = z3.And(reports(FEATURES), *leaves, is_saved)
-    return z3.If(reports(FEATURES_OF_V2), z3.If(has_v3, word(3), 2), 1)
+    level = z3.If(has_v3, word(3), 2)
+    return z3.If(reports(FEATURES_OF_V2), level, 1)
 
 
 class Dispatched(Function):
@@ -78,8 +79,9 @@ class Dispatched(Function):
             zip(state.arguments(len(self.arguments)), self.arguments)
         ):
             self.prove_passed(state, index, given, wanted)
-        state.forget_arguments(len(self.arguments))
-        state.result_of_call, state.stored_at_call = fresh_secret(64), len(state.stored)
+        state.havoc_arguments(len(self.arguments))
+        state.result_of_call = fresh_secret(64)
+        state.stored_at_call = len(state.stored)
         yield state, state.result_of_call
 
     def prove_passed(self, state, index, given, wanted):
@@ -105,11 +107,11 @@ class Kernel(Dispatched):
         number = self.builds[end]
         if not state.stored:
             return state.prove(
-                z3.Or(*[read == number for read in state.seen]), "not the one that is stored"
+                z3.Or(*[read == number for read in state.loaded]), "not the one that is stored"
             )
         for named in self.builds.values():
             state.prove(
-                z3.Or(*[read != named for read in state.seen]),
+                z3.Or(*[read != named for read in state.loaded]),
                 "the CPU is asked although a kernel is stored",
             )
         for stored in state.stored:

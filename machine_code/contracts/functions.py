@@ -15,8 +15,8 @@ N, INDEX = public("n", 64), public("index", 64)
 ODD_LENGTH = 1
 INVALID_LENGTH = 2
 INVALID_CHARACTER = 3
-# The kind of an invalid character within the library, and what a decoder waits for after one.
-FOUND = FAILED = 2
+FOUND = 2  # the kind of an invalid character within the library
+FAILED = 2  # what a decoder has in place of what it waits for, after an invalid character
 
 
 def size_max(state):
@@ -26,24 +26,21 @@ def size_max(state):
 
 def is_digit(c):
     """Whether a character is one of 0-9, A-F and a-f."""
-    return z3.Or(
-        z3.And(z3.UGE(c, 0x30), z3.ULE(c, 0x39)),
-        z3.And(z3.UGE(c, 0x41), z3.ULE(c, 0x46)),
-        z3.And(z3.UGE(c, 0x61), z3.ULE(c, 0x66)),
-    )
+    ranges = ("0", "9"), ("A", "F"), ("a", "f")
+    return z3.Or(*[z3.And(z3.UGE(c, ord(a)), z3.ULE(c, ord(b))) for a, b in ranges])
 
 
 def value(c):
     """The value of a digit."""
-    return z3.If(z3.ULE(c, 0x39), c - 0x30, z3.If(z3.ULE(c, 0x46), c - 0x41 + 10, c - 0x61 + 10))
+    letter = z3.If(z3.ULE(c, ord("F")), c - ord("A") + 10, c - ord("a") + 10)
+    return z3.If(z3.ULE(c, ord("9")), c - ord("0"), letter)
 
 
 def digits_of(number, is_upper):
     """The two digits of a byte."""
-    return [
-        z3.If(z3.ULE(half, 9), half + 0x30, half - 10 + (0x41 if is_upper else 0x61))
-        for half in (z3.LShR(number, 4), number & 15)
-    ]
+    first_letter = ord("A" if is_upper else "a")
+    halves = z3.LShR(number, 4), number & 15
+    return [z3.If(z3.ULE(half, 9), half + ord("0"), half - 10 + first_letter) for half in halves]
 
 
 def decoded(high, low):
@@ -53,7 +50,7 @@ def decoded(high, low):
 
 def is_prefix(zero, x):
     """Whether two characters are 0x or 0X."""
-    return z3.And(zero == 0x30, x | 0x20 == 0x78)
+    return z3.And(zero == ord("0"), x | 0x20 == ord("x"))
 
 
 def base(name):
@@ -61,7 +58,7 @@ def base(name):
     return public(name, 64)
 
 
-def of_32_bits(term):
+def uint32_argument(term):
     """An argument of 32 bits: what lies above may be anything."""
     return z3.Concat(secret("above", 32), term)
 
@@ -227,9 +224,9 @@ def first_invalid(state):
     return N, byte(0)
 
 
-def moved(state, position, count):
-    """A position so many characters later, or SIZE_MAX if it is greater. Of all numbers the bits of
-    a size_t count."""
+def saturating_add(state, position, count):
+    """A position so many characters later, or SIZE_MAX if that overflows. Of all numbers the bits
+    of a size_t count."""
     later = simple(position + count)
     is_greater = z3.ULT(in_size_t(state, later), in_size_t(state, position))
-    return state.either(is_greater, word(size_max(state)), later)
+    return state.if_then_else(is_greater, word(size_max(state)), later)

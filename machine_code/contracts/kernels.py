@@ -8,7 +8,7 @@ isize::MAX bytes: below 2^63.
 
 import z3
 
-from contracts.callees import any_below, is_in, checked, offset_in, write
+from contracts.callees import arbitrary_index, is_in, checked, offset_in, write
 from contracts.functions import (
     N,
     Function,
@@ -72,9 +72,9 @@ class Fill(Kernel):
     def __init__(self, is_upper):
         self.is_upper, self.function = is_upper, "fill_upper" if is_upper else "fill_lower"
 
-    def store(self, state, offset, lane):
+    def store(self, state, offset, data):
         """At an even offset stands the higher digit of a byte, and at the next one the lower."""
-        prove_digits_of(state, offset, lane, self.is_upper)
+        prove_digits_of(state, offset, data, self.is_upper)
 
     def reached(self, state, read, written):
         prove_written(state, written, "a character of the text is left out")
@@ -83,19 +83,20 @@ class Fill(Kernel):
         self.reached(state, None, self.output_size)
 
     def called(self, state, input, n, output):
-        some, index = any_below(state, n)
-        if some:
-            write(some, output + 2 * index, digits_of(*some.load(input + index, 1), self.is_upper))
+        at_index, index = arbitrary_index(state, n)
+        if at_index:
+            digits = digits_of(*at_index.load(input + index, 1), self.is_upper)
+            write(at_index, output + 2 * index, digits)
             self.has_written(state, output, n)
         yield state,
 
 
-def prove_digits_of(state, offset, lane, is_upper):
+def prove_digits_of(state, offset, data, is_upper):
     """Characters at an offset in the digits of all bytes are theirs."""
     odd = next((odd for odd in (0, 1) if state.is_valid(offset & 1 == odd)), None)
     require(odd is not None, "an offset in the text that may be odd or even")
     source = simple(z3.LShR(offset, 1))
-    for half, character in enumerate(lane, odd):
+    for half, character in enumerate(data, odd):
         wanted = digits_of(state.byte_of_input(source + half // 2), is_upper)[half % 2]
         state.prove_equal(character, wanted, f"a wrong character at {offset} + {half - odd}")
 
@@ -119,35 +120,35 @@ class Read(Kernel):
     function = "read"
     arguments = base("input"), base("output"), N
 
-    def store(self, state, offset, lane):
+    def store(self, state, offset, data):
         """Only what digits decode to is written that have no invalid character before them."""
-        prove_decoded(state, offset, lane)
+        prove_decoded(state, offset, data)
 
     def called(self, state, input, n, output):
         """Any byte may be written before which, and of which, all is digits. All are, if all is;
         else a front."""
-        some, index = any_below(state, n)
-        if some:
-            pair = some.load(input + 2 * index, 2)
+        at_index, index = arbitrary_index(state, n)
+        if at_index:
+            pair = at_index.load(input + 2 * index, 2)
             if is_in("input", input):
-                some = some.with_digits(offset_in(some, "input", input), 2 * index + 2)
-            if some := some and some.branch(z3.And(*map(is_digit, pair))):
-                write(some, output + index, [decoded(*pair)])
+                at_index = at_index.with_digits(offset_in(at_index, "input", input), 2 * index + 2)
+            if at_index := at_index and at_index.branch(z3.And(*map(is_digit, pair))):
+                write(at_index, output + index, [decoded(*pair)])
         for path, result in checked(state, input, simple(2 * n)):
-            if some:
+            if at_index:
                 self.has_written(path, output, n if result else word(0))
             yield path, result
 
 
-def prove_decoded(state, offset, lane):
+def prove_decoded(state, offset, data):
     """Bytes at an offset are what the digits of the text decode to, which have no invalid character
     before them. The first half of the first one may be a digit that waits."""
     is_waiting = state.waiting is not None
     is_first = is_waiting and state.is_valid(offset == 0)
     state.prove(z3.Or(not is_waiting, is_first, offset != 0), "whether it is the first byte")
     begin = state.body - is_waiting
-    prove_digits(state, simple(begin + 2 * (offset + len(lane))), "written before it is known")
-    for index, number in enumerate(lane):
+    prove_digits(state, simple(begin + 2 * (offset + len(data))), "written before it is known")
+    for index, number in enumerate(data):
         high, low = [state.byte_of_input(begin + 2 * (offset + index) + more) for more in (0, 1)]
         high = state.waiting if is_first and index == 0 else high
         state.prove_equal(number, decoded(high, low), f"a wrong byte at {offset} + {index}")

@@ -25,7 +25,7 @@ from contracts.functions import (
     in_size_t,
     is_digit,
     is_prefix,
-    moved,
+    saturating_add,
     prove_no_gap,
     prove_digits,
     prove_true_if,
@@ -33,7 +33,7 @@ from contracts.functions import (
     prove_written,
     prove_failure,
     prove_has,
-    of_32_bits,
+    uint32_argument,
     size_max,
     with_prefix_or_without,
 )
@@ -85,7 +85,7 @@ class EncodedSize(Exported):
     """encoded_size(bytes_length, flags): what is needed, or SIZE_MAX if that is no size, or for
     unknown flags."""
 
-    function, arguments = "encoded_size", (N, of_32_bits(FLAGS))
+    function, arguments = "encoded_size", (N, uint32_argument(FLAGS))
 
     def returns(self, state):
         size = needed(FLAGS)
@@ -107,7 +107,7 @@ class Encode(Exported):
     def __init__(self, flags):
         self.name = "unknown flags" if flags is None else f"flags {flags}"
         self.flags = FLAGS if flags is None else z3.BitVecVal(flags, 32)
-        self.arguments = base("input"), N, base("output"), SIZE, simple(of_32_bits(self.flags))
+        self.arguments = base("input"), N, base("output"), SIZE, simple(uint32_argument(self.flags))
         self.fits = simple(
             z3.And(z3.ULT(self.flags, 8), z3.ULE(needed(self.flags), z3.ZeroExt(2, SIZE)))
         )
@@ -122,26 +122,26 @@ class Encode(Exported):
 
     reached = Fill.reached
 
-    def store(self, state, offset, lane):
+    def store(self, state, offset, data):
         """A text that fits: the prefix, the digits and a NUL. Otherwise a NUL at the start."""
         if state.is_valid(z3.Not(self.fits)):
-            return self.prove_nul(state, offset, lane, word(0))
+            return self.prove_nul(state, offset, data, word(0))
         state.prove(self.fits, "written though the text may not fit")
-        if z3.is_bv_value(offset) and offset.as_long() + len(lane) <= self.begin:
-            require(all(map(z3.is_bv_value, lane)), "a prefix that is not known")
-            written = bytes(character.as_long() for character in lane)
-            return require(written == b"0x"[offset.as_long() :][: len(lane)], "a wrong prefix")
+        if z3.is_bv_value(offset) and offset.as_long() + len(data) <= self.begin:
+            require(all(map(z3.is_bv_value, data)), "a prefix that is not known")
+            written = bytes(character.as_long() for character in data)
+            return require(written == b"0x"[offset.as_long() :][: len(data)], "a wrong prefix")
         if state.is_valid(offset == self.end):
-            return self.prove_nul(state, offset, lane, self.end)
-        is_inside = z3.And(z3.UGE(offset, self.begin), z3.ULE(offset + len(lane), self.end))
+            return self.prove_nul(state, offset, data, self.end)
+        is_inside = z3.And(z3.UGE(offset, self.begin), z3.ULE(offset + len(data), self.end))
         state.prove(is_inside, "written beside the digits")
         prove_digits_of(
-            state, simple(offset - self.begin), lane, bool(self.flags.as_long() & UPPER)
+            state, simple(offset - self.begin), data, bool(self.flags.as_long() & UPPER)
         )
 
-    def prove_nul(self, state, offset, lane, wanted):
+    def prove_nul(self, state, offset, data, wanted):
         state.prove(z3.And(self.has_nul, offset == wanted), "another offset than that of a NUL")
-        require(len(lane) == 1 and lane[0].eq(byte(0)), "no NUL")
+        require(len(data) == 1 and data[0].eq(byte(0)), "no NUL")
 
     def returns(self, state):
         prove_true_if(state, self.fits, "whether the text fits")
@@ -207,11 +207,11 @@ class Text(Exported):
         when it is one, what it is, and the error."""
         return [(N & 1 == 1, "an odd length", ODD_LENGTH)]
 
-    def store(self, state, offset, lane):
+    def store(self, state, offset, data):
         for is_error, what, *_ in self.errors(state):
             state.prove(z3.Not(is_error), f"written though it is {what}")
-        state.prove(z3.ULE(offset + len(lane), self.count(state)), "written after the bytes")
-        prove_decoded(state, offset, lane)
+        state.prove(z3.ULE(offset + len(data), self.count(state)), "written after the bytes")
+        prove_decoded(state, offset, data)
 
     def returns(self, state):
         result = state.result()
@@ -395,7 +395,7 @@ class DecoderUpdate(Text):
     def accepts(self, state):
         super().accepts(state)
         position, character, _ = decoder_of(state)
-        prove_has(state, "decoder", in_size_t(state, moved(state, position, N)))
+        prove_has(state, "decoder", in_size_t(state, saturating_add(state, position, N)))
         waits = self.waits(state)
         prove_has(state, "decoder", z3.If(waits, byte(1), byte(0)), offset=state.WORD + 1)
         if other := state.branch(z3.And(waits, N == 0)):
@@ -404,7 +404,7 @@ class DecoderUpdate(Text):
             prove_has(other, "decoder", other.byte_of_input(N - 1), offset=state.WORD)
 
     def rejects(self, state, index, character):
-        position = moved(state, decoder_of(state)[0], index)
+        position = saturating_add(state, decoder_of(state)[0], index)
         super().rejects(state, position, character)
         prove_has(state, "decoder", in_size_t(state, position), character)
         state.prove(
@@ -427,7 +427,7 @@ class ChangedDecoder(DecoderUpdate):
     def cases(self, state):
         return [state.branch(self.is_for(state))]
 
-    def store(self, state, offset, lane):
+    def store(self, state, offset, data):
         """Anything may be written to the output."""
 
     def returns(self, state):
@@ -455,7 +455,9 @@ class DecoderFail(FirstInvalid):
         """What is found, and what the decoder keeps. In the module an error has no kind of its
         own."""
         kind = [z3.BitVecVal(FOUND, 32)] if state.WORD == 8 else []
-        index = in_size_t(state, moved(state, moved(state, position, before), index))
+        index = in_size_t(
+            state, saturating_add(state, saturating_add(state, position, before), index)
+        )
         return [*kind, z3.ZeroExt(24, character), index], [index, character, byte(FAILED)]
 
     def returns(self, state):
@@ -473,9 +475,9 @@ class DecoderFail(FirstInvalid):
                 (result, decoder), self.outcomes(path, position, before, *invalid)
             ):
                 # What comes after these numbers may be anything.
-                lane = [part for number in numbers for part in split(number)]
+                data = [part for number in numbers for part in split(number)]
                 path.store(
-                    address, lane + [fresh_secret(8) for _ in range(2 * path.WORD - len(lane))]
+                    address, data + [fresh_secret(8) for _ in range(2 * path.WORD - len(data))]
                 )
             yield path,
 

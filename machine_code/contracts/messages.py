@@ -21,7 +21,7 @@ KIND = secret("error_kind", 32)
 CHARACTER = secret("error_character", 32)
 POSITION = secret("error_position", 64)
 SIZE = secret("message_size", 64)
-MOST = 64  # the greatest length of text that is written
+MAX_SOURCE = 64  # the greatest length of what message_write_ended writes
 
 
 def shown(character):
@@ -75,7 +75,8 @@ def text_of(state):
 def ended(length):
     """How many bytes of the text are written before a NUL: all, or as many as fit; or nothing, not
     even a NUL."""
-    return z3.If(SIZE == 0, word(0), z3.If(z3.ULT(length, SIZE), length, SIZE - 1))
+    truncated = z3.If(z3.ULT(length, SIZE), length, SIZE - 1)
+    return z3.If(SIZE == 0, word(0), truncated)
 
 
 class Ended(Function):
@@ -86,9 +87,9 @@ class Ended(Function):
     is_unrolled = True
     near = 2
 
-    def store(self, state, offset, lane):
+    def store(self, state, offset, data):
         (offset,) = values(state.facts, offset, 1)
-        state.put_cells("output", offset, lane)
+        state.put_cells("output", offset, data)
 
     def prove_ended(self, state, length, text):
         """`text` gives so many bytes of the text."""
@@ -118,7 +119,7 @@ class WriteEnded(Ended):
         base("output"),
         SIZE,
     )
-    requires = (z3.ULE(N, MOST),)
+    requires = (z3.ULE(N, MAX_SOURCE),)
 
     def returns(self, state):
         self.prove_ended(

@@ -14,8 +14,8 @@ from contracts.functions import N
 from execution.terms import fresh_public, fresh_secret, simple, word
 from solver.questions import Rejected, require
 
-STEPS = 2000  # so many instructions from one loop header to the next
-Branch = namedtuple("Branch", "choice target")  # what a jump returns that is taken on a condition
+MAX_STEPS = 2000  # instructions from one loop header to the next
+Branch = namedtuple("Branch", "condition target")  # what a conditional jump returns
 
 
 class Loop:
@@ -26,7 +26,7 @@ class Loop:
         self.entry, self.rounds = entry, fresh_public(64)
         # There are no more rounds than this number. The next one after them is a number, too.
         bound = invariant.bound(entry)
-        entry.prove(z3.ULT(bound, N + STEPS), "the number of rounds")
+        entry.prove(z3.ULT(bound, N + MAX_STEPS), "the number of rounds")
         self.claims = [z3.ULE(self.rounds, bound), *invariant.guards(self.rounds)]
         # The registers that a round changes by a fixed number, or not at all; and the vectors that
         # it keeps.
@@ -75,8 +75,8 @@ class Loop:
         state.general = {name: fresh_secret(64) for name in state.general}
         state.general |= {name: simple(term) for name, term in self.general.items()}
         state.vectors = {
-            number: lane if number in self.unchanged else [fresh_secret(8) for _ in lane]
-            for number, lane in state.vectors.items()
+            number: data if number in self.unchanged else [fresh_secret(8) for _ in data]
+            for number, data in state.vectors.items()
         }
         for claim in self.claims:
             state.assume(claim)
@@ -99,7 +99,7 @@ def step(code, state):
     instruction = code.instruction(state.address)
     require(instruction, "control flow leaves the code")
     state.steps += 1
-    require(state.steps < STEPS, "a loop without an invariant")
+    require(state.steps < MAX_STEPS, "a loop without an invariant")
     require(not instruction.rejected, instruction.rejected)
     require(instruction.mnemonic in code.processor.HANDLERS, "an unsupported instruction")
     state.next = instruction.address + instruction.size
@@ -121,13 +121,14 @@ def step(code, state):
 
 
 def branches(state, to):
-    """The states after a jump on a condition. Time may depend on the input where it is surely
+    """The states after a conditional jump. Time may depend on the input where it is surely
     invalid."""
-    certain = state.choose(to.choice)
-    taken, not_taken = (True, to.choice, to.target), (False, z3.Not(to.choice), state.next)
-    for truth, condition, target in taken, not_taken:
+    truth = state.truth_for_valid_input(to.condition)
+    taken = True, to.condition, to.target
+    not_taken = False, z3.Not(to.condition), state.next
+    for is_taken, condition, target in taken, not_taken:
         if path := state.branch(condition, target):
-            path.is_declassified |= certain is not None and truth is not certain
+            path.is_declassified |= truth is not None and is_taken is not truth
             yield path
 
 
@@ -155,7 +156,7 @@ def called(state, effect):
         raise ValueError("a contract of what is called leaves no state")
     for other, *results in paths:
         to = other.return_address()
-        other.forget()
+        other.havoc_registers()
         other.loop = None
         other.put_results(results)
         other.drop_below()
@@ -176,7 +177,7 @@ def run(code, starts, loop_headers, infer_invariant):
                     loop.prove_invariant(state, simple(loop.rounds + 1))
                     count += 1
                     continue
-                # Without an invariant, a round is run as it is; STEPS limits how many there are.
+                # Without an invariant, a round is run as it is; MAX_STEPS limits how many there are.
                 if invariant := infer_invariant(code, state):
                     loop = Loop(state, invariant)
                     loop.prove_invariant(state, word(0))

@@ -6,7 +6,6 @@ one, wrong code could be accepted.
 """
 
 import itertools
-import itertools
 import os
 import re
 import textwrap
@@ -26,7 +25,7 @@ from solver.questions import Rejected
 
 PROCESSORS = {X86_64: x86_64, AARCH64: aarch64, None: webassembly}
 SAMPLE = 100  # so many questions of each function go to the second solver, too
-LONGEST = 300  # so many characters of a line are shown
+MAX_LINE = 300  # characters of a line of output
 CONTRACTS = (*FUNCTIONS, *MESSAGES, *KERNELS, *dispatch.OR_NULL, *dispatch.CHOICES)
 # On x86-64 the kernels have these ends of names, and others choose one of them.
 LEVEL = re.compile("_v[23]$")
@@ -111,7 +110,7 @@ def task(job):
     name = (
         f"{contract.name}, {part + 1} of {contract.parts}" if contract.parts > 1 else contract.name
     )
-    line = textwrap.shorten(f"{symbol}, {name}: {outcome}", LONGEST)
+    line = textwrap.shorten(f"{symbol}, {name}: {outcome}", MAX_LINE)
     return (
         (file, symbol, number),
         bool(fault),

@@ -18,7 +18,7 @@ from solver.questions import (
     Rejected,
     conjuncts,
     facts_of,
-    is_impossible,
+    is_unsatisfiable,
     is_public,
     is_valid,
     names,
@@ -47,7 +47,7 @@ class Region:
 
 
 STATIC = Region("static", word(1))  # which lasts from call to call
-MOST = 64  # values that the offset of a constant may have, or a jump
+MAX_VALUES = 64  # of the offset of a constant, or of a jump
 
 
 @dataclass
@@ -82,8 +82,8 @@ class State:
     reads: list = field(default_factory=list)
     writes: list = field(default_factory=list)
     digits: dict = field(default_factory=dict)
-    # What was read of the static byte, and what was stored there.
-    seen: list = field(default_factory=list)
+    # What was loaded from the static byte, and what was stored there.
+    loaded: list = field(default_factory=list)
     stored: list = field(default_factory=list)
     # Where the digits of the input begin, and the digit that waits before them, if there is one.
     body: object = word(0)
@@ -122,8 +122,8 @@ class State:
         for region in regions:
             if region.is_object and region is not stack:
                 size = region.size.as_long()
-                lane = [secret(f"{region.name}_{offset}", 8) for offset in range(size)]
-                self.put_cells(region.name, 0, lane)
+                data = [secret(f"{region.name}_{offset}", 8) for offset in range(size)]
+                self.put_cells(region.name, 0, data)
         for index, argument in enumerate(on_stack):
             self.put_cells("stack", self.STACK + self.RETURN + 8 * index, split(argument))
         self.enter()
@@ -161,7 +161,7 @@ class State:
         """That the input is valid, as far as it was read."""
         return [fact for condition in self.contract.valid(self) for fact in facts_of(condition)]
 
-    def either(self, condition, one, other, is_asked=False):
+    def if_then_else(self, condition, one, other, is_asked=False):
         """The first of two terms where a condition holds, else the second; that one alone, if it is
         asked and known."""
         if is_asked or is_public(condition):
@@ -170,14 +170,14 @@ class State:
                     return term
         return simple(z3.If(condition, one, other))
 
-    def choose(self, choice):
+    def truth_for_valid_input(self, condition):
         """Whether a condition holds for all valid inputs, or for none; None where it is public."""
-        if self.is_declassified or is_public(choice):
+        if self.is_declassified or is_public(condition):
             return None
         facts = self.facts + self.input_is_valid()
-        paths = (True, choice), (False, z3.Not(choice))
-        for truth, condition in sorted(paths, key=lambda path: -len(conjuncts(path[1]))):
-            if is_valid(facts, condition):
+        goals = (True, condition), (False, z3.Not(condition))
+        for truth, goal in sorted(goals, key=lambda pair: -len(conjuncts(pair[1]))):
+            if is_valid(facts, goal):
                 return truth
         raise Rejected("a branch depends on bytes that are secret")
 
@@ -248,8 +248,8 @@ class State:
             return [self.byte_of_input(offset + index) for index in range(count)]
         if region.name == "static":
             # Another thread may have written it since it was read before.
-            self.seen += [fresh_public(8) for _ in range(count)]
-            return self.seen[-count:]
+            self.loaded += [fresh_public(8) for _ in range(count)]
+            return self.loaded[-count:]
         require(region.is_object, f"{region.name} is read")
         first = self._offset_in(region, offset)
         known = [self.cells.get((region.name, first + index)) for index in range(count)]
@@ -268,14 +268,14 @@ class State:
                 z3.ULT(index, len(table)), "an index beyond a table, or a table that may be written"
             )
             return [simple(chosen([*map(byte, table.ljust(256, b"\0"))], z3.Extract(7, 0, index)))]
-        lane = None
-        for value in values(self.facts, offset, MOST):
-            data = [byte(part) for part in region.data.read(value, count)]
-            require(len(data) == count, "an address that has no constant, or may be written")
-            lane = (
-                [z3.If(offset == value, new, old) for new, old in zip(data, lane)] if lane else data
-            )
-        return list(map(simple, lane))
+        data = None
+        for value in values(self.facts, offset, MAX_VALUES):
+            new = [byte(part) for part in region.data.read(value, count)]
+            require(len(new) == count, "an address that has no constant, or may be written")
+            if data:
+                new = [z3.If(offset == value, *choice) for choice in zip(new, data)]
+            data = new
+        return list(map(simple, data))
 
     def jumps(self, address):
         """The conditions under which a jump leads to addresses of the file, and these addresses; or
@@ -290,22 +290,22 @@ class State:
         offset = simple(address - base)
         return [
             (offset == value, self.code.object.first + value)
-            for value in values(self.facts, offset, MOST)
+            for value in values(self.facts, offset, MAX_VALUES)
         ]
 
-    def store(self, address, lane, aligned=False):
-        region, offset = self._place(address, len(lane), aligned)
+    def store(self, address, data, aligned=False):
+        region, offset = self._place(address, len(data), aligned)
         require(region.is_writable, f"{region.name} is written")
         if region.is_object:
-            self.put_cells(region.name, self._offset_in(region, offset), lane)
+            self.put_cells(region.name, self._offset_in(region, offset), data)
         elif region.name == "static":
-            self.stored += lane
+            self.stored += data
         else:
-            self.contract.store(self, offset, lane)
-            self.writes.append((offset, len(lane)))
+            self.contract.store(self, offset, data)
+            self.writes.append((offset, len(data)))
 
-    def put_cells(self, name, offset, lane):
-        self.cells |= {(name, offset + index): value for index, value in enumerate(lane)}
+    def put_cells(self, name, offset, data):
+        self.cells |= {(name, offset + index): value for index, value in enumerate(data)}
 
     def cell(self, name, offset, count):
         """The number that some bytes of an object make."""
@@ -370,7 +370,7 @@ class State:
         """Whether what is known of a character alone says that it is a digit, or that it is
         none."""
         wanted = self.contract.is_digit(character) == is_digit
-        return is_impossible([*relevant(self.facts, wanted, 0), z3.Not(wanted)])
+        return is_unsatisfiable([*relevant(self.facts, wanted, 0), z3.Not(wanted)])
 
     def with_digits(self, offset, count, are_named=True):
         """This state where a part of the input has digits alone, or None if it can't: what is known
@@ -441,21 +441,21 @@ class State:
         """How many bytes of the stack belong to a call with so many arguments."""
         return self.RETURN + 8 * max(0, count - len(self.ARGUMENTS))
 
-    def forget_arguments(self, count):
+    def havoc_arguments(self, count):
         """Those in the stack belong to what was called."""
         for offset in range(self.RETURN, self.frame(count)):
             self.put_cells("stack", self.top() + offset, [fresh_secret(8)])
 
-    def forget(self):
+    def havoc_registers(self):
         """A function that was called has changed all registers that it need not keep."""
         kept = (*self.CALLEE_SAVED, self.TOP)
         self.general = {
             name: value if name in kept else fresh_secret(64)
             for name, value in self.general.items()
         }
-        for number, lane in self.vectors.items():
+        for number, data in self.vectors.items():
             count = self.CALLEE_SAVED_VECTORS.get(number, 0)
-            self.vectors[number] = lane[:count] + [fresh_secret(8) for _ in lane[count:]]
+            self.vectors[number] = data[:count] + [fresh_secret(8) for _ in data[count:]]
         self.flags = None
 
     def put_results(self, results):

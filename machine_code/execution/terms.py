@@ -32,24 +32,24 @@ def fresh_secret(bits):
 _wholes = {}
 
 
-def joined(lane):
+def joined(data):
     """The number that bytes make, of which the first is the lowest."""
-    if whole := _wholes.get(tuple(part.get_id() for part in lane)):
+    if whole := _wholes.get(tuple(part.get_id() for part in data)):
         return whole[0]
-    return simple(z3.Concat(*reversed(lane))) if len(lane) > 1 else lane[0]
+    return simple(z3.Concat(*reversed(data))) if len(data) > 1 else data[0]
 
 
 def split(term):
     """The bytes of a number. One of 32 or 64 bits, and the lower half of one of 64, are kept for
     `joined`, which would not find the same sums again."""
-    lane = [simple(z3.Extract(bit + 7, bit, term)) for bit in range(0, term.size(), 8)]
+    data = [simple(z3.Extract(bit + 7, bit, term)) for bit in range(0, term.size(), 8)]
     for size in (4, 8):
-        if len(lane) in (size, 8):
-            _wholes[tuple(part.get_id() for part in lane[:size])] = (
+        if len(data) in (size, 8):
+            _wholes[tuple(part.get_id() for part in data[:size])] = (
                 simple(z3.Extract(8 * size - 1, 0, term)),
-                lane,
+                data,
             )
-    return lane
+    return data
 
 
 def chosen(table, index):

@@ -16,13 +16,14 @@ from meanings.webassembly_blocks import ENDS, Operands
 from reading.module import SPACE
 from solver.questions import Rejected, is_public, names
 
-# What leads to the address that it names, and what does not lead to the next instruction; on each
+# Instructions that jump to the address that they name, and those that never fall through; on each
 # processor.
-JUMP, LAST = re.compile(r"j|call|bl?$|b\.|cbn?z|tbn?z"), ("jmp", "b", "ret", *ENDS)
+JUMP = re.compile(r"j|call|bl?$|b\.|cbn?z|tbn?z")
+NEVER_FALLS_THROUGH = ("jmp", "b", "ret", *ENDS)
 
 
-def follows(i):
-    """Where an instruction leads."""
+def successors(i):
+    """The addresses of the instructions that may run after an instruction."""
     if isinstance(i.operands, Operands):
         targets = i.operands.targets + [
             SPACE * (number + 1) for number in i.operands.numbers if i.mnemonic == "call"
@@ -31,35 +32,37 @@ def follows(i):
         targets = [
             o.value for o in i.operands[-1:] if JUMP.match(i.mnemonic) and o.kind == "number"
         ]
-    return [i.address + i.size] * (i.mnemonic not in LAST) + targets
+    falls_through = i.mnemonic not in NEVER_FALLS_THROUGH
+    return [i.address + i.size] * falls_through + targets
 
 
 def loop_headers(code, start):
     """The targets of edges back to an instruction that is being visited, in calls, too."""
-    targets = set()
+    headers = set()
     done = set()
     work = [(start, frozenset())]
     while work:
-        address, above = work.pop()
-        targets |= {address} & above
+        address, ancestors = work.pop()
+        headers |= {address} & ancestors
         if address not in done and address not in code.callees and (i := code.instruction(address)):
             done.add(address)
-            work += [(to, above | {address}) for to in follows(i)]
-    return targets
+            work += [(to, ancestors | {address}) for to in successors(i)]
+    return headers
 
 
-def leading_to(code, target):
-    """The instructions from which one leads to an address, if no call has to return before."""
-    before = {}
+def reaching(code, target):
+    """The instructions that reach an address, if no call has to return before."""
+    predecessors = {}
     for i in code.instructions.values():
-        for to in follows(i) if i.mnemonic in code.processor.HANDLERS else ():
-            before.setdefault(to, []).append(i.address)
-    leading, work = set(), [target]
+        for to in successors(i) if i.mnemonic in code.processor.HANDLERS else ():
+            predecessors.setdefault(to, []).append(i.address)
+    found = set()
+    work = [target]
     while work:
-        new = {*before.get(work.pop(), ())} - leading
-        leading |= new
+        new = {*predecessors.get(work.pop(), ())} - found
+        found |= new
         work += new
-    return leading
+    return found
 
 
 class Invariant:
@@ -131,7 +134,8 @@ class Invariant:
         two terms."""
         guarded = {name for fact in self.facts for name in names(fact)}
         for name, step in self.steps.items():
-            begin, is_guarded = entry.general[name], self.added[name].decl().name() in guarded
+            begin = entry.general[name]
+            is_guarded = self.added[name].decl().name() in guarded
             if step < 0 and is_guarded and not z3.is_true(simple(begin <= 0)):
                 return simple(z3.UDiv(begin, word(-step)))
         for one, other in [pair for fact in self.facts for pair in _compared(fact)]:
@@ -167,17 +171,17 @@ class Unproved:
     def prove(self, goal, message):
         pass
 
-    def choose(self, choice):
+    def truth_for_valid_input(self, condition):
         return None
 
     def fits(self, term):
         return True
 
-    def store(self, address, lane, aligned=False):
+    def store(self, address, data, aligned=False):
         if "output" in names(simple(address)):
-            self.writes.append((simple(address - self.regions["output"].base), len(lane)))
+            self.writes.append((simple(address - self.regions["output"].base), len(data)))
         else:
-            super().store(address, lane, aligned)
+            super().store(address, data, aligned)
 
     def returned(self):
         raise Rejected("a round that ends elsewhere")
@@ -205,10 +209,11 @@ def _first_round(code, entry):
     """The addresses on a path from a loop's header back to it, and the state there; or None, if
     none was found."""
     unchanged = {name: word(0) for name in entry.general}
-    work, leading = [(_at_header(entry, Unproved, unchanged), ())], leading_to(code, entry.address)
+    work = [(_at_header(entry, Unproved, unchanged), ())]
+    going_back = reaching(code, entry.address)
     while work:
         # Those that lead back come first.
-        work.sort(key=lambda part: part[0].address in leading)
+        work.sort(key=lambda part: part[0].address in going_back)
         state, path = work.pop()
         if path and state.address == entry.address:
             return path, state

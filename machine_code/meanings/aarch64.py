@@ -34,7 +34,7 @@ from meanings.lanes import (
     logic_flags,
     set_if,
     sum_flags,
-    units,
+    lanes,
 )
 from reading import assembled
 from reading.image import AARCH64
@@ -43,6 +43,7 @@ from solver.questions import public, require
 # An address, registers in braces, or anything else without a comma.
 OPERAND = re.compile(r"\[[^]]*\]!?|\{[^}]*\}(?:\[\d+\])?|[^,\s][^,]*")
 SIZES = {"b": 1, "h": 2, "s": 4, "d": 8, "q": 16}
+ADRP_IMMEDIATE = 0x60FFFFE0  # the bits of immlo and immhi
 # Of a general register: not x18, which belongs to the platform.
 NUMBER = r"(?!18\b)\d+"
 
@@ -56,8 +57,8 @@ def _operand(text):
     if match := re.fullmatch(r"([bhsdq])(\d+)", text):
         return Operand("vector", SIZES[match[1]], int(match[2]))
     if match := re.fullmatch(r"\{?v(\d+)\.(\d+)([bhsd])\}?", text):
-        lane = SIZES[match[3]]
-        return Operand("vector", int(match[2]) * lane, int(match[1]), lane=lane)
+        lane_size = SIZES[match[3]]
+        return Operand("vector", int(match[2]) * lane_size, int(match[1]), lane_size=lane_size)
     if match := re.fullmatch(r"\{?v(\d+)\.([bhsd])\}?\[(\d+)\]", text):
         size = SIZES[match[2]]
         return Operand("element", size, int(match[1]), first=int(match[3]) * size)
@@ -86,15 +87,17 @@ def _operands(text):
 
 
 def _is_page(i, old, new):
-    """The assembler leaves it to the linker which page the instruction has."""
-    words = [int.from_bytes(code[:4], "little") for code in (old, new)]
-    pages = words[0] >> 29 & 3 | words[0] >> 3 & 0x1FFFFC
-    to = (i.address >> 12) + pages - (pages >> 20 << 21) << 12
-    return (
-        i.mnemonic == "adrp"
-        and (words[0] ^ words[1]) & ~0x60FFFFE0 == 0
-        and i.operands[1].value == to
-    )
+    """Whether an `adrp` has the page of its text, which the assembler leaves to the linker."""
+    if i.mnemonic != "adrp":
+        return False
+    code, without_page = [int.from_bytes(part[:4], "little") for part in (old, new)]
+    immlo = code >> 29 & 3
+    immhi = code >> 5 & 0x7FFFF
+    pages = immhi << 2 | immlo
+    signed_pages = pages - (pages >> 20 << 21)
+    target = (i.address >> 12) + signed_pages << 12
+    is_same = (code ^ without_page) & ~ADRP_IMMEDIATE == 0
+    return is_same and i.operands[1].value == target
 
 
 def instructions(code, part, level):
@@ -141,11 +144,11 @@ class State(state.State):
         if size == 8 and last.size == 4 and shifted.name == "uxtw":
             number = z3.ZeroExt(32, self.number(last))
         else:
-            require(shifted.name in SHIFTS, "a shift")
+            require(shifted.name in SHIFTS, "an unsupported shift")
             number = SHIFTS[shifted.name](self.number(last, size), shifted.value)
         return [*self.numbers(operands, size), simple(number)]
 
-    def lane(self, o):
+    def data(self, o):
         """The bytes of any register."""
         if o.kind == "general":
             return split(self.number(o))
@@ -155,15 +158,15 @@ class State(state.State):
         if o.name != "xzr":
             self.general[o.name] = simple(z3.ZeroExt(32, term) if o.size == 4 else term)
 
-    def put_lane(self, o, lane):
+    def put_data(self, o, data):
         """Writes any register. What lies above in it is cleared, but not what is beside an
         element."""
         if o.kind == "general":
-            return self.put(o, joined(lane))
+            return self.put(o, joined(data))
         if o.kind == "element":
             old = self.vectors[o.name]
-            lane = old[: o.first] + lane + old[o.first + o.size :]
-        self.vectors[o.name] = lane + [byte(0)] * (16 - len(lane))
+            data = old[: o.first] + data + old[o.first + o.size :]
+        self.vectors[o.name] = data + [byte(0)] * (16 - len(data))
 
 
 SHIFTS = {"lsl": SHIFT_LEFT, "lsr": z3.LShR}
@@ -188,32 +191,34 @@ def upper_product(s, to, one, other):
     s.put(to, simple(z3.Extract(127, 64, s.product(s.number(one), s.number(other)))))
 
 
-def move_part(s, to, number, *by):
+def move_part(s, to, number, *shift):
     """Writes 16 bits, and keeps the others."""
-    bit = by[0].value if by else 0
+    bit = shift[0].value if shift else 0
     s.put(to, simple(s.number(to) & ~(0xFFFF << bit) | number.value << bit))
 
 
-def insert_bits(s, to, by, low, count):
+def insert_bits(s, to, source, low, count):
     """So many bits from anywhere in a register replace the lowest of another."""
-    require(count.value < 8 * to.size, "all bits")
+    require(count.value < 8 * to.size, "an unsupported bit field")
     rest = z3.Extract(8 * to.size - 1, count.value, s.number(to))
-    new = z3.Extract(low.value + count.value - 1, low.value, s.number(by, to.size))
+    new = z3.Extract(low.value + count.value - 1, low.value, s.number(source, to.size))
     s.put(to, simple(z3.Concat(rest, new)))
 
 
 def shift(function):
-    def handler(s, to, by, count):
-        require(count.kind == "number", "a shift")
-        s.put(to, simple(function(s.number(by, to.size), count.value)))
+    def handler(s, to, source, count):
+        require(count.kind == "number", "an unsupported shift")
+        s.put(to, simple(function(s.number(source, to.size), count.value)))
 
     return handler
 
 
 def select(function):
-    def handler(s, to, one, other, name):
-        a, b = s.number(one, to.size), s.number(other, to.size)
-        s.put(to, s.either(holds(s, CONDITIONS[name.name]), a, simple(function(b)), is_asked=True))
+    def handler(s, to, one, other, condition):
+        is_one = holds(s, CONDITIONS[condition.name])
+        a = s.number(one, to.size)
+        b = simple(function(s.number(other, to.size)))
+        s.put(to, s.if_then_else(is_one, a, b, is_asked=True))
 
     return handler
 
@@ -221,63 +226,66 @@ def select(function):
 # Vectors
 def same(*vectors):
     """The vectors have the same lanes."""
-    require(all(o.lane for o in vectors), "vectors are needed")
+    require(all(o.lane_size for o in vectors), "vectors are needed")
 
 
-def by_units(function):
+def by_lanes(function):
     def handler(s, to, one, other):
         same(to, one, other)
-        s.put_lane(to, each(function, to.lane, s.lane(one), s.lane(other)))
+        s.put_data(to, each(function, to.lane_size, s.data(one), s.data(other)))
 
     return handler
 
 
-def either(of_general, of_vectors):
-    return lambda s, to, *sources: (of_general if to.kind == "general" else of_vectors)(
-        s, to, *sources
-    )
+def by_kind(on_general, on_vectors):
+    def handler(s, to, *sources):
+        function = on_general if to.kind == "general" else on_vectors
+        return function(s, to, *sources)
+
+    return handler
 
 
 def shifted(function):
-    def handler(s, to, one, by):
-        same(to, one)
-        s.put_lane(to, each(lambda a: function(a, by.value), to.lane, s.lane(one)))
+    def handler(s, to, source, count):
+        same(to, source)
+        s.put_data(to, each(lambda a: function(a, count.value), to.lane_size, s.data(source)))
 
     return handler
 
 
-def shift_left_and_insert(s, to, one, by):
+def shift_left_and_insert(s, to, source, count):
     """The lower bits of each number stay as they were."""
-    same(to, one)
-    inserted = lambda a, old: a << by.value | old & (1 << by.value) - 1
-    s.put_lane(to, each(inserted, to.lane, s.lane(one), s.lane(to)))
+    same(to, source)
+    inserted = lambda a, old: a << count.value | old & (1 << count.value) - 1
+    s.put_data(to, each(inserted, to.lane_size, s.data(source), s.data(to)))
 
 
 def constant(s, to, number):
-    require(to.lane, "a vector is needed")
-    s.put_lane(to, split(z3.BitVecVal(number.value, 8 * to.lane)) * (to.size // to.lane))
+    require(to.lane_size, "a vector is needed")
+    s.put_data(to, split(z3.BitVecVal(number.value, 8 * to.lane_size)) * (to.size // to.lane_size))
 
 
-def move(s, to, by):
+def move(s, to, source):
     """Between registers of any kind. What is above in a register is cleared."""
-    if by.kind == "number" or by.kind == to.kind == "general":
-        return s.put(to, s.number(by, to.size))
+    if source.kind == "number" or source.kind == to.kind == "general":
+        return s.put(to, s.number(source, to.size))
     # An element comes from the lower bytes of a register, and goes into a register that may be
     # wider.
-    s.put_lane(to, s.lane(by)[: to.size] + [byte(0)] * (to.size - by.size))
+    s.put_data(to, s.data(source)[: to.size] + [byte(0)] * (to.size - source.size))
 
 
-def duplicate(s, to, by):
-    s.put_lane(to, s.lane(by)[: to.lane] * (to.size // to.lane))
+def duplicate(s, to, source):
+    s.put_data(to, s.data(source)[: to.lane_size] * (to.size // to.lane_size))
 
 
-def narrow(s, to, by):
-    s.put_lane(to, bytes_of(z3.Extract(8 * to.lane - 1, 0, a) for a in units(s.lane(by), by.lane)))
+def narrow(s, to, source):
+    numbers = lanes(s.data(source), source.lane_size)
+    s.put_data(to, bytes_of(z3.Extract(8 * to.lane_size - 1, 0, a) for a in numbers))
 
 
-def widen(s, to, by):
-    numbers = units(s.lane(by), by.lane)
-    s.put_lane(to, bytes_of(z3.ZeroExt(8 * (to.lane - by.lane), a) for a in numbers))
+def widen(s, to, source):
+    numbers = lanes(s.data(source), source.lane_size)
+    s.put_data(to, bytes_of(z3.ZeroExt(8 * (to.lane_size - source.lane_size), a) for a in numbers))
 
 
 def mixed(function):
@@ -285,21 +293,21 @@ def mixed(function):
 
     def handler(s, to, one, other):
         same(to, one, other)
-        a, b = units(s.lane(one), to.lane), units(s.lane(other), to.lane)
-        s.put_lane(to, bytes_of(function(a, b)))
+        a, b = lanes(s.data(one), to.lane_size), lanes(s.data(other), to.lane_size)
+        s.put_data(to, bytes_of(function(a, b)))
 
     return handler
 
 
 def extract(s, to, one, other, first):
     same(to, one, other)
-    s.put_lane(to, (s.lane(one) + s.lane(other))[first.value :][: to.size])
+    s.put_data(to, (s.data(one) + s.data(other))[first.value :][: to.size])
 
 
-def look_up(s, to, table, by):
-    entries = s.lane(table)
-    found = [z3.If(z3.ULT(i, 16), chosen(entries, i), byte(0)) for i in s.lane(by)]
-    s.put_lane(to, [*map(simple, found)])
+def look_up(s, to, table, indices):
+    entries = s.data(table)
+    found = [z3.If(z3.ULT(i, 16), chosen(entries, i), byte(0)) for i in s.data(indices)]
+    s.put_data(to, [*map(simple, found)])
 
 
 # Jumps
@@ -314,8 +322,9 @@ def ret(s, *operands):
 
 
 def jump_if_bit(is_set):
-    def handler(s, by, bit, to):
-        return Branch(simple(z3.Extract(bit.value, bit.value, s.number(by)) == is_set), to.value)
+    def handler(s, source, bit, to):
+        value = z3.Extract(bit.value, bit.value, s.number(source))
+        return Branch(simple(value == is_set), to.value)
 
     return handler
 
@@ -340,12 +349,13 @@ def load(size=None):
 
     def handler(s, *operands):
         *targets, o = operands
-        (address, moved), count = accessed(s, o), size or targets[0].size
-        lane = s.load(address, count * len(targets))
+        address, moved = accessed(s, o)
+        count = size or targets[0].size
+        data = s.load(address, count * len(targets))
         s.general |= moved
         for number, target in enumerate(targets):
-            part = lane[count * number :][:count]
-            s.put_lane(target, part + [byte(0)] * (target.size - count))
+            part = data[count * number :][:count]
+            s.put_data(target, part + [byte(0)] * (target.size - count))
 
     return handler
 
@@ -357,29 +367,29 @@ def store(size=None):
         *sources, o = operands
         address, moved = accessed(s, o)
         s.general |= moved
-        s.store(address, [x for source in sources for x in s.lane(source)[:size]])
+        s.store(address, [x for source in sources for x in s.data(source)[:size]])
 
     return handler
 
 
 def store_interleaved(s, one, other, o):
     same(one, other)
-    pairs = zip(units(s.lane(one), one.lane), units(s.lane(other), other.lane))
+    pairs = zip(lanes(s.data(one), one.lane_size), lanes(s.data(other), other.lane_size))
     address, moved = accessed(s, o)
     s.general |= moved
     s.store(address, bytes_of(number for pair in pairs for number in pair))
 
 
 HANDLERS = {
-    "add": either(general(ADD), by_units(ADD)),
+    "add": by_kind(general(ADD), by_lanes(ADD)),
     "adds": general(ADD, sum_flags),
     "cmn": general(ADD, sum_flags, is_kept=False),
     "tst": general(AND, logic_flags(AND), is_kept=False),
-    "sub": either(general(SUBTRACT), by_units(SUBTRACT)),
+    "sub": by_kind(general(SUBTRACT), by_lanes(SUBTRACT)),
     "subs": general(SUBTRACT, comparison_flags),
     "cmp": general(SUBTRACT, comparison_flags, is_kept=False),
-    "and": either(general(AND), by_units(AND)),
-    "orr": either(general(OR), by_units(OR)),
+    "and": by_kind(general(AND), by_lanes(AND)),
+    "orr": by_kind(general(OR), by_lanes(OR)),
     "eor": general(XOR),
     "neg": general(lambda a: -a),
     "mvn": general(lambda a: ~a),
@@ -389,22 +399,22 @@ HANDLERS = {
     "bfxil": insert_bits,
     "lsl": shift(SHIFT_LEFT),
     "lsr": shift(z3.LShR),
-    "adr": lambda s, to, by: s.put(to, s.code.placed(by.value)),
-    "adrp": lambda s, to, by: s.put(to, s.code.placed(by.value)),
+    "adr": lambda s, to, target: s.put(to, s.code.placed(target.value)),
+    "adrp": lambda s, to, target: s.put(to, s.code.placed(target.value)),
     "nop": lambda s: None,
-    "cset": lambda s, to, name: set_if(CONDITIONS[name.name])(s, to),
+    "cset": lambda s, to, condition: set_if(CONDITIONS[condition.name])(s, to),
     "csel": select(lambda b: b),
     "csinv": select(lambda b: ~b),
     "b": lambda s, to: to.value,
     "bl": call,
     "ret": ret,
-    "cbz": lambda s, by, to: Branch(simple(s.number(by) == 0), to.value),
-    "cbnz": lambda s, by, to: Branch(simple(s.number(by) != 0), to.value),
+    "cbz": lambda s, source, to: Branch(simple(s.number(source) == 0), to.value),
+    "cbnz": lambda s, source, to: Branch(simple(s.number(source) != 0), to.value),
     "tbz": jump_if_bit(0),
     "tbnz": jump_if_bit(1),
-    "mul": by_units(MULTIPLY),
-    "umin": by_units(MINIMUM),
-    "uqsub": by_units(SUBTRACT_SATURATED),
+    "mul": by_lanes(MULTIPLY),
+    "umin": by_lanes(MINIMUM),
+    "uqsub": by_lanes(SUBTRACT_SATURATED),
     "ushr": shifted(z3.LShR),
     "shl": shifted(lambda a, count: a << count),
     "sli": shift_left_and_insert,

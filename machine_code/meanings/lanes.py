@@ -6,7 +6,7 @@ from dataclasses import dataclass
 import z3
 
 from execution.paths import Branch
-from execution.terms import joined, simple, split
+from execution.terms import byte, joined, simple, split
 from solver.questions import require
 
 
@@ -23,32 +23,39 @@ class Operand:
     offset: int = 0
     # On AArch64: the bytes of a vector's lane, where an element begins, whether an address is
     # written back to its base, and what is added to the base afterwards.
-    lane: int = None
+    lane_size: int = None
     first: int = None
     is_moved: bool = False
     after: object = None
 
 
-def units(lane, size):
-    """The numbers of so many bytes that a lane has."""
-    return [joined(lane[first : first + size]) for first in range(0, len(lane), size)]
+def lanes(data, size):
+    """The lanes of a vector, as numbers of so many bytes."""
+    return [joined(data[first : first + size]) for first in range(0, len(data), size)]
 
 
 def bytes_of(numbers):
-    return [byte for number in numbers for byte in split(simple(number))]
+    return [part for number in numbers for part in split(simple(number))]
 
 
-def each(function, size, *lanes):
-    """Does the same to the numbers of so many bytes of some lanes."""
-    return bytes_of(map(function, *[units(lane, size) for lane in lanes]))
+def each(function, size, *vectors):
+    """Does the same to each lane, of so many bytes, of some vectors."""
+    return bytes_of(map(function, *[lanes(vector, size) for vector in vectors]))
+
+
+def zero_extended(data):
+    """Each byte as two, of which the upper one is 0."""
+    return [part for value in data for part in (value, byte(0))]
 
 
 def saturated(numbers):
     """Signed numbers as bytes: each one, or the nearest one that is a byte."""
-    return [
-        simple(z3.Extract(7, 0, z3.If(number < 0, 0, z3.If(number > 255, 255, number))))
-        for number in numbers
-    ]
+
+    def clamped(number):
+        at_most = z3.If(number > 255, 255, number)
+        return z3.If(number < 0, 0, at_most)
+
+    return [simple(z3.Extract(7, 0, clamped(number))) for number in numbers]
 
 
 # By two numbers of any size.
@@ -123,7 +130,7 @@ def general(function, flags=None, is_kept=True):
 def set_if(condition):
     def handler(s, to):
         one, zero = z3.BitVecVal(1, 8 * to.size), z3.BitVecVal(0, 8 * to.size)
-        s.put(to, s.either(holds(s, condition), one, zero))
+        s.put(to, s.if_then_else(holds(s, condition), one, zero))
 
     return handler
 

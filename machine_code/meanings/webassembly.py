@@ -20,8 +20,9 @@ from meanings.lanes import (
     SHIFT_LEFT,
     SUBTRACT,
     each,
+    lanes,
     saturated,
-    units,
+    zero_extended,
 )
 from meanings.webassembly_blocks import instructions  # as each processor has it
 from reading.module import SPACE
@@ -108,7 +109,7 @@ class State(state.State):
 
     return_address = leave_function
 
-    def forget(self):
+    def havoc_registers(self):
         """What is called changes no register of its caller."""
 
     # Registers, by the names of those of the function that runs
@@ -187,11 +188,11 @@ def computes(name, takes, function):
 def compares(name, takes, condition):
     """The same: 1 if a condition on the operands holds, else 0."""
     one, zero = z3.BitVecVal(1, 1), z3.BitVecVal(0, 1)
-    accesses(
-        name,
-        takes,
-        lambda s, numbers, *values: z3.ZeroExt(63, s.either(simple(condition(*values)), one, zero)),
-    )
+
+    def compare(s, numbers, *values):
+        return z3.ZeroExt(63, s.if_then_else(simple(condition(*values)), one, zero))
+
+    accesses(name, takes, compare)
 
 
 # Numbers
@@ -326,6 +327,11 @@ def loads(name, count, function):
     accesses(name, "n", lambda s, numbers, a: function(s.load(simple(a + numbers[0]), count)))
 
 
+def _load_lane(s, numbers, a, data):
+    offset, index = numbers
+    return [*data[:index], *s.load(simple(a + offset), 1), *data[index + 1 :]]
+
+
 def stores(name, takes, function):
     def store(s, numbers, a, value):
         s.store(simple(a + numbers[0]), function(value, *numbers[1:]))
@@ -334,48 +340,40 @@ def stores(name, takes, function):
 
 
 for _name, _size in {"i32.load": 4, "i32.load8_u": 1, "i32.load16_u": 2, "i64.load": 8}.items():
-    loads(_name, _size, lambda lane: z3.ZeroExt(64 - 8 * len(lane), joined(lane)))
-loads("v128.load", 16, lambda lane: lane)
-loads("v128.load64_zero", 8, lambda lane: lane + [byte(0)] * 8)
-loads("v128.load8x8_u", 8, lambda lane: [part for value in lane for part in (value, byte(0))])
-accesses(
-    "v128.load8_lane",
-    "nv",
-    lambda s, numbers, a, lane: [
-        *lane[: numbers[1]],
-        *s.load(simple(a + numbers[0]), 1),
-        *lane[numbers[1] + 1 :],
-    ],
-)
+    loads(_name, _size, lambda data: z3.ZeroExt(64 - 8 * len(data), joined(data)))
+loads("v128.load", 16, lambda data: data)
+loads("v128.load64_zero", 8, lambda data: data + [byte(0)] * 8)
+loads("v128.load8x8_u", 8, zero_extended)
+accesses("v128.load8_lane", "nv", _load_lane)
 stores("i32.store", "ni", lambda value: split(value)[:4])
 stores("i32.store8", "ni", lambda value: split(value)[:1])
 stores("i32.store16", "ni", lambda value: split(value)[:2])
 # It has the results of others, where they are compared.
 stores("i64.store", "nl", split)
-stores("v128.store", "nv", lambda lane: lane)
-stores("v128.store16_lane", "nv", lambda lane, index: lane[2 * index :][:2])
-stores("v128.store32_lane", "nv", lambda lane, index: lane[4 * index :][:4])
-stores("v128.store64_lane", "nv", lambda lane, index: lane[8 * index :][:8])
+stores("v128.store", "nv", lambda data: data)
+stores("v128.store16_lane", "nv", lambda data, index: data[2 * index :][:2])
+stores("v128.store32_lane", "nv", lambda data, index: data[4 * index :][:4])
+stores("v128.store64_lane", "nv", lambda data, index: data[8 * index :][:8])
 
 
 # Vectors
-def _shift_units(a, b):
+def _shift_lanes(a, b):
     count = _count(b, 16)
     return each(lambda part: z3.LShR(part, count), 2, a)
 
 
-def by_units(name, size, function):
+def by_lanes(name, size, function):
     computes(name, "vv", lambda a, b: each(function, size, a, b))
 
 
-by_units("v128.and", 1, AND)
-by_units("v128.or", 1, OR)
-by_units("i8x16.add", 1, ADD)
-by_units("i8x16.sub", 1, SUBTRACT)
-by_units("i8x16.min_u", 1, MINIMUM)
-by_units("i8x16.max_u", 1, MAXIMUM)
-by_units("i16x8.mul", 2, MULTIPLY)
-computes("i16x8.shr_u", "vn", _shift_units)
+by_lanes("v128.and", 1, AND)
+by_lanes("v128.or", 1, OR)
+by_lanes("i8x16.add", 1, ADD)
+by_lanes("i8x16.sub", 1, SUBTRACT)
+by_lanes("i8x16.min_u", 1, MINIMUM)
+by_lanes("i8x16.max_u", 1, MAXIMUM)
+by_lanes("i16x8.mul", 2, MULTIPLY)
+computes("i16x8.shr_u", "vn", _shift_lanes)
 computes("i16x8.splat", "i", lambda a: split(z3.Extract(15, 0, a)) * 8)
 computes("i32x4.splat", "i", lambda a: split(_lower(a)) * 4)
 computes(
@@ -383,17 +381,9 @@ computes(
     "vv",
     lambda a, b: [simple(z3.If(z3.ULT(index, 16), chosen(a, index), byte(0))) for index in b],
 )
-computes("i8x16.narrow_i16x8_u", "vv", lambda a, b: saturated(units(a + b, 2)))
-computes(
-    "i16x8.extend_low_i8x16_u",
-    "v",
-    lambda a: [part for value in a[:8] for part in (value, byte(0))],
-)
-computes(
-    "i16x8.extend_high_i8x16_u",
-    "v",
-    lambda a: [part for value in a[8:] for part in (value, byte(0))],
-)
+computes("i8x16.narrow_i16x8_u", "vv", lambda a, b: saturated(lanes(a + b, 2)))
+computes("i16x8.extend_low_i8x16_u", "v", lambda a: zero_extended(a[:8]))
+computes("i16x8.extend_high_i8x16_u", "v", lambda a: zero_extended(a[8:]))
 compares("v128.any_true", "v", lambda a: z3.Or(*[part != 0 for part in a]))
 accesses("i8x16.shuffle", "vv", lambda s, numbers, a, b: [(a + b)[index] for index in numbers])
 accesses("i8x16.extract_lane_u", "v", lambda s, numbers, a: z3.ZeroExt(56, a[numbers[0]]))

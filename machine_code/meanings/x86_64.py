@@ -137,7 +137,7 @@ class State(state.State):
             return simple(self.code.placed(self.next + o.offset))
         return super().address_of(o)
 
-    def lane(self, o, size=None):
+    def data(self, o, size=None):
         """The lowest bytes of an operand, or all."""
         if o.kind == "general":
             return split(z3.Extract(8 * o.size - 1, 0, self.general[o.name]))[:size]
@@ -152,7 +152,7 @@ class State(state.State):
             return z3.BitVecVal(o.value, 8 * size)
         if o.kind == "general" and o.size == 8:
             return self.general[o.name]
-        return joined(self.lane(o))
+        return joined(self.data(o))
 
     def numbers(self, operands, size):
         return [self.number(o, size) for o in operands]
@@ -167,11 +167,11 @@ class State(state.State):
             term = z3.Concat(z3.Extract(63, 8 * o.size, self.general[o.name]), term)
         self.general[o.name] = simple(term)
 
-    def put_vector(self, o, lane):
+    def put_vector(self, o, data):
         """Writes a vector: what lies above is kept by the old forms of instructions, and cleared by
         the new ones."""
         above = self.vectors[o.name][o.size :] if self.is_legacy else [byte(0)] * (32 - o.size)
-        self.vectors[o.name] = [*lane, *[byte(0)] * (o.size - len(lane)), *above]
+        self.vectors[o.name] = [*data, *[byte(0)] * (o.size - len(data)), *above]
         self.is_clean &= o.size == 16
 
 
@@ -200,53 +200,56 @@ def by_one(function, flags):
 
 
 def shift(function):
-    def handler(s, to, by):
-        require(by.kind == "number" and 0 < by.value < 8 * to.size, "a shift")
-        result = simple(function(s.number(to), by.value))
+    def handler(s, to, count):
+        require(count.kind == "number" and 0 < count.value < 8 * to.size, "an unsupported shift")
+        result = simple(function(s.number(to), count.value))
         s.put(to, result)
         s.flags = {"s": result < 0, "z": result == 0, "c": None, "o": None}
 
     return handler
 
 
-def multiply(s, by):
-    require(by.size == 8, "an unsupported operand size")
-    product = s.product(s.general["rax"], s.number(by))
+def multiply(s, source):
+    require(source.size == 8, "an unsupported operand size")
+    product = s.product(s.general["rax"], s.number(source))
     s.general["rax"] = simple(z3.Extract(63, 0, product))
     s.general["rdx"] = simple(z3.Extract(127, 64, product))
     s.flags = None
 
 
 def move(extension):
-    def handler(s, to, by):
-        number = s.number(by, to.size)
+    def handler(s, to, source):
+        number = s.number(source, to.size)
         s.put(to, simple(extension(8 * to.size - number.size(), number)))
 
     return handler
 
 
-def lea(s, to, by):
-    s.put(to, simple(z3.Extract(8 * to.size - 1, 0, s.address_of(by))))
+def lea(s, to, source):
+    s.put(to, simple(z3.Extract(8 * to.size - 1, 0, s.address_of(source))))
 
 
 def move_if(condition):
-    return lambda s, to, by: s.put(to, s.either(holds(s, condition), s.number(by), s.number(to)))
+    def handler(s, to, source):
+        s.put(to, s.if_then_else(holds(s, condition), s.number(source), s.number(to)))
+
+    return handler
 
 
-def pushed(s, lane):
+def pushed(s, data):
     s.general["rsp"] = simple(s.general["rsp"] - 8)
-    s.store(s.general["rsp"], lane)
+    s.store(s.general["rsp"], data)
 
 
 def push(s, o):
     require(o.size == 8, "an unsupported operand size")
-    pushed(s, s.lane(o))
+    pushed(s, s.data(o))
 
 
 def popped(s):
-    lane = s.load(s.general["rsp"], 8)
+    data = s.load(s.general["rsp"], 8)
     s.general["rsp"] = simple(s.general["rsp"] + 8)
-    return joined(lane)
+    return joined(data)
 
 
 def pop(s, o):

@@ -13,21 +13,22 @@ from meanings.lanes import (
     SUBTRACT_SATURATED,
     XOR,
     each,
+    lanes,
     saturated,
-    units,
+    zero_extended,
 )
 from solver.questions import require
 
 
-def three(handler):
+def with_three_operands(handler):
     """The old form of an instruction has its target for the first source."""
     return lambda s, to, *others: handler(s, to, *[to] * (len(others) == 1), *others)
 
 
-def by_units(size, function):
-    @three
+def by_lanes(size, function):
+    @with_three_operands
     def handler(s, to, one, other):
-        s.put_vector(to, each(function, size, s.lane(one), s.lane(other)))
+        s.put_vector(to, each(function, size, s.data(one), s.data(other)))
 
     return handler
 
@@ -35,23 +36,23 @@ def by_units(size, function):
 def by_halves(function):
     """Does the same to each 16 bytes of two operands."""
 
-    @three
+    @with_three_operands
     def handler(s, to, one, other):
-        a = s.lane(one)
-        b = s.lane(other)
-        lane = []
+        a = s.data(one)
+        b = s.data(other)
+        data = []
         for first in range(0, to.size, 16):
-            lane += function(a[first:][:16], b[first:][:16])
-        s.put_vector(to, lane)
+            data += function(a[first:][:16], b[first:][:16])
+        s.put_vector(to, data)
 
     return handler
 
 
-def shift_units(size, function):
-    @three
-    def handler(s, to, one, by):
-        require(by.kind == "number" and by.value < 8 * size, "a shift")
-        s.put_vector(to, each(lambda a: function(a, by.value), size, s.lane(one)))
+def shift_lanes(size, function):
+    @with_three_operands
+    def handler(s, to, one, count):
+        require(count.kind == "number" and count.value < 8 * size, "an unsupported shift")
+        s.put_vector(to, each(lambda a: function(a, count.value), size, s.data(one)))
 
     return handler
 
@@ -61,91 +62,96 @@ def looked_up(table, index):
 
 
 def move_vector(is_aligned):
-    def handler(s, to, by):
+    def handler(s, to, source):
         if to.kind == "memory":
-            return s.store(s.address_of(to), s.lane(by), is_aligned)
-        if by.kind == "memory":
-            return s.put_vector(to, s.load(s.address_of(by), by.size, is_aligned))
-        s.put_vector(to, s.lane(by))
+            return s.store(s.address_of(to), s.data(source), is_aligned)
+        if source.kind == "memory":
+            return s.put_vector(to, s.load(s.address_of(source), source.size, is_aligned))
+        s.put_vector(to, s.data(source))
 
     return handler
 
 
-def put_low(s, to, lane):
+def put_low(s, to, data):
     """Writes the lowest bytes of a vector or of another operand. Those above are cleared."""
     if to.kind == "vector":
-        return s.put_vector(to, lane)
-    s.put(to, joined(lane + [byte(0)] * (to.size - len(lane))))
+        return s.put_vector(to, data)
+    s.put(to, joined(data + [byte(0)] * (to.size - len(data))))
 
 
 def move_low(size):
-    return lambda s, to, by: put_low(s, to, s.lane(by, size))
+    return lambda s, to, source: put_low(s, to, s.data(source, size))
 
 
 def insert(size):
     def handler(s, to, *others):
-        *one, by, index = others
-        require(index.value < to.size // size, "an index")
-        lane, first = s.lane([*one, to][0]), index.value * size
-        s.put_vector(to, lane[:first] + s.lane(by, size) + lane[first + size :])
+        *one, source, index = others
+        require(index.value < to.size // size, "an unsupported index")
+        data, first = s.data([*one, to][0]), index.value * size
+        s.put_vector(to, data[:first] + s.data(source, size) + data[first + size :])
 
     return handler
 
 
 def extract(size):
     def handler(s, to, one, index):
-        lane = s.lane(one)
-        require(index.value < len(lane) // size, "an index")
-        put_low(s, to, lane[index.value * size :][:size])
+        data = s.data(one)
+        require(index.value < len(data) // size, "an unsupported index")
+        put_low(s, to, data[index.value * size :][:size])
 
     return handler
 
 
 def broadcast(size):
-    return lambda s, to, by: s.put_vector(to, s.lane(by, size) * (to.size // size))
+    return lambda s, to, source: s.put_vector(to, s.data(source, size) * (to.size // size))
+
+
+def _are_zero(parts):
+    return z3.And(*[simple(part) == 0 for part in parts])
 
 
 def test_vector(s, one, other):
-    lanes = s.lane(one), s.lane(other)
-    z, c = [
-        z3.And(*[simple(function(a, b)) == 0 for a, b in zip(*lanes)])
-        for function in (AND, AND_NOT)
-    ]
+    a, b = s.data(one), s.data(other)
+    z, c = [_are_zero(map(function, a, b)) for function in (AND, AND_NOT)]
     s.flags = {"z": z, "c": c, "s": z3.BoolVal(False), "o": z3.BoolVal(False)}
 
 
-def widen(s, to, by):
-    s.put_vector(to, [x for low in s.lane(by, to.size // 2) for x in (low, byte(0))])
+def widen(s, to, source):
+    s.put_vector(to, zero_extended(s.data(source, to.size // 2)))
 
 
-def permute(s, to, by, how):
-    lane = s.lane(by)
-    s.put_vector(to, [x for bit in range(0, 8, 2) for x in lane[8 * (how.value >> bit & 3) :][:8]])
+def permute(s, to, source, control):
+    data = s.data(source)
+    result = []
+    for bit in range(0, 8, 2):
+        first = 8 * (control.value >> bit & 3)
+        result += data[first : first + 8]
+    s.put_vector(to, result)
 
 
 def vzeroupper(s):
-    s.vectors = {name: lane[:16] + [byte(0)] * 16 for name, lane in s.vectors.items()}
+    s.vectors = {name: data[:16] + [byte(0)] * 16 for name, data in s.vectors.items()}
     s.is_clean = True
 
 
 VECTORS = {
-    "paddb": by_units(1, ADD),
-    "paddw": by_units(2, ADD),
-    "psubb": by_units(1, SUBTRACT),
-    "psubusb": by_units(1, SUBTRACT_SATURATED),
-    "pminub": by_units(1, MINIMUM),
-    "por": by_units(1, OR),
-    "pxor": by_units(1, XOR),
-    "psllw": shift_units(2, lambda a, by: a << by),
-    "psrlw": shift_units(2, z3.LShR),
+    "paddb": by_lanes(1, ADD),
+    "paddw": by_lanes(2, ADD),
+    "psubb": by_lanes(1, SUBTRACT),
+    "psubusb": by_lanes(1, SUBTRACT_SATURATED),
+    "pminub": by_lanes(1, MINIMUM),
+    "por": by_lanes(1, OR),
+    "pxor": by_lanes(1, XOR),
+    "psllw": shift_lanes(2, lambda a, count: a << count),
+    "psrlw": shift_lanes(2, z3.LShR),
     "punpcklqdq": by_halves(lambda a, b: a[:8] + b[:8]),
     "pshufb": by_halves(lambda a, b: [looked_up(a, index) for index in b]),
-    "packuswb": by_halves(lambda a, b: saturated(units(a + b, 2))),
+    "packuswb": by_halves(lambda a, b: saturated(lanes(a + b, 2))),
     "movdqu": move_vector(False),
     "movdqa": move_vector(True),
     "movups": move_vector(False),
     "movaps": move_vector(True),
-    "xorps": by_units(1, XOR),
+    "xorps": by_lanes(1, XOR),
     "movd": move_low(4),
     "movq": move_low(8),
     "pinsrw": insert(2),

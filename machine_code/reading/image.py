@@ -13,7 +13,7 @@ from contracts.names import FUNCTIONS
 
 X86_64, AARCH64 = 62, 183  # e_machine of ELF
 ALIGNMENT = {X86_64: 1, AARCH64: 4}  # of code
-MOST = 1 << 14  # Code is read up to the next symbol, or so many bytes.
+MAX_CODE = 1 << 14  # Code is read up to the next symbol, or so many bytes.
 PAGES = 1 << 16  # The file is counted from a multiple of this number, which each page size divides.
 PREFIX = "const_hex_"
 HEADER = {PREFIX + name for name in FUNCTIONS}
@@ -100,7 +100,7 @@ class Image:
 
     def code_at(self, address):
         """The address, and the code from there on, if it is code."""
-        end = min([address + MOST, *(start for start in self.starts if start > address)])
+        end = min([address + MAX_CODE, *(start for start in self.starts if start > address)])
         code = self.bytes_at(address, end - address, is_code=True)
         return (address, code) if code and address % ALIGNMENT[self.machine] == 0 else None
 

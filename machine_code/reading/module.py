@@ -109,12 +109,6 @@ def _sizes(header, kind):
     return [SIZES[type_] for type_ in types.split()]
 
 
-def _sizes(header, kind):
-    """Those of the parameters, the results or the locals."""
-    types = " ".join(re.findall(rf"\({kind}([^)]*)\)", header))
-    return [SIZES[type_] for type_ in types.split()]
-
-
 def _function(number, part):
     lines = [line.strip() for line in re.sub(r"\(;.*?;\)", "", part.removesuffix(")")).split("\n")]
     header = 1 + (len(lines) > 1 and lines[1].startswith("(local"))

@@ -3,7 +3,6 @@ kind."""
 
 import struct
 from collections import namedtuple
-from collections import namedtuple
 
 import pefile
 

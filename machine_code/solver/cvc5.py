@@ -20,12 +20,11 @@ def as_text(logic, conditions):
     return f"{option}(set-logic {logic})\n{solver.to_smt2()}"
 
 
-def disagreements(questions, most=None):
+def disagreements(questions, limit=None):
     """The questions, or so many of them chosen at random, to which cvc5 does not answer "unsat"."""
-    chosen = (
-        random.sample(questions, most) if most is not None and most < len(questions) else questions
-    )
-    texts = [as_text(*question) for question in chosen]
+    if limit is not None and limit < len(questions):
+        questions = random.sample(questions, limit)
+    texts = [as_text(*question) for question in questions]
     command = ["cvc5", "--lang=smt2", f"--rlimit-per={LIMIT}", "-"]
     run = subprocess.run(command, input="(reset)\n".join(texts), text=True, capture_output=True)
     answers = run.stdout.split()

@@ -6,36 +6,36 @@ a wrong length could be accepted. test_questions.py compares it with bits on ran
 
 import z3
 
-JOINS = {
+CONNECTIVES = {
     z3.Z3_OP_AND: z3.And,
     z3.Z3_OP_OR: z3.Or,
     z3.Z3_OP_NOT: z3.Not,
     z3.Z3_OP_IMPLIES: z3.Implies,
 }
-COMPARES = {
+RELATIONS = {
     z3.Z3_OP_ULEQ: lambda a, b: a <= b,
     z3.Z3_OP_ULT: lambda a, b: a < b,
     z3.Z3_OP_UGT: lambda a, b: a > b,
     z3.Z3_OP_UGEQ: lambda a, b: a >= b,
     z3.Z3_OP_EQ: lambda a, b: a == b,
 }
-FEW = 16  # in so many bits it is not asked whether a number is that small
+NARROW = 16  # bits, up to which it is not asked whether a number needs a reduction
 
 
 class Facts:
-    """Facts in integers. `is_impossible` says whether integer conditions, all together, contradict
+    """Facts in integers. `is_unsatisfiable` says whether integer conditions, all together, contradict
     each other: it decides, too, that a sum is so small that it need not be reduced."""
 
-    def __init__(self, is_impossible):
+    def __init__(self, is_unsatisfiable):
         self.conditions = []
         self.ranges = {}
         self.sums = {}
-        self._is_impossible = is_impossible
+        self._is_unsatisfiable = is_unsatisfiable
         self.models = []  # values for which all of them hold, as far as some are known
 
-    def and_also(self, fact):
+    def with_fact(self, fact):
         """These facts and another one, or None if that is not linear."""
-        other = Facts(self._is_impossible)
+        other = Facts(self._is_unsatisfiable)
         other.conditions = self.conditions.copy()
         other.ranges = self.ranges.copy()
         other.sums = self.sums.copy()
@@ -53,10 +53,10 @@ class Facts:
         kind, children = term.decl().kind(), term.children()
         if z3.is_true(term) or z3.is_false(term):
             return term
-        if kind in JOINS:
-            return JOINS[kind](*map(self.condition, children))
-        if kind in COMPARES and z3.is_bv(children[0]):
-            return COMPARES[kind](*map(self._number, children))
+        if kind in CONNECTIVES:
+            return CONNECTIVES[kind](*map(self.condition, children))
+        if kind in RELATIONS and z3.is_bv(children[0]):
+            return RELATIONS[kind](*map(self._number, children))
         raise ValueError(term)
 
     def _number(self, term):
@@ -71,15 +71,15 @@ class Facts:
             self.ranges[term.get_id()] = z3.And(0 <= number, number < 1 << size)
             return number
         if kind in (z3.Z3_OP_BADD, z3.Z3_OP_BMUL):
-            return self._cut(term, self._sum(term))
+            return self._reduced(term, self._congruent(term))
         if kind == z3.Z3_OP_ITE:
             return z3.If(self.condition(children[0]), *map(self._number, children[1:]))
         if kind == z3.Z3_OP_EXTRACT:
             high, low = term.params()
-            part = (
-                _divided(self._number(children[0]), 1 << low) if low else self._number(children[0])
-            )
-            return part if high == children[0].size() - 1 else self._cut(term, part)
+            part = self._number(children[0])
+            if low:
+                part = _quotient(part, 1 << low)
+            return part if high == children[0].size() - 1 else self._reduced(term, part)
         if kind == z3.Z3_OP_CONCAT:
             whole = z3.IntVal(0)
             for child in children:
@@ -87,39 +87,40 @@ class Facts:
             return z3.simplify(whole)
         raise ValueError(term)
 
-    def _cut(self, term, number):
-        """A number in the bits of a term, to which it is not reduced if it is that small."""
-        most = 1 << term.size()
+    def _reduced(self, term, number):
+        """A number modulo the power of two that a term's bits have; itself, if it is that small."""
+        modulus = 1 << term.size()
         if term.get_id() not in self.sums:
-            is_large = z3.Or(number < 0, number >= most)
-            is_small = term.size() > FEW and self._is_impossible(
+            is_large = z3.Or(number < 0, number >= modulus)
+            is_small = term.size() > NARROW and self._is_unsatisfiable(
                 [*self.ranges.values(), *self.conditions, is_large]
             )
-            self.sums[term.get_id()] = number if is_small else number % most
+            self.sums[term.get_id()] = number if is_small else number % modulus
         return self.sums[term.get_id()]
 
-    def _sum(self, term):
-        """An integer that is the same except for a multiple of the power of two."""
+    def _congruent(self, term):
+        """An integer that is congruent to the bits of a term, modulo their power of two."""
         kind, children = term.decl().kind(), term.children()
         if z3.is_bv_value(term):
             return z3.IntVal(term.as_signed_long())
         if kind == z3.Z3_OP_BADD:
-            return z3.Sum(*map(self._sum, children))
+            return z3.Sum(*map(self._congruent, children))
         if kind == z3.Z3_OP_BMUL and len(children) == 2 and z3.is_bv_value(children[0]):
-            return children[0].as_signed_long() * self._sum(children[1])
+            return children[0].as_signed_long() * self._congruent(children[1])
         if kind == z3.Z3_OP_BMUL:
             raise ValueError(term)
         return self._number(term)
 
 
-def _divided(number, by):
-    """A number divided by another one and rounded down. What is a multiple in a sum is divided by
-    itself."""
-    whole, rest = z3.IntVal(0), z3.IntVal(0)
+def _quotient(number, divisor):
+    """A number divided by another one and rounded down. Each multiple of the divisor in a sum is
+    divided alone."""
+    whole = z3.IntVal(0)
+    rest = z3.IntVal(0)
     for part in number.children() if z3.is_add(number) else [number]:
         factor, *others = part.children() if z3.is_mul(part) else [part, z3.IntVal(1)]
-        if z3.is_int_value(factor) and factor.as_long() % by == 0 and len(others) == 1:
-            whole += factor.as_long() // by * others[0]
+        if z3.is_int_value(factor) and factor.as_long() % divisor == 0 and len(others) == 1:
+            whole += factor.as_long() // divisor * others[0]
         else:
             rest += part
-    return z3.simplify(whole + rest / by)
+    return z3.simplify(whole + rest / divisor)

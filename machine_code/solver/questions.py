@@ -140,11 +140,13 @@ def relevant(facts, goal, steps=None):
     """The facts that share constants with a goal, directly or by others, perhaps in so many steps;
     in none, those that are about its constants alone. Of a public goal, those that are public."""
     facts = [fact for fact in facts if fact.is_public] if is_public(goal) else facts
-    seen, before = set(names(goal)), None
+    seen = set(names(goal))
     if steps == 0:
         return [fact.term for fact in facts if fact.names <= seen]
+    before = None
     while seen != before and steps != 0:
-        before, steps = {*seen}, steps and steps - 1
+        before = seen
+        steps = steps and steps - 1
         near = [fact.names for fact in facts if not before.isdisjoint(fact.names)]
         seen = seen.union(*near)
     return [fact.term for fact in facts if not seen.isdisjoint(fact.names)]
@@ -158,7 +160,7 @@ def _renamed(facts):
     return [z3.simplify(z3.substitute(fact, *new)) for fact in facts]
 
 
-def _answer(logic, conditions, limit, models=None):
+def _check(logic, conditions, limit, models=None):
     solver = z3.SolverFor(logic)
     solver.set("rlimit", limit)
     solver.add(*conditions)
@@ -171,42 +173,42 @@ def _answer(logic, conditions, limit, models=None):
     return answer
 
 
-def is_impossible_in_integers(conditions):
-    return _answer("QF_LIA", conditions, QUICK) == z3.unsat
+def is_unsatisfiable_in_integers(conditions):
+    return _check("QF_LIA", conditions, QUICK) == z3.unsat
 
 
-def _once(question):
-    """A question that is asked once of the same facts. These are kept, so that their numbers are
-    not used again."""
+def _memoized(question):
+    """A question whose answers are kept by the numbers of the facts. So are the facts, so that
+    their numbers are not used again."""
     answers = {}
 
-    def asked(facts, *rest):
+    def memoized(facts, *rest):
         key = tuple(fact.get_id() for fact in facts)
         if key not in answers:
             answers[key] = facts, question(facts, *rest)
         return answers[key][1]
 
-    return asked
+    return memoized
 
 
-@_once
+@_memoized
 def _in_integers(facts):
     """Facts in integers, or None if not all are linear. Most questions are about facts that were
     translated before."""
-    known = _in_integers(facts[:-1]) if facts else None
-    return (
-        known and known.and_also(facts[-1]) if facts else integers.Facts(is_impossible_in_integers)
-    )
+    if not facts:
+        return integers.Facts(is_unsatisfiable_in_integers)
+    known = _in_integers(facts[:-1])
+    return known and known.with_fact(facts[-1])
 
 
-@_once
-def is_impossible(facts):
+@_memoized
+def is_unsatisfiable(facts):
     """Whether facts contradict each other."""
-    return _is_impossible(_renamed(facts), all(map(is_public, facts)))
+    return _is_unsatisfiable(_renamed(facts), all(map(is_public, facts)))
 
 
-@_once
-def _is_impossible(facts, are_public):
+@_memoized
+def _is_unsatisfiable(facts, are_public):
     """The same of facts with new names, so that what differs by names alone is asked once. Sums of
     many bits are hard in bits and easy in integers, masks are the other way round."""
     known = _in_integers(facts) if are_public else None
@@ -215,9 +217,9 @@ def _is_impossible(facts, are_public):
     answer = z3.unknown
     if known:
         conditions = [*known.ranges.values(), *known.conditions]
-        answer = _answer("QF_LIA", conditions, QUICK, _in_integers(facts[:-1]).models)
+        answer = _check("QF_LIA", conditions, QUICK, _in_integers(facts[:-1]).models)
     if answer == z3.unknown:
-        answer = _answer("QF_BV", facts, LIMIT)
+        answer = _check("QF_BV", facts, LIMIT)
     return answer == z3.unsat
 
 
@@ -227,18 +229,20 @@ def is_valid(facts, goal, steps=None):
     limits = (0, steps) if steps else (None,)
 
     def follows(part):
-        return any(is_impossible([*relevant(facts, part, limit), z3.Not(part)]) for limit in limits)
+        return any(
+            is_unsatisfiable([*relevant(facts, part, limit), z3.Not(part)]) for limit in limits
+        )
 
     return all(map(follows, conjuncts(goal)))
 
 
-def values(facts, term, most):
+def values(facts, term, limit):
     """All values that a term has where the facts hold, of which there are at most so many."""
     known = []
     while not is_valid(facts, z3.Or(*[term == value for value in known])):
-        require(len(known) < most, "an offset that may have too many values")
+        require(len(known) < limit, "an offset that may have too many values")
         models = []
-        _answer(
+        _check(
             "QF_BV",
             [*relevant(facts, term == 0), *[term != value for value in known]],
             LIMIT,

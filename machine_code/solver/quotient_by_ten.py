@@ -7,6 +7,7 @@ follow from it, a wrong digit could be accepted.
 """
 
 import functools
+from typing import NamedTuple
 
 import z3
 
@@ -14,9 +15,20 @@ from solver import cvc5, questions
 from solver.questions import require
 
 FACTOR = 0xCCCCCCCCCCCCCCCD
-# By a number's own number in z3, which is not used again as long as the number is kept: the number,
-# its tenth, what is below, and the greatest value of the tenth.
-_tenths = {}
+
+
+class Quotient(NamedTuple):
+    """A number, its tenth with the greatest value that this has, and the bits below it in the
+    product."""
+
+    number: z3.BitVecRef
+    tenth: z3.BitVecRef
+    more: z3.BitVecRef
+    limit: int
+
+
+# By the number's own number in z3, which is not used again as long as the number is kept.
+_quotients = {}
 
 
 def lemma(factor=FACTOR):
@@ -36,7 +48,7 @@ def lemma(factor=FACTOR):
 def prove():
     """Proves the lemma by both solvers."""
     conditions = lemma()
-    require(questions.is_impossible_in_integers(conditions), "the quotient by ten is not proved")
+    require(questions.is_unsatisfiable_in_integers(conditions), "the quotient by ten is not proved")
     require(
         not cvc5.disagreements([("QF_LIA", conditions)]), "cvc5 does not prove the quotient by ten"
     )
@@ -46,23 +58,24 @@ def parts(number):
     """The tenth of a number of 64 bits and the three bits below it in the product, one constant
     each for each number; and what is known of them."""
     prove()
-    if number.get_id() not in _tenths:
+    if number.get_id() not in _quotients:
         constant = questions.public if questions.is_public(number) else questions.secret
         tenth = constant(f"tenth_{number.get_id()}", 61)
         more = constant(f"more_{number.get_id()}", 3)
-        most = next(
-            (
-                most
-                for _, other, _, most in _tenths.values()
-                if z3.simplify(z3.ZeroExt(3, other)).eq(number)
-            ),
-            (1 << 64) - 1,
-        )
-        _tenths[number.get_id()] = number, tenth, more, most // 10
-    _, tenth, more, most = _tenths[number.get_id()]
-    whole = z3.ZeroExt(3, tenth)
-    return (
-        tenth,
-        more,
-        z3.And(z3.ULE(whole, most), z3.ULE(10 * whole, number), z3.ULT(number - 10 * whole, 10)),
+        _quotients[number.get_id()] = Quotient(number, tenth, more, _greatest(number) // 10)
+    quotient = _quotients[number.get_id()]
+    tenth = z3.ZeroExt(3, quotient.tenth)
+    known = z3.And(
+        z3.ULE(tenth, quotient.limit),
+        z3.ULE(10 * tenth, number),
+        z3.ULT(number - 10 * tenth, 10),
     )
+    return quotient.tenth, quotient.more, known
+
+
+def _greatest(number):
+    """The greatest value of a number, which may be a tenth of another one."""
+    for quotient in _quotients.values():
+        if z3.simplify(z3.ZeroExt(3, quotient.tenth)).eq(number):
+            return quotient.limit
+    return (1 << 64) - 1

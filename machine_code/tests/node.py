@@ -88,21 +88,25 @@ def _function(name, text):
     return f'(func (export "{name}") i32.const {RESULT} {operands} {text} {result}.store)'
 
 
-def _memory(some, is_access):
+def _memory(generator, is_access):
     """Random bytes, often at the edges, mostly zeros, equal operands, or near the middle of 32
     bits. An access has its address in the scratch area."""
-    content = some.choice(
+    content = generator.choice(
         (
-            lambda: some.randbytes(SIZE),
-            lambda: some.randbytes(16) * (SIZE // 16),
-            lambda: bytes(some.choices(EDGES, k=SIZE)),
-            lambda: bytes(some.choices(EDGES, [2000, *range(1, 11)], k=SIZE)),
+            lambda: generator.randbytes(SIZE),
+            lambda: generator.randbytes(16) * (SIZE // 16),
+            lambda: bytes(generator.choices(EDGES, k=SIZE)),
+            lambda: bytes(generator.choices(EDGES, [2000, *range(1, 11)], k=SIZE)),
             lambda: b"".join(
-                struct.pack("<Q", (1 << 31) + some.randrange(-1, 2)) for _ in range(SIZE // 8)
+                struct.pack("<Q", (1 << 31) + generator.randrange(-1, 2)) for _ in range(SIZE // 8)
             ),
         )
     )()
-    return struct.pack("<I", SCRATCH + some.randrange(256)) + content[4:] if is_access else content
+    return (
+        struct.pack("<I", SCRATCH + generator.randrange(256)) + content[4:]
+        if is_access
+        else content
+    )
 
 
 class Concrete:
@@ -115,11 +119,11 @@ class Concrete:
             return [UNKNOWN[address]]
         return [BYTES[value] for value in self.memory[address : address + count]]
 
-    def store(self, address, lane, aligned=False):
+    def store(self, address, data, aligned=False):
         address = simple(address).as_long()
-        require(len(lane) & len(lane) - 1 == 0, "an access of another size")
-        self.memory[address : address + len(lane)] = bytes(
-            self.known(value).as_long() for value in lane
+        require(len(data) & len(data) - 1 == 0, "an access of another size")
+        self.memory[address : address + len(data)] = bytes(
+            self.known(value).as_long() for value in data
         )
 
     def known(self, term):

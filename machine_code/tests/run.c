@@ -66,7 +66,8 @@ int main(void) {
   if (fread(TEXT, 1, size, stdin) != size)
     return 1;
   while (fread(&request, sizeof request, 1, stdin) == 1) {
-    unsigned char *next = TEXT + request.next, *target = TEXT + request.target;
+    unsigned char *next = TEXT + request.next;
+    unsigned char *target = TEXT + request.target;
     unsigned char after[JUMP_SIZE], taken[JUMP_SIZE];
     memcpy(after, next, JUMP_SIZE);
     memcpy(taken, target, JUMP_SIZE);

@@ -1,7 +1,6 @@
 """What `prove` reports, and which contracts the functions of a file have."""
 
 import pathlib
-import re
 import sys
 import types
 from importlib.machinery import SourceFileLoader

@@ -33,7 +33,7 @@ type Row = (&'static str, [Found; 2], fn(&mut Data));
 /// A row of a call, whose result is kept.
 macro_rules! row {
     ($name:literal, $found:expr, |$data:ident| $call:expr) => {
-        ($name, $found, |$data| keep($call))
+        ($name, $found, |$data| black_box($call))
     };
 }
 
@@ -55,7 +55,7 @@ const SECRET: [Row; 6] = [
     }),
     // For the last length alone. For the others the lengths differ.
     row!("secret::decode_to_array", [Validity; 2], |data| {
-        secret::decode_to_array::<_, LONGEST>(&data.text)
+        secret::decode_to_array::<_, MAX_LENGTH>(&data.text)
     }),
 ];
 
@@ -93,7 +93,7 @@ const PUBLIC: [Row; 12] = [
         &data.text
     )),
     row!("const_decode_to_array", [Addresses; 2], |data| {
-        hex::const_decode_to_array::<LONGEST>(&data.text)
+        hex::const_decode_to_array::<MAX_LENGTH>(&data.text)
     }),
 ];
 
@@ -109,11 +109,11 @@ fn public_calls() {
 
 fn compare(rows: &[Row]) {
     for (name, wanted, _) in rows {
-        let (found, places) = found_in(name);
+        let (found, locations) = found_in(name);
         assert_eq!(
             found,
             wanted[usize::from(cfg!(feature = "force-generic"))],
-            "{name}: {places:#?}"
+            "{name}: {locations:#?}"
         );
     }
 }
@@ -124,7 +124,7 @@ fn call() {
     let name = std::env::var("CONST_HEX_CALL").unwrap_or_default();
     let mut rows = SECRET.iter().chain(&PUBLIC);
     if let Some((_, _, call)) = rows.find(|row| row.0 == name) {
-        for length in 0..=LONGEST {
+        for length in 0..=MAX_LENGTH {
             let bytes: Vec<u8> = (0..length).map(|at| (at * 73 + length) as u8).collect();
             let text = bytes
                 .iter()
@@ -135,14 +135,14 @@ fn call() {
                 text,
                 output: vec![0; 2 * length],
             };
-            take_for_uninitialized(&data.bytes);
-            take_for_uninitialized(&data.text);
+            make_undefined(&data.bytes);
+            make_undefined(&data.text);
             call(&mut data);
         }
     }
 }
 
-const LONGEST: usize = 200;
+const MAX_LENGTH: usize = 200;
 
 /// What depends on a secret in a run of this program that makes the call, with the lines that valgrind prints: in pairs
 /// what it is, and where.
@@ -155,20 +155,19 @@ fn found_in(call: &str) -> (Found, BTreeSet<String>) {
         .output()
         .expect("valgrind is installed");
     assert!(output.status.success());
-    let said = String::from_utf8(output.stderr).unwrap();
-    let lines: Vec<_> = said
+    let stderr = String::from_utf8(output.stderr).unwrap();
+    let lines: Vec<_> = stderr
         .lines()
         .filter_map(|line| line.split("== ").nth(1))
         .collect();
-    let places = |what| -> BTreeSet<String> {
+    let locations = |what| -> BTreeSet<String> {
         let pairs = lines.windows(2).filter(|pair| pair[0].starts_with(what));
         pairs.map(|pair| pair[1].trim().to_string()).collect()
     };
-    let (addresses, jumps) = (
-        places("Use of uninitialised value"),
-        places("Conditional jump"),
-    );
-    let is_in_kernel = |place: &String| place.contains(": const_hex_") && !place.contains("::");
+    let addresses = locations("Use of uninitialised value");
+    let jumps = locations("Conditional jump");
+    let is_in_kernel =
+        |location: &String| location.contains(": const_hex_") && !location.contains("::");
     let found = match cfg!(feature = "force-generic") {
         _ if !addresses.is_empty() => Addresses,
         _ if jumps.is_empty() => Nothing,
@@ -181,7 +180,7 @@ fn found_in(call: &str) -> (Found, BTreeSet<String>) {
 
 /// Tells valgrind that nothing has written these bytes. The instructions, which do nothing elsewhere, and the numbers
 /// are those of valgrind.h and memcheck.h.
-fn take_for_uninitialized(bytes: &[u8]) {
+fn make_undefined(bytes: &[u8]) {
     const MAKE_MEM_UNDEFINED: usize = (b'M' as usize) << 24 | (b'C' as usize) << 16 | 1;
     let request = [
         MAKE_MEM_UNDEFINED,
@@ -206,7 +205,7 @@ fn take_for_uninitialized(bytes: &[u8]) {
 }
 
 /// Takes the value, of which the compiler then knows that something may look at it.
-fn keep<T>(value: T) {
+fn black_box<T>(value: T) {
     // SAFETY: this is no instruction.
     unsafe { std::arch::asm!("/* {} */", in(reg) &value, options(nostack, preserves_flags)) };
 }

@@ -164,18 +164,18 @@ fn run(test: &str, call: &str, bytes: usize, times: usize) -> i64 {
         .env("CONST_HEX_CALL", format!("{call} {bytes} {times}"))
         .output()
         .expect("valgrind or QEMU is installed");
-    let said = String::from_utf8_lossy(&output.stderr);
+    let stderr = String::from_utf8_lossy(&output.stderr);
     if cfg!(target_arch = "aarch64") {
-        return said
+        return stderr
             .lines()
             .filter(|line| line.starts_with("Trace"))
             .count() as i64;
     }
-    let count = said
+    let count = stderr
         .split("Collected : ")
         .nth(1)
         .and_then(|rest| rest.lines().next());
     count
         .and_then(|count| count.parse().ok())
-        .unwrap_or_else(|| panic!("{said}"))
+        .unwrap_or_else(|| panic!("{stderr}"))
 }

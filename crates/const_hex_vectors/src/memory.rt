@@ -1,4 +1,4 @@
-//! Makes each call that gets an allocator, and judges what it returns.
+//! Makes each call that gets an allocator, and compares what it returns.
 //!
 //! A call has to return what it returns with ample memory, or, if it may allocate, its error for that.
 //! The program prints each call that does not, and at last how many were out of memory. `run`, in this
@@ -6,8 +6,8 @@
 //! [`inputs`], before any call. The calls that do not allocate come first.
 
 mod allocating;
+mod expect;
 mod inputs;
-mod judge;
 mod nonallocating;
 
 use crate::memory::inputs::Inputs;

@@ -7,6 +7,7 @@ random; those that an address needs point into a scratch area.
 """
 
 import collections
+import itertools
 import pathlib
 import random
 import re
@@ -21,7 +22,7 @@ from execution.code import Code
 from execution.paths import Branch
 from execution.proofs import PROCESSORS
 from execution.terms import simple, word
-from hints.loops import follows
+from hints.loops import successors
 from node import BYTES, EDGES
 from reading import library
 from solver.questions import require
@@ -68,9 +69,10 @@ KINDS = {
 }
 
 
-def _random_bytes(some, count):
+def _random_bytes(generator, count):
     """Random bytes; often at the edges, and sometimes all 0."""
-    content, kind = some.randbytes(count), some.randrange(8)
+    content = generator.randbytes(count)
+    kind = generator.randrange(8)
     if kind == 0:
         return bytes(count)
     return content if kind < 4 else content.translate((EDGES * 24)[:256])
@@ -89,13 +91,13 @@ class Memory:
         address = self.known(address).as_long()
         require(count & count - 1 == 0, "an access of another size")
         require(not aligned or address % count == 0, "not aligned")
-        data, start = (self.scratch, SCRATCH) if address >= SCRATCH else (self.object, TEXT)
-        return [BYTES[value] for value in data[address - start :][:count]]
+        memory, start = (self.scratch, SCRATCH) if address >= SCRATCH else (self.object, TEXT)
+        return [BYTES[value] for value in memory[address - start :][:count]]
 
-    def store(self, address, lane, aligned=False):
+    def store(self, address, data, aligned=False):
         first = simple(address).as_long() - SCRATCH
-        require(len(lane) & len(lane) - 1 == 0, "an access of another size")
-        self.scratch[first : first + len(lane)] = [simple(value).as_long() for value in lane]
+        require(len(data) & len(data) - 1 == 0, "an access of another size")
+        self.scratch[first : first + len(data)] = [simple(value).as_long() for value in data]
 
     def known(self, term):
         """A term in which the base of the object is known."""
@@ -142,32 +144,33 @@ class Processor:
 
     def _target(self, i):
         """Where a jump goes, or 0."""
-        return next((to for to in follows(i) if to != i.address + i.size), 0)
+        return next((to for to in successors(i) if to != i.address + i.size), 0)
 
-    def _start(self, i, some):
+    def _start(self, i, generator):
         """A random state, in which an address lies in the scratch area, aligned for any access."""
         state = type("Known", (Memory, self.meanings.State), {})()
         state.code = self.code
         state.object = self.memory
         state.is_legacy = False
-        state.scratch = bytearray(_random_bytes(some, SIZE))
-        near, general = some.choice(NEAR), {}
+        state.scratch = bytearray(_random_bytes(generator, SIZE))
+        near = generator.choice(NEAR)
+        general = {}
         for name in self.kind.registers:
-            number = int.from_bytes(_random_bytes(some, 8), "little")
-            general[name] = number if near is None else near + some.randrange(-1, 2)
+            number = int.from_bytes(_random_bytes(generator, 8), "little")
+            general[name] = number if near is None else near + generator.randrange(-1, 2)
         general[state.TOP] = SCRATCH + MIDDLE
         for o in i.operands if i.mnemonic != "lea" else ():
             if o.kind == "memory" and ("rip", 1) not in o.terms:
                 base, *others = o.terms
                 for name, _ in others:
-                    general[name] = some.randrange(256) & -32
+                    general[name] = generator.randrange(256) & -32
                 rest = o.offset + sum(general[name] * scale for name, scale in others)
                 if base[0] != state.TOP:
-                    general[base[0]] = SCRATCH + MIDDLE + 64 * some.randrange(16) - rest
+                    general[base[0]] = SCRATCH + MIDDLE + 64 * generator.randrange(16) - rest
         state.general = {name: word(value) for name, value in general.items()}
-        state.flags = {name: z3.BoolVal(some.random() < 0.5) for name in self.kind.flags}
-        state.raw = {n: _random_bytes(some, state.WIDTH) for n in range(state.VECTORS)}
-        state.vectors = {n: [BYTES[value] for value in lane] for n, lane in state.raw.items()}
+        state.flags = {name: z3.BoolVal(generator.random() < 0.5) for name in self.kind.flags}
+        state.raw = {n: _random_bytes(generator, state.WIDTH) for n in range(state.VECTORS)}
+        state.vectors = {n: [BYTES[value] for value in data] for n, data in state.raw.items()}
         state.next = i.address + i.size
         return state
 
@@ -203,9 +206,9 @@ class Processor:
             if _number(state.known(state.general[name]), 64) != number:
                 yield name
         offset = 8 * count
-        for name, lane in state.vectors.items():
+        for name, data in state.vectors.items():
             raw, now = state.raw[name], after[offset : offset + state.WIDTH]
-            if [*now] != ([*raw] if lane is old[name] else [_number(part, 8) for part in lane]):
+            if [*now] != ([*raw] if data is old[name] else [_number(part, 8) for part in data]):
                 yield f"vector {name}"
             if state.is_clean and now[16:] not in (raw[16:], bytes(len(raw) - 16)):
                 yield f"what lies above in vector {name}"
@@ -220,7 +223,7 @@ class Processor:
             if flag is not None and z3.is_true(simple(flag)) != bit:
                 yield f"flag {name}"
         if target and (
-            not isinstance(to, Branch) or z3.is_true(simple(to.choice)) != bool(is_taken)
+            not isinstance(to, Branch) or z3.is_true(simple(to.condition)) != bool(is_taken)
         ):
             yield "the jump"
 
@@ -230,12 +233,14 @@ class Processor:
         for i in self.instructions:
             kinds = [(o.kind, o.size) for o in i.operands]
             forms[i.mnemonic, *kinds].append(i)
-        some = [those[:: len(those) // PLACES or 1][:PLACES] for those in forms.values()]
-        for i, count in [(i, STATES // len(those)) for those in some for i in those]:
-            for seed in range(count):
-                try:
-                    what = self.difference(i, f"{i.text} {seed}")
-                except Exception as error:
-                    what = f"{type(error).__name__}: {error}"
-                if what:
+        for those in forms.values():
+            chosen = those[:: len(those) // PLACES or 1][:PLACES]
+            for i, seed in itertools.product(chosen, range(STATES // len(chosen))):
+                if what := self._difference_or_error(i, seed):
                     yield f"{i.text}: {what}"
+
+    def _difference_or_error(self, i, seed):
+        try:
+            return self.difference(i, f"{i.text} {seed}")
+        except Exception as error:
+            return f"{type(error).__name__}: {error}"

@@ -46,21 +46,21 @@ def is_proved(content, symbol, functions):
 
 @pytest.mark.parametrize("seed", range(COUNT))
 def test_bit(seed, library):
-    (file, check), some = library, random.Random(seed)
+    file, check = library
+    generator = random.Random(seed)
     content = file.read_bytes()
     image, functions = proofs.functions_of(content)
     # The tests run the kernel for this processor.
-    symbol = some.choice([name for name, _ in functions if not name.endswith("_v2")])
+    symbol = generator.choice([name for name, _ in functions if not name.endswith("_v2")])
     _, code = image.code_at(image.symbols[symbol])
-    index, bit = content.index(code) + some.randrange(len(code)), 1 << some.randrange(8)
-    changed = content[:index] + bytes([content[index] ^ bit]) + content[index + 1 :]
-    if is_proved(changed, symbol, functions):
+    index = content.index(code) + generator.randrange(len(code))
+    bit = 1 << generator.randrange(8)
+    changed = bytearray(content)
+    changed[index] ^= bit
+    if is_proved(bytes(changed), symbol, functions):
         file.write_bytes(changed)
         try:
-            assert subprocess.run([check], capture_output=True).returncode == 0, (
-                symbol,
-                index,
-                bit,
-            )
+            run = subprocess.run([check], capture_output=True)
+            assert run.returncode == 0, (symbol, index, bit)
         finally:
             file.write_bytes(content)

@@ -13,29 +13,29 @@ BITS = 6
 NAMES = [questions.public(f"test_{name}", BITS) for name in "ab"]
 NUMBERS = 0, 1, 2, 3, 8, 31, 32, 60, 63
 COMPARE = z3.ULE, z3.ULT, z3.UGE, z3.UGT, lambda a, b: a == b, lambda a, b: a != b
-SOME = random.Random(1)
+RANDOM = random.Random(1)
 
 
 def term(depth):
-    kind = SOME.randrange(8 if depth else 2)
+    kind = RANDOM.randrange(8 if depth else 2)
     if kind == 0:
-        return z3.BitVecVal(SOME.choice(NUMBERS), BITS)
+        return z3.BitVecVal(RANDOM.choice(NUMBERS), BITS)
     if kind == 1:
-        return SOME.choice(NAMES)
+        return RANDOM.choice(NAMES)
     part, other = term(depth - 1), term(depth - 1)
     return [
         part + other,
         part - other,
-        SOME.choice((2, 3, 4, 8, 62)) * part,
-        z3.LShR(part, SOME.randrange(1, 5)),
-        part & SOME.choice((0x38, 0x3C, 0x07, 0x20)),
+        RANDOM.choice((2, 3, 4, 8, 62)) * part,
+        z3.LShR(part, RANDOM.randrange(1, 5)),
+        part & RANDOM.choice((0x38, 0x3C, 0x07, 0x20)),
         z3.If(z3.ULE(part, 9), part, other),
     ][kind - 2]
 
 
 def condition():
     a, b = term(2), term(2)
-    return SOME.choice(
+    return RANDOM.choice(
         [
             *[compare(a, b) for compare in COMPARE],
             z3.Not(z3.ULE(a, b)),
@@ -59,16 +59,17 @@ def is_true(made, values):
 
 
 def test_integers(monkeypatch):
-    monkeypatch.setattr(integers, "FEW", BITS - 1)
+    monkeypatch.setattr(integers, "NARROW", BITS - 1)
     linear = 0
     for _ in range(150):
-        values = [SOME.randrange(1 << BITS) for _ in NAMES]
+        values = [RANDOM.randrange(1 << BITS) for _ in NAMES]
         facts = [z3.simplify(condition()) for _ in range(5)]
         facts = [fact for fact in facts if is_true(fact, values)]
         goal = z3.simplify(condition())
-        known = integers.Facts(questions.is_impossible_in_integers)
+        known = integers.Facts(questions.is_unsatisfiable_in_integers)
         for fact in [*facts, goal]:
-            before, known = known, known and known.and_also(fact)
+            before = known
+            known = known and known.with_fact(fact)
         if known:
             linear += 1
             assert is_true(known.conditions[-1], values) == is_true(goal, values), (facts, goal)
@@ -78,13 +79,14 @@ def test_integers(monkeypatch):
 
 def test_conjuncts():
     for _ in range(300):
-        made, values = condition(), [SOME.randrange(1 << BITS) for _ in NAMES]
+        made, values = condition(), [RANDOM.randrange(1 << BITS) for _ in NAMES]
         parts = questions.conjuncts(made)
         assert all(is_true(part, values) for part in parts) == is_true(made, values), made
 
 
 def test_what_follows_is_true_of_all_values():
-    answers, every = {True: 0, False: 0}, list(itertools.product(range(1 << BITS), repeat=2))
+    answers = {True: 0, False: 0}
+    every = list(itertools.product(range(1 << BITS), repeat=2))
     for _ in range(40):
         facts, goal = [condition(), condition()], condition()
         known = [part for fact in facts for part in questions.facts_of(fact)]
@@ -92,7 +94,7 @@ def test_what_follows_is_true_of_all_values():
         answers[answer] += 1
         claimed = z3.Implies(z3.And(*facts), goal)
         assert not answer or all(
-            is_true(claimed, values) for values in SOME.sample(every, 400)
+            is_true(claimed, values) for values in RANDOM.sample(every, 400)
         ), claimed
     assert min(answers.values()) > 3
 
@@ -119,7 +121,7 @@ def test_the_quotient_by_ten():
     number = questions.public("test_number", 64)
     tenth, more, known = quotient_by_ten.parts(number)
     assert quotient_by_ten.parts(number)[0].eq(tenth)
-    for value in [0, 9, 10, (1 << 64) - 1, *[SOME.getrandbits(64) for _ in range(200)]]:
+    for value in [0, 9, 10, (1 << 64) - 1, *[RANDOM.getrandbits(64) for _ in range(200)]]:
         upper = value * quotient_by_ten.FACTOR >> 64
         assert upper >> 3 == value // 10
         for by in (0, 1, -1, 1 << 60):
@@ -132,7 +134,7 @@ def test_the_quotient_by_ten():
     "factor", (quotient_by_ten.FACTOR - 1, quotient_by_ten.FACTOR + 1, 1 << 63)
 )
 def test_the_lemma_is_false_of_other_factors(factor):
-    assert not questions.is_impossible_in_integers(quotient_by_ten.lemma(factor))
+    assert not questions.is_unsatisfiable_in_integers(quotient_by_ten.lemma(factor))
 
 
 def test_the_second_solver():

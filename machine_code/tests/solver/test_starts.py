@@ -14,12 +14,14 @@ from programs import edited
 from solver.questions import public
 
 CONTRACT = next(each for each in FUNCTIONS if each.function == "decoder_update")
-SOME = random.Random(1)
+RANDOM = random.Random(1)
 
 
-def some_text():
-    start = SOME.choice(["", "0", "0x", "0X", "x", "00", "0x0x"])
-    return (start + "".join(SOME.choices("0123456789abcdefABCDEF", k=SOME.randrange(6)))).encode()
+def random_text():
+    start = RANDOM.choice(["", "0", "0x", "0X", "x", "00", "0x0x"])
+    return (
+        start + "".join(RANDOM.choices("0123456789abcdefABCDEF", k=RANDOM.randrange(6)))
+    ).encode()
 
 
 def is_start(state, text, decoder):
@@ -43,7 +45,7 @@ def test_decoders(tmp_path):
     starts = CONTRACT.starts(Code(content, PROCESSORS, CONTRACT.symbol, {}))
     for _ in range(8):
         decoder, is_ok = ctypes.create_string_buffer(16), 1
-        for chunk in [some_text()[SOME.randrange(3) :] for _ in range(5)]:
+        for chunk in [random_text()[RANDOM.randrange(3) :] for _ in range(5)]:
             assert sum(is_start(state, chunk, decoder.raw) for state in starts) == 1, chunk
             if is_ok & 255:
                 output, written = ctypes.create_string_buffer(16), ctypes.byref(ctypes.c_size_t())

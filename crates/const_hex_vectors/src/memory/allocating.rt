@@ -1,7 +1,7 @@
 //! Calls that allocate.
 
+use crate::memory::expect::allocates;
 use crate::memory::inputs::*;
-use crate::memory::judge::allocates;
 use const_hex::FromHexError::NoMemory;
 use const_hex::serde::no_prefix;
 use const_hex::*;
@@ -25,7 +25,7 @@ pub(crate) fn make_calls(rt: &impl Print, alloc: Global, inputs: &Inputs, count:
     by_each_kernel!(by_kernel(rt, alloc, count));
     let mut sink = PieceSink::new(alloc, 0);
     let done = BufferedHex::<false, true>::new(&DATA).write_to(&mut sink);
-    judge_stream(rt, done, &sink, count);
+    expect_stream(rt, done, &sink, count);
 }
 
 fn encode_all(rt: &impl Print, alloc: Global, count: &mut usize) {
@@ -114,12 +114,17 @@ fn by_kernel<K: Kernel>(rt: &impl Print, alloc: Global, count: &mut usize, _kern
     );
     let mut sink = PieceSink::new(alloc, 0);
     let done = BufferedHex::<false, true>::new(&DATA).write_with::<K, PieceSink>(&mut sink);
-    judge_stream(rt, done, &sink, count);
+    expect_stream(rt, done, &sink, count);
 }
 
-/// Judges the stream of [`DATA`] after `0x`, which has three pieces. If there is no memory for one,
+/// Compares the stream of [`DATA`] after `0x`, which has three pieces. If there is no memory for one,
 /// the sink keeps those before it.
-fn judge_stream(rt: &impl Print, done: Result<(), SinkError>, sink: &PieceSink, count: &mut usize) {
+fn expect_stream(
+    rt: &impl Print,
+    done: Result<(), SinkError>,
+    sink: &PieceSink,
+    count: &mut usize,
+) {
     let kept = sink.pieces().len();
     let state = [kept < 3, sink.no_memory(), sink.calls() > kept];
     let result = match done {

@@ -1,8 +1,8 @@
 //! Calls that get an allocator, or have one, and do not allocate: a text of odd length is rejected first, an array or a
 //! value that is not a string needs no memory, and a sink that fails keeps nothing. No other call can allocate.
 
+use crate::memory::expect::returns;
 use crate::memory::inputs::*;
-use crate::memory::judge::returns;
 use const_hex::FromHexError::{InvalidStringLength, OddLength};
 use const_hex::serde::no_prefix;
 use const_hex::*;

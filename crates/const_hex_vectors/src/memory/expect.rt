@@ -1,18 +1,18 @@
-//! What is said of a call, and lists of calls with what they return.
+//! Compares what calls return with what they have to return.
 
 use std::convert::AsSlice;
 
-/// Judges calls that do not allocate.
+/// Compares what calls return that do not allocate.
 macro_rules! returns {
     ($rt:ident; $($call:expr => $wanted:expr,)+) => {
-        $($crate::memory::judge::judge($rt, stringify!($call), $call, $wanted);)+
+        $($crate::memory::expect::expect($rt, stringify!($call), $call, $wanted);)+
     };
 }
 
-/// Judges calls that allocate, and return this error if that fails.
+/// The same for calls that allocate, and return this error if that fails.
 macro_rules! allocates {
     ($rt:ident, $count:ident, $error:expr; $($call:expr => $wanted:expr,)+) => {
-        $($crate::memory::judge::judge_items($rt, stringify!($call), $call, $wanted, $error, $count);)+
+        $($crate::memory::expect::expect_items($rt, stringify!($call), $call, $wanted, $error, $count);)+
     };
 }
 
@@ -20,15 +20,15 @@ pub(crate) use allocates;
 pub(crate) use returns;
 
 /// Prints a call that did not return what is wanted.
-pub(crate) fn judge<A: PartialEq + Drop>(rt: &impl Print, call: &str, returned: A, wanted: A) {
+pub(crate) fn expect<A: PartialEq + Drop>(rt: &impl Print, call: &str, returned: A, wanted: A) {
     if returned != wanted {
         let _ = println!(rt; "wrong: {call}");
     }
 }
 
-/// As `judge`, for a call that returns items that it owns, or `out_of_memory` if an allocation fails,
+/// As `expect`, for a call that returns items that it owns, or `out_of_memory` if an allocation fails,
 /// which is counted.
-pub(crate) fn judge_items<T, B, E>(
+pub(crate) fn expect_items<T, B, E>(
     rt: &impl Print,
     call: &str,
     returned: Result<B, E>,
@@ -50,5 +50,5 @@ where
         (Err(error), Err(wanted)) => error == wanted,
         _ => false,
     };
-    judge(rt, call, is_right, true);
+    expect(rt, call, is_right, true);
 }
