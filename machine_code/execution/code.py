@@ -21,7 +21,8 @@ class Code:
         self.object = library.read(content)
         self.processor = processors[self.object.machine]
         self.level = level or symbol.rpartition("_")[2]
-        self.start, self.static = self.object.symbols[symbol], None
+        self.start = self.object.symbols[symbol]
+        self.static = None
         self.callees = {
             self.object.symbols[name]: effect
             for name, effect in effects.items()

@@ -151,7 +151,8 @@ def called(state, effect):
     """A function of which its contract is known: the states after it, each with what may be its
     result."""
     state.prove_call()
-    after, paths = [], list(effect(state))
+    after = []
+    paths = list(effect(state))
     if not paths:
         raise ValueError("a contract of what is called leaves no state")
     for other, *results in paths:
@@ -166,7 +167,8 @@ def called(state, effect):
 
 def run(code, starts, loop_headers, infer_invariant):
     """Runs a function from each of some states. Returns how many paths have ended."""
-    count, work = 0, list(starts)
+    count = 0
+    work = list(starts)
     try:
         while work:
             state = work.pop()

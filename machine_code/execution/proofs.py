@@ -92,7 +92,8 @@ def task(job):
     """Proves a function of a file from one part of its starts. Returns which function it is, whether
     it is rejected, and a line about it."""
     (file, symbol, number), content, part, is_whole = job
-    contract, fault = CONTRACTS[number], None
+    contract = CONTRACTS[number]
+    fault = None
     try:
         count = prove(content, symbol, contract, slice(part, None, contract.parts))
         outcome = f"proved at every length: {count} paths, {questions.counts['asked']} questions"

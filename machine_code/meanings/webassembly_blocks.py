@@ -38,7 +38,8 @@ class Reader:
         self.read_so_far = []
         whole = Block(len(function.results))
         self.blocks = [whole]
-        self.height, self.is_reached = 0, True
+        self.height = 0
+        self.is_reached = True
         *content, end = function.content
         for text in content:
             self.read(text, *text.split())
@@ -66,7 +67,8 @@ class Reader:
             self.add(text, mnemonic, words)
 
     def add(self, text, mnemonic, words):
-        numbers, targets = _numbers(mnemonic, words), []
+        numbers = _numbers(mnemonic, words)
+        targets = []
         takes, gives = self.code.processor.EFFECTS.get(mnemonic, ("", 0))
         if mnemonic == "call":
             called = self.code.object.functions[numbers[0]]

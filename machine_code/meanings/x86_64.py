@@ -70,7 +70,8 @@ def _operand(text):
 
 
 def _address(text, size):
-    terms, offset = [], 0
+    terms = []
+    offset = 0
     for sign, part in re.findall(r"([+-]?)([^+-]+)", text):
         name, _, scale = part.partition("*")
         if name == "rip" or name in GENERAL and GENERAL[name][1] == 8:

@@ -52,7 +52,8 @@ class Image:
         self.choices = set()
         # The functions of the header that the loader finds by name, and what other files have to
         # define.
-        self.exported, self.imported = set(), set()
+        self.exported = set()
+        self.imported = set()
         # The addresses that the loader writes in parts that are not writable.
         self.relocated = set()
 

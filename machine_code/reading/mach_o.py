@@ -34,7 +34,8 @@ def read(data):
         macho = MachO(file.name, allow_unknown_load_commands=True)
         symbols = SymbolTable(macho).nlists
     [header] = macho.headers
-    kind, parts = header.header.filetype, []
+    kind = header.header.filetype
+    parts = []
     for command, segment, sections in header.commands:
         if command.cmd == LC_SEGMENT_64 and segment.initprot:
             parts += [_part(data, segment, section) for section in sections]

@@ -155,7 +155,8 @@ def pattern(lines):
 def edited(build, function, old, new):
     """The committed object or module in which lines of a function, a constant or a macro are
     others."""
-    text, found = text_of(build), None
+    text = text_of(build)
+    found = None
     for start, end in parts_of(build, function):
         found = re.compile(pattern(old)).search(text, start, end)
         if found:
