@@ -6,7 +6,7 @@ ghost use Rattle.consthex.specs.declared.error.RunError.TheVariants.{NoMemory, R
 
 use crate::error::RunError;
 use crate::mode::Mode;
-use crate::runs::run;
+use crate::runs::{run, run_bytes};
 use crate::tests::devices::{InjectedFault, Source, Target};
 use crate::tests::{Escaped, Testing, same_bytes};
 use const_hex::FromHexError::OddLength;
@@ -64,6 +64,8 @@ fn accepts_1048576_bytes_and_no_more(rt: HostRuntime) {
     let zeros = vec![in rt.alloc(); b'0'; 2_097_152].expect(&rt, "memory");
     same_bytes(&rt, 1_048_576, &text, &zeros);
     let mut nothing = Vec::new(rt.alloc());
+    let outcome = run_bytes(rt.alloc(), Mode::Encode, &zeros, &mut nothing);
+    assert_eq!(rt; outcome, Err(RunError::TooLong));
     let mut zeros = io::repeat(0).take(1_048_577);
     let outcome = run(rt.alloc(), Mode::Encode, &mut zeros, &mut nothing);
     assert_eq!(rt; outcome, Err(RunError::TooLong));
