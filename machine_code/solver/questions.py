@@ -13,7 +13,7 @@ import z3
 from solver import integers
 
 # In steps of z3 ("rlimit"), which do not depend on the load of the machine.
-QUICK, LIMIT = 600_000, 40_000_000
+QUICK, LIMIT = 30_000, 40_000_000
 # Each question that was answered by "unsat", as the logic and conditions, for a second solver.
 proved = []
 counts = {"asked": 0}
