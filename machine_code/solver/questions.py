@@ -12,7 +12,8 @@ import z3
 
 from solver import integers
 
-# In steps of z3 ("rlimit"), which do not depend on the load of the machine.
+# In steps of z3 ("rlimit"), which do not depend on the load of the machine. What integers do not answer quickly they seldom
+# answer at all, and bits do.
 QUICK, LIMIT = 30_000, 40_000_000
 # Each question that was answered by "unsat", as the logic and conditions, for a second solver.
 proved = []
