@@ -114,10 +114,27 @@ def for_windows_on_aarch64(folder):
     return pathlib.Path(folder, "made.dll")
 
 
-def rust_for_windows(folder):
-    """A program with the Rust crate, by Debian's cargo and mingw."""
-    cargo, target = "/usr/bin/cargo", "x86_64-pc-windows-gnu"
+def with_rust(folder, target, name="hexfilter", **variables):
+    """A program with the Rust crate for another system, by Debian's cargo."""
     options = ["--target", target, "--target-dir", str(folder)]
     manifest = ["--manifest-path", str(TOP / "rust" / "hexfilter" / "Cargo.toml")]
-    run("env", "PATH=/usr/bin:/bin", cargo, "build", *manifest, *options)
-    return pathlib.Path(folder, target, "debug", "hexfilter.exe")
+    assigned = [f"{name}={value}" for name, value in variables.items()]
+    run("env", "PATH=/usr/bin:/bin", *assigned, "/usr/bin/cargo", "build", *manifest, *options)
+    return pathlib.Path(folder, target, "debug", name)
+
+
+def rust_for_windows(folder):
+    """By mingw."""
+    return with_rust(folder, "x86_64-pc-windows-gnu", "hexfilter.exe")
+
+
+def rust_for_aarch64(folder):
+    """With the standard library that .ci/run unpacks."""
+    target = "aarch64-unknown-linux-gnu"
+    library = TOP / "build" / "std" / "usr" / "lib" / "rustlib" / target / "lib"
+    return with_rust(
+        folder,
+        target,
+        CARGO_ENCODED_RUSTFLAGS=f"-L{library}",
+        CARGO_TARGET_AARCH64_UNKNOWN_LINUX_GNU_LINKER=AARCH64,
+    )

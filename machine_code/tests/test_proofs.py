@@ -24,6 +24,7 @@ FORMATS = {
     "macOS on x86-64": lambda folder: build.for_macos(folder, "x86_64"),
     "macOS on AArch64": lambda folder: build.for_macos(folder, "arm64"),
     "Windows with the Rust crate": build.rust_for_windows,
+    "AArch64 with the Rust crate": build.rust_for_aarch64,
     "AArch64 by lld": on_aarch64("lld"),
     "AArch64 by mold": on_aarch64("mold"),
 }
