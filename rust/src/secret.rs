@@ -2,7 +2,7 @@
 //!
 //! For valid input, whatever depends on a byte happens in the kernel. Where that is the machine code, it is proved that
 //! no branch and no address depends on a byte; elsewhere it computes digits without a table and without a branch on a
-//! byte, which is constant-time by design, and tested. The code around it, which is compiled with yours, reads no byte.
+//! byte, which is constant-time by design, and tested. The code around it, which is compiled with yours, only copies bytes.
 //! Nothing here clears the stack, a register, or text of yours.
 //!
 //! ```
