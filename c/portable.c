@@ -4,7 +4,7 @@
  *     cc -std=c99 -O2 -c portable.c
  *
  * A program needs this file and const_hex.h, and nothing else: no function of libc is called,
- * though a compiler may turn a loop into a call of memcpy or memset.
+ * though a compiler may call its own division, or turn a loop into a call of memcpy or memset.
  *
  * No table is looked up, and no branch depends on a digit, but on whether a character is one. The
  * comments in ACSL say what each function does. Frama-C proves them, as README.md shows.
