@@ -73,17 +73,20 @@ foreach(version 1.99 0.9)
   set_tests_properties(${name} PROPERTIES PASS_REGULAR_EXPRESSION "compatible with requested version")
 endforeach()
 
-# In another project, by add_subdirectory.
+# In another project, by the lines of README.md.
+file(READ ${PROJECT_SOURCE_DIR}/README.md page)
+string(REGEX MATCH "```cmake\n([^`]*)```" page "${page}")
+string(REPLACE "const_hex/c)" "\"${PROJECT_SOURCE_DIR}\" const_hex)" lines "${CMAKE_MATCH_1}")
+string(REPLACE "::const_hex)" "::\${LIBRARY})" lines "${lines}")
 file(CONFIGURE OUTPUT project/CMakeLists.txt CONTENT "cmake_minimum_required(VERSION 3.21)
 project(program C)
-add_subdirectory(\"${PROJECT_SOURCE_DIR}\" const_hex)
-add_executable(unhex \"${EXAMPLES}/unhex.c\")
-target_link_libraries(unhex const_hex::\${LIBRARY})
-install(TARGETS unhex)\n" @ONLY)
+add_executable(program \"${EXAMPLES}/unhex.c\")
+@lines@
+install(TARGETS program)\n" @ONLY)
 foreach(library const_hex static)
   test(subdirectory.${library} NEEDS python3 COMMAND ${CMAKE_CTEST_COMMAND} --build-and-test ${HERE}/project
     ${HERE}/subdirectory_${library} --build-generator ${CMAKE_GENERATOR} --build-options -DLIBRARY=${library} ${toolchain}
-    -DCONST_HEX_PORTABLE=${CONST_HEX_PORTABLE} --test-command ${TEST_UNHEX} ./unhex)
+    -DCONST_HEX_PORTABLE=${CONST_HEX_PORTABLE} --test-command ${TEST_UNHEX} ./program)
 endforeach()
 # By the compiler alone.
 set(sources "'${PROJECT_SOURCE_DIR}'/asm/*.S")

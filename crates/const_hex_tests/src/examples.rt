@@ -3,6 +3,7 @@
 //! Most have no proof by hand: the clauses of the codec are enough.
 
 pub mod constants;
+pub mod contracts;
 pub mod files;
 pub mod json_rpc;
 pub mod own_kernel;

@@ -7,6 +7,7 @@ ghost use Rattle.const_hex.specs.declared.error.FromHexError.{FromHexError};
 ghost use Rattle.const_hex.specs.declared.error.FromHexError.TheVariants.{InvalidHexCharacter, InvalidStringLength};
 
 use const_hex::{Decoder, FromHexError};
+use std::io::{self, Read, Write};
 
 /// Checks two more chunks of a text. An error that it has already, or that the first chunk has, stays
 /// that of the text, and nothing changes any more.
@@ -62,4 +63,25 @@ pub fn decode_where_it_fits(
     let mut decoder = Decoder::new();
     let first = decoder.decode(text, small);
     (first, decoder.decode(text, large))
+}
+
+/// Decodes the input as it arrives. An error of the text has its position in the whole input.
+pub fn decode_stream<R: Read, W: Write>(
+    reader: &mut R,
+    writer: &mut W,
+) -> io::Result<Result<(), FromHexError>> {
+    let mut decoder = Decoder::new();
+    let mut text = [0; 4096];
+    let mut bytes = [0; 2048];
+    for _ in 0..u64::MAX {
+        let count = reader.read(&mut text)?;
+        if count == 0 {
+            break;
+        }
+        match decoder.decode(&text[..count], &mut bytes) {
+            Ok(decoded) => writer.write_all(&bytes[..decoded])?,
+            Err(error) => return Ok(Err(error)),
+        }
+    }
+    Ok(decoder.finish())
 }

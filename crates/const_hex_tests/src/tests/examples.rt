@@ -1,6 +1,7 @@
 //! One call of each function of `examples`, whose contract says the rest.
 
 use crate::examples::constants::{transfer, wrapped_ether};
+use crate::examples::contracts::key_of;
 use crate::examples::files::{write_line, write_text};
 use crate::examples::json_rpc::{code_of, reason};
 use crate::examples::own_kernel::write_pieces;
@@ -9,7 +10,9 @@ use crate::examples::readers::{
 };
 use crate::examples::sinks::{packets, send_json};
 use crate::examples::store::canonical;
-use crate::examples::streams::{check_chunk, check_chunks, decode_chunks, decode_where_it_fits};
+use crate::examples::streams::{
+    check_chunk, check_chunks, decode_chunks, decode_stream, decode_where_it_fits,
+};
 use crate::examples::writers::{fill_field, put_label};
 use crate::testing::texts::invalid;
 use crate::tests::rows::{Testing, Text, same, same_bytes};
@@ -49,7 +52,22 @@ fn shared_lists_and_accounts(rt: HostRuntime) {
 }
 
 #[test]
+fn whole_streams(rt: HostRuntime) {
+    for (text, want) in [
+        ("0x6B69", Ok(())),
+        ("6b6", Err(FromHexError::OddLength)),
+        ("6bz", Err(invalid(b'z', 2))),
+    ] {
+        let mut bytes = Vec::new(rt.alloc());
+        let mut reader = text.as_bytes();
+        same!(&rt, "decode_stream", text; decode_stream(&mut reader, &mut bytes).expect(&rt, "a stream"), want);
+    }
+}
+
+#[test]
 fn keys(rt: HostRuntime) {
+    let decoded = key_of(rt.alloc(), UPPER).expect(&rt, "key_of");
+    same_bytes!(&rt, "key_of", Text(UPPER); decoded, [0xFF, 0x80]);
     let mut key = [0xEE; 32];
     same!(&rt; replace_key(&mut key, b"6b6"), Err(FromHexError::OddLength));
     same_bytes!(&rt, "the key", "6b6"; key, [0xEE; 32]);
