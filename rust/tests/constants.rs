@@ -32,6 +32,17 @@ fn in_constants() {
     assert_eq!(UPPER.as_str(), "ABCD");
 }
 
+/// Each use of a constant is a decoder of its own. A digit that waits is not shown.
+#[test]
+fn decoders() {
+    const NEW: Decoder = Decoder::new();
+    for digit in ["6", "7"] {
+        let mut decoder = NEW;
+        assert_eq!(decoder.decode(digit, &mut []), Ok(0));
+        assert_eq!(format!("{decoder:?}"), "Decoder { position: 1, .. }");
+    }
+}
+
 /// The length is that of the text. A constant of the macro's has no name that the text may have.
 #[test]
 fn in_a_macro() {

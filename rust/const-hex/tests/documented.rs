@@ -27,7 +27,7 @@ fn fields() {
         #[serde(with = "const_hex")]
         bytes: Vec<u8>,
         #[serde(with = "const_hex::serde::no_prefix")]
-        digits: [u8; 2],
+        digits: Array,
         #[serde(
             serialize_with = "const_hex::serialize_upper",
             deserialize_with = "const_hex::deserialize"
@@ -50,10 +50,10 @@ fn fields() {
     }
     let fields = Fields {
         bytes: vec![1, 10, 100],
-        digits: [1, 2],
+        digits: Array([-1, 1]),
         numbers: Array([-1, 1]),
     };
-    let text = r#"{"bytes":"0x010a64","digits":"0102","numbers":"0xFF01"}"#;
+    let text = r#"{"bytes":"0x010a64","digits":"ff01","numbers":"0xFF01"}"#;
     assert_eq!(serde_json::to_string(&fields).unwrap(), text);
     assert_eq!(serde_json::from_str::<Fields>(text).unwrap(), fields);
 }
