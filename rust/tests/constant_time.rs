@@ -3,9 +3,12 @@
 //! `cargo test --test constant_time`.
 #![cfg(all(target_arch = "x86_64", target_os = "linux", feature = "alloc"))]
 
+mod valgrind;
+
 use const_hex_proved::{self as hex, secret};
 use std::collections::BTreeSet;
 use std::process::Command;
+use valgrind::{black_box, request};
 
 /// What depends on a secret in a call.
 #[derive(Clone, Copy, Debug, PartialEq)]
@@ -33,7 +36,7 @@ type Row = (&'static str, [Found; 2], fn(&mut Data));
 /// Rows of calls, whose results are kept.
 macro_rules! rows {
     ($data:ident: $($call:expr => $found:expr;)+) => {
-        [$((stringify!($call), $found, |$data| black_box($call)),)+]
+        [$((stringify!($call), $found, |$data| drop(black_box($call))),)+]
     };
 }
 
@@ -146,34 +149,10 @@ fn found_in(call: &str) -> (Found, BTreeSet<String>) {
     (found, jumps.union(&addresses).cloned().collect())
 }
 
-/// Tells valgrind that nothing has written these bytes. The instructions, which do nothing elsewhere, and the numbers
-/// are those of valgrind.h and memcheck.h.
+/// Tells valgrind that nothing has written these bytes.
 fn make_undefined(bytes: &[u8]) {
+    // VG_USERREQ__MAKE_MEM_UNDEFINED of valgrind/memcheck.h.
     const MAKE_MEM_UNDEFINED: usize = (b'M' as usize) << 24 | (b'C' as usize) << 16 | 1;
-    let request = [
-        MAKE_MEM_UNDEFINED,
-        bytes.as_ptr() as usize,
-        bytes.len(),
-        0,
-        0,
-        0,
-    ];
-    // SAFETY: the rotations add up to 128 bits, and the registers are declared.
-    unsafe {
-        std::arch::asm!(
-            "rol rdi, 3",
-            "rol rdi, 13",
-            "rol rdi, 61",
-            "rol rdi, 51",
-            "xchg rbx, rbx",
-            in("rax") &request,
-            inout("rdx") 0usize => _,
-        )
-    }
-}
-
-/// Takes the value, of which the compiler then knows that something may look at it.
-fn black_box<T>(value: T) {
-    // SAFETY: this is no instruction.
-    unsafe { std::arch::asm!("/* {} */", in(reg) &value, options(nostack, preserves_flags)) };
+    let start = bytes.as_ptr() as usize;
+    request([MAKE_MEM_UNDEFINED, start, bytes.len(), 0, 0, 0]);
 }
