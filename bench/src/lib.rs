@@ -1,7 +1,5 @@
 //! Calls of hexadecimal codecs on prepared input, each as its user writes it.
 
-#[cfg(feature = "c")]
-mod c;
 mod libraries;
 
 pub use libraries::cases;

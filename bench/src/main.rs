@@ -27,7 +27,6 @@ fn main() {
     });
     let cells: Vec<Cell> = chosen(&arguments).zip(counts).collect();
     print_tables(&cells);
-    print_above(&cells);
 }
 
 /// A case, and the instructions of one call.
@@ -68,21 +67,6 @@ fn print_tables(cells: &[Cell]) {
             if !counts.is_empty() {
                 println!("| {size} | {} |", counts.join(" | "));
             }
-        }
-    }
-}
-
-/// Prints each cell in which const-hex takes fewer instructions than const-hex-proved.
-fn print_above(cells: &[Cell]) {
-    println!("\nMore instructions than const-hex:\n");
-    let of = |library| cells.iter().filter(move |cell| cell.0.library == library);
-    for (Case { call, size, .. }, ours) in of("const-hex-proved") {
-        let mut theirs =
-            of("const-hex").filter(|(case, _)| (&case.call, case.size) == (call, *size));
-        let (_, theirs) = theirs.next().expect("the same call of const-hex");
-        if ours > theirs {
-            let ratio = *ours as f64 / *theirs as f64;
-            println!("{ratio:.2}: {call}, {size} bytes, {ours} beside {theirs}");
         }
     }
 }
