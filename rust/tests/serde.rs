@@ -1,4 +1,4 @@
-//! Fields of JSON.
+//! Fields of JSON that have options, vectors, or no prefix. The table asks what the other functions write and read.
 #![cfg(all(feature = "std", feature = "serde"))]
 
 use const_hex_proved::{serde as hexadecimal, FromHexError};
@@ -9,16 +9,6 @@ use serde::{Deserialize, Deserializer, Serialize};
 #[derive(Debug, Default, Deserialize, PartialEq, Serialize)]
 #[serde(default)]
 struct Fields {
-    #[serde(with = "const_hex_proved")]
-    prefixed: Vec<u8>,
-    #[serde(serialize_with = "const_hex_proved::serialize_upper")]
-    #[serde(deserialize_with = "const_hex_proved::deserialize")]
-    prefixed_upper: [u8; 2],
-    #[serde(with = "const_hex_proved::serde::no_prefix")]
-    lower: Vec<u8>,
-    #[serde(serialize_with = "const_hex_proved::serde::no_prefix::serialize_upper")]
-    #[serde(deserialize_with = "const_hex_proved::serde::no_prefix::deserialize")]
-    upper: [u8; 2],
     #[serde(with = "const_hex_proved::serde::option")]
     option: Option<[u8; 2]>,
     #[serde(with = "const_hex_proved::serde::vec")]
@@ -37,12 +27,8 @@ struct Fields {
 
 #[test]
 fn all_forms() {
-    let text = r#"{"prefixed":"0xdead","prefixed_upper":"0xBEEF","lower":"6bff","upper":"01AB","option":"0xdead","vec":["0x6b69","0x"],"bare_option":"6b","bare_vec":["6b","69"],"strict":"6b","strict_option":"69","strict_vec":["6b","6977"]}"#;
+    let text = r#"{"option":"0xdead","vec":["0x6b69","0x"],"bare_option":"6b","bare_vec":["6b","69"],"strict":"6b","strict_option":"69","strict_vec":["6b","6977"]}"#;
     let fields = Fields {
-        prefixed: vec![0xDE, 0xAD],
-        prefixed_upper: [0xBE, 0xEF],
-        lower: b"k\xFF".to_vec(),
-        upper: [1, 0xAB],
         option: Some([0xDE, 0xAD]),
         vec: vec![b"ki".to_vec(), Vec::new()],
         bare_option: Some(b"k".to_vec()),
@@ -53,7 +39,7 @@ fn all_forms() {
     };
     assert_eq!(serde_json::to_string(&fields).unwrap(), text);
     // A prefix may be there or not.
-    let other = text.replace("0xdead", "DEAD").replace("6bff", "0X6Bff");
+    let other = text.replace("0xdead", "DEAD");
     for text in [text, &other.replace(r#"n":"6b"#, r#"n":"0X6B"#)] {
         assert_eq!(serde_json::from_str::<Fields>(text).unwrap(), fields);
     }

@@ -55,16 +55,6 @@ fn calls_of_a_formatter() {
 }
 
 #[test]
-fn the_longest_message() {
-    let longest = FromHexError::InvalidHexCharacter {
-        c: '\u{80}',
-        index: usize::MAX,
-    };
-    let message = format!("invalid character '\\u{{80}}' at position {}", usize::MAX);
-    assert_eq!(longest.to_string(), message);
-}
-
-#[test]
 fn collections_of_characters() {
     assert_eq!(
         BYTES.encode_hex::<Vec<char>>(),
@@ -124,7 +114,7 @@ fn errors_of_the_standard_library() {
 mod owned {
     use super::*;
     use const_hex_proved::traits::signed;
-    use const_hex_proved::{decode_append, FromHex, ToHexExt};
+    use const_hex_proved::{decode_append, FromHex};
     use std::borrow::Cow;
     use std::rc::Rc;
     use std::sync::Arc;
@@ -156,16 +146,6 @@ mod owned {
         }
     }
 
-    #[test]
-    fn an_unsized_type() {
-        let bytes: &dyn AsRef<[u8]> = &BYTES;
-        assert_eq!(ToHexExt::encode_hex(bytes), TEXT);
-        assert_eq!(
-            ToHexExt::encode_hex_with_prefix(&BYTES[..]),
-            format!("0x{TEXT}")
-        );
-    }
-
     /// Nothing is allocated for no bytes, or for an error of the length.
     #[test]
     fn a_full_vector() {
@@ -176,11 +156,5 @@ mod owned {
             assert_eq!(decode_append(text, &mut full), wanted);
             assert_eq!(full.capacity(), capacity);
         }
-    }
-
-    /// The type of the elements need not be named.
-    #[test]
-    fn a_vector_without_its_type() {
-        assert_eq!(Vec::from_hex(TEXT), Ok(BYTES.to_vec()));
     }
 }
