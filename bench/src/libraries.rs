@@ -1,6 +1,6 @@
 //! The libraries, and how each makes the calls.
 
-use crate::Case;
+use crate::{Case, Repeat};
 use std::hint::black_box;
 
 /// Every call of every library, for `size` bytes. Those of const-hex and const-hex-proved take turns.
@@ -94,14 +94,19 @@ impl Cases {
         size: usize,
         run: impl Fn(&[u8], &mut [u8]) -> T + Copy + 'static,
     ) {
-        let prepare = move || {
+        let prepare = move || -> Repeat {
             let (input, mut output) = (input.clone(), vec![0; size]);
-            move || {
+            let mut call = move || {
                 black_box(run(black_box(&input), black_box(&mut output)));
-            }
+            };
+            Box::new(move |count| (0..count).for_each(|_| call()))
         };
-        let case = Case::new(call.to_string(), library, self.bytes.len(), prepare);
-        self.list.push(case);
+        self.list.push(Case {
+            call: call.to_string(),
+            library,
+            size: self.bytes.len(),
+            prepare: Box::new(prepare),
+        });
     }
 }
 

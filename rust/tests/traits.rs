@@ -1,6 +1,6 @@
 //! Printing, and the traits, at what no line of the table asks.
 
-use const_hex_proved::{display, FromHexError, ToHex};
+use const_hex_proved::{display, ToHex};
 use std::fmt::Write;
 
 /// Bytes of each kind that a signed number tells apart, and their text.
@@ -11,7 +11,7 @@ const TEXT: &str = "007f80ff";
 #[cfg(feature = "core-error")]
 #[test]
 fn an_error_of_core() {
-    let error: &dyn core::error::Error = &FromHexError::OddLength;
+    let error: &dyn core::error::Error = &const_hex_proved::FromHexError::OddLength;
     assert_eq!(error.to_string(), "odd number of digits");
 }
 
@@ -114,7 +114,7 @@ fn errors_of_the_standard_library() {
 mod owned {
     use super::*;
     use const_hex_proved::traits::signed;
-    use const_hex_proved::{decode_append, FromHex};
+    use const_hex_proved::{decode_append, FromHex, FromHexError};
     use std::borrow::Cow;
     use std::rc::Rc;
     use std::sync::Arc;
