@@ -36,7 +36,7 @@ type Row = (&'static str, [Found; 2], fn(&mut Data));
 /// Rows of calls, whose results are kept.
 macro_rules! rows {
     ($data:ident: $($call:expr => $found:expr;)+) => {
-        [$((stringify!($call), $found, |$data| drop(black_box($call))),)+]
+        [$((stringify!($call), $found, |$data| { let _ = black_box($call); }),)+]
     };
 }
 

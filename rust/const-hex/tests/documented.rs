@@ -1,4 +1,4 @@
-//! What only this package decides: its names, and what `FromHex` and fields read.
+//! What only this package decides: its names, and what fields read.
 #![cfg(feature = "std")]
 
 // Each name of the crate. All but `FromHex` and `serde` are those of const-hex-proved.
@@ -9,15 +9,6 @@ use const_hex::{
     encode_to_slice_upper, encode_to_str, encode_to_str_upper, encode_upper, encode_upper_prefixed,
     traits, Buffer, FromHex, FromHexError, ToHex, ToHexExt,
 };
-
-/// Vectors of `i8` have the trait too, so a vector is named.
-#[test]
-fn from_hex() {
-    assert_eq!(Vec::<u8>::from_hex("666f6f626172").unwrap(), b"foobar");
-    assert_eq!(Vec::<i8>::from_hex("7f80").unwrap(), [127, -128]);
-    assert_eq!(<[i8; 1] as FromHex>::from_hex("ff"), Ok([-1]));
-    assert_eq!(Box::<[u8]>::from_hex("0x6b").unwrap()[..], b"k"[..]);
-}
 
 #[cfg(feature = "serde")]
 #[test]
