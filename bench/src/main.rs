@@ -11,6 +11,7 @@
 mod valgrind;
 
 use const_hex_bench::{cases, Case, SIZES};
+use std::collections::BTreeMap;
 use std::env;
 
 fn main() {
@@ -45,28 +46,18 @@ fn chosen(only: &[String]) -> impl Iterator<Item = Case> + '_ {
 
 /// Prints a table for each call, with a row for each size and a column for each library.
 fn print_tables(cells: &[Cell]) {
-    let mut calls: Vec<&str> = Vec::new();
-    for (case, _) in cells {
-        if calls.contains(&&*case.call) {
-            continue;
-        }
-        calls.push(&case.call);
-        let of_call: Vec<_> = cells
-            .iter()
-            .filter(|cell| cell.0.call == case.call)
-            .collect();
-        let row = |size: usize, shown: fn(&Cell) -> String| -> Vec<String> {
-            let of_size = of_call.iter().filter(|cell| cell.0.size == size);
-            of_size.map(|cell| shown(cell)).collect()
-        };
-        let libraries = row(case.size, |cell| cell.0.library.to_string());
-        println!("\n| {} | {} |", case.call, libraries.join(" | "));
+    let mut tables: BTreeMap<&str, BTreeMap<usize, Vec<&Cell>>> = BTreeMap::new();
+    for cell in cells {
+        let rows = tables.entry(&cell.0.call).or_default();
+        rows.entry(cell.0.size).or_default().push(cell);
+    }
+    for (call, rows) in tables {
+        let libraries: Vec<&str> = rows[&SIZES[0]].iter().map(|cell| cell.0.library).collect();
+        println!("\n| {call} | {} |", libraries.join(" | "));
         println!("|{}", "---|".repeat(libraries.len() + 1));
-        for size in SIZES {
-            let counts = row(size, |cell| cell.1.to_string());
-            if !counts.is_empty() {
-                println!("| {size} | {} |", counts.join(" | "));
-            }
+        for (size, row) in rows {
+            let counts: Vec<String> = row.iter().map(|cell| cell.1.to_string()).collect();
+            println!("| {size} | {} |", counts.join(" | "));
         }
     }
 }

@@ -139,8 +139,6 @@ mod owned {
         }
         let numbers = [0_i8, 127, -128, -1];
         reads! { signed::FromHex;
-            Vec<u8> = BYTES.to_vec();
-            [i8; 4] = numbers;
             Box<[i8]> = numbers.into();
             Rc<[i8; 4]> = Rc::new(numbers);
         }
