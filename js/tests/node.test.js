@@ -85,6 +85,25 @@ test('the memory keeps its size, and wipe clears all that calls left', async () 
     assert.throws(() => memory.grow(1), RangeError);
 });
 
+test('decodeInto leaves no bytes of a long text in arrays of its own', () => {
+    const { Uint8Array } = globalThis;
+    const made = [];
+    const target = new Uint8Array(20000);
+    globalThis.Uint8Array = class extends Uint8Array {
+        constructor(...from) { made.push(super(...from)); }
+    };
+    try {
+        for (const text of ['c9'.repeat(20000), `0x${'c9'.repeat(20000)}`]) hex.decodeInto(text, target);
+        for (const text of [`${'c9'.repeat(20000)}zz`, 'c9'.repeat(20001), 'c'.repeat(39999)]) {
+            assert.throws(() => hex.decodeInto(text, target), hex.HexError);
+        }
+    } finally {
+        Object.assign(globalThis, { Uint8Array });
+    }
+    assert(made.length >= 5 && target.every((byte) => byte === 0xc9));
+    for (const { buffer } of made) assert(new Uint8Array(buffer).every((byte) => byte === 0));
+});
+
 // A text has the length that it had when the call began, also if its buffer grows before the copy or after it.
 test('a shared buffer that grows meanwhile', async () => {
     for (const [text, read, wanted] of [
@@ -142,11 +161,7 @@ test('options are properties of the object itself', async () => {
 const KEYS = `
     import * as hex from ${JSON.stringify(new URL('../dist/const_hex.js', import.meta.url))};
     const complements = [];
-    // 16 bytes of an array: the last ones, or of a long one some of its first half.
-    const note = (array) => {
-        const start = Math.min(array.length - 16, 8000);
-        complements.push(Array.from({ length: 16 }, (_, index) => array[start + index] ^ 255));
-    };
+    const note = (array) => complements.push(Array.from(array, (byte) => byte ^ 255));
     const arrayOf = (size, byteAt) => {
         const array = new Uint8Array(size);
         for (let index = 0; index < size; index++) array[index] = byteAt();
@@ -155,18 +170,13 @@ const KEYS = `
     };
     const random = () => Math.random() * 256;
     const digit = () => '0123456789abcdef'.charCodeAt(Math.random() * 16);
-    for (const size of [16, 32, 64, 65, 100, 20000]) {
+    for (const size of [16, 32, 64, 65, 100]) {
         globalThis['kept' + size] = arrayOf(size, random);
         const [key, text, target] = [arrayOf(size, random), arrayOf(2 * size, digit), new Uint8Array(size)];
         hex.encode(key);
         hex.isHex(text);
-        const broken = new Uint8Array(2 * size + 2);
-        for (let index = 0; index < text.length; index++) broken[index] = text[index];
-        for (const wrong of [text, broken]) {
-            try { hex.decodeInto(wrong, new Uint8Array(1)); } catch {}
-        }
         note(hex.decodeInto(text, target));
-        for (const array of [key, text, broken, target, hex.decode(text)]) array.fill(0);
+        for (const array of [key, text, target, hex.decode(text)]) array.fill(0);
     }
     hex.wipe();
     console.log(JSON.stringify(complements));
@@ -178,10 +188,10 @@ test('no copy of a key is left once it is cleared', { skip: noLinux }, async () 
     try {
         const [printed] = await once(child.stdout, 'data');
         const arrays = JSON.parse(printed).map((complement) => Buffer.from(complement.map((byte) => byte ^ 255)));
-        const counts = countIn(child.pid, arrays);
+        const counts = countIn(child.pid, arrays.map((array) => array.subarray(-16)));
         // Of each four arrays the first one was not cleared.
         const isRight = counts.every((count, index) => (count > 0) === (index % 4 === 0));
-        assert(isRight, `copies of arrays for 16, 32, 64, 65, 100 and 20,000 bytes: ${counts}`);
+        assert(isRight, `copies of arrays for 16, 32, 64, 65 and 100 bytes: ${counts}`);
     } finally {
         child.kill();
     }
