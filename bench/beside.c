@@ -1,10 +1,9 @@
 // Nanoseconds of one call of the library for C, of OpenSSL 3 and of libsodium, each the least of many runs that take
-// turns. With a number of bytes as argument, each call is made once, for valgrind. bench/README.md has the commands.
+// turns. bench/README.md has the commands.
 #include <const_hex.h>
 #include <openssl/crypto.h>
 #include <sodium.h>
 #include <stdio.h>
-#include <stdlib.h>
 #include <string.h>
 #include <time.h>
 
@@ -36,16 +35,9 @@ static double nanoseconds(bool (*call)(void), int calls) {
          calls;
 }
 
-int main(int words, char **arguments) {
+int main(void) {
   static bool (*const calls[])(void) = {encode, encode_openssl, encode_sodium,
                                         decode, decode_openssl, decode_sodium};
-  if (words > 1) {
-    size = strtoul(arguments[1], NULL, 10);
-    for (int i = 0; i < 6; i++)
-      if (!calls[i < 3 ? 2 - i : i]()) // the text of const_hex is decoded
-        return 1;
-    return 0;
-  }
   static const size_t sizes[] = {20, 32, 256, 4096};
   puts("bytes: encode by const_hex, OpenSSL, libsodium; decode by the same");
   for (size_t i = 0; i < sizeof sizes / sizeof *sizes; i++) {

@@ -19,14 +19,15 @@ function timeOf(call, input) {
     return Number(process.hrtime.bigint() - start) / IN_A_ROUND;
 }
 
-const rows = Object.fromEntries(Object.keys(CALLS).map((name) => [name, {}]));
+const rows = {};
 for (const size of [20, 32, 256, 4096]) {
     const bytes = Buffer.from(Array.from({ length: size }, (_, index) => (index * index * 7 + (index >> 3)) & 255));
     const input = { bytes, text: bytes.toString('hex') };
-    const rounds = Array.from({ length: ROUNDS }, () => Object.values(CALLS).map((call) => timeOf(call, input)));
-    Object.keys(CALLS).forEach((name, call) => {
-        rows[name][size] = Math.round(Math.min(...rounds.map((times) => times[call])));
-    });
+    const least = Object.fromEntries(Object.keys(CALLS).map((name) => [name, Infinity]));
+    for (let round = 0; round < ROUNDS; round++) {
+        for (const name in CALLS) least[name] = Math.min(least[name], timeOf(CALLS[name], input));
+    }
+    rows[size] = least;
 }
 console.table(rows);
 // So that no call is left out as one without an effect.

@@ -83,13 +83,13 @@ static bool fail(struct const_hex_error *error, uint32_t kind, uint32_t byte, si
 }
 
 /* No message is longer. */
-enum { LONGEST = 59 };
+enum { MAX_MESSAGE = 59 };
 
 /* Writes a text before what starts at `start`, and returns where it starts. */
-/*@ requires length <= start <= LONGEST;
-    requires \valid(space + (0 .. LONGEST - 1));
+/*@ requires length <= start <= MAX_MESSAGE;
+    requires \valid(space + (0 .. MAX_MESSAGE - 1));
     requires \valid_read(text + (0 .. length - 1));
-    requires \separated(space + (0 .. LONGEST - 1), text + (0 .. length - 1));
+    requires \separated(space + (0 .. MAX_MESSAGE - 1), text + (0 .. length - 1));
     assigns space[0 .. start - 1];
     ensures \result == start - length; */
 static size_t prepend(char *space, size_t start, const char *text, size_t length) {
@@ -103,15 +103,15 @@ static size_t prepend(char *space, size_t start, const char *text, size_t length
   return start;
 }
 
-/*@ requires \valid(space + (0 .. LONGEST - 1));
-    assigns space[0 .. LONGEST - 1];
-    ensures \result == LONGEST - const_hex_decimal_length(number); */
+/*@ requires \valid(space + (0 .. MAX_MESSAGE - 1));
+    assigns space[0 .. MAX_MESSAGE - 1];
+    ensures \result == MAX_MESSAGE - const_hex_decimal_length(number); */
 static size_t prepend_decimal(char *space, size_t number) {
-  size_t start = LONGEST - 1;
-  /*@ loop invariant start < LONGEST;
-      loop invariant const_hex_decimal_length(number) + LONGEST - 1 - start ==
+  size_t start = MAX_MESSAGE - 1;
+  /*@ loop invariant start < MAX_MESSAGE;
+      loop invariant const_hex_decimal_length(number) + MAX_MESSAGE - 1 - start ==
           const_hex_decimal_length(\at(number, Pre));
-      loop assigns start, number, space[0 .. LONGEST - 1];
+      loop assigns start, number, space[0 .. MAX_MESSAGE - 1];
       loop variant number; */
   while (number >= 10) {
     space[start--] = (char)('0' + number % 10);
@@ -122,8 +122,8 @@ static size_t prepend_decimal(char *space, size_t number) {
 }
 
 /* Writes what shows a character before what starts at `start`, and returns where it starts. */
-/*@ requires byte < 256 && 6 <= start <= LONGEST;
-    requires \valid(space + (0 .. LONGEST - 1));
+/*@ requires byte < 256 && 6 <= start <= MAX_MESSAGE;
+    requires \valid(space + (0 .. MAX_MESSAGE - 1));
     assigns space[0 .. start - 1];
     ensures \result == start - const_hex_shown_length(byte); */
 static size_t prepend_shown(char *space, size_t start, unsigned byte) {
@@ -178,8 +178,8 @@ static size_t write_ended(const char *text, size_t length, char *message, size_t
 
 size_t const_hex_error_message(const struct const_hex_error *error, char *message,
                                size_t message_size) {
-  char space[LONGEST];
-  size_t start = LONGEST;
+  char space[MAX_MESSAGE];
+  size_t start = MAX_MESSAGE;
   if (error->kind == CONST_HEX_ODD_LENGTH) {
     return write_ended("odd number of digits", 20, message, message_size);
   }
@@ -195,7 +195,7 @@ size_t const_hex_error_message(const struct const_hex_error *error, char *messag
     start = prepend_shown(space, start, error->byte);
     start = prepend(space, start, "invalid character '", 19);
   }
-  return write_ended(space + start, LONGEST - start, message, message_size);
+  return write_ended(space + start, MAX_MESSAGE - start, message, message_size);
 }
 
 /* ---- Encoding ---- */

@@ -2,7 +2,7 @@
 
 use const_hex_bench::{cases, SIZES};
 use criterion::{criterion_group, criterion_main, BenchmarkId, Criterion, Throughput};
-use std::time::{Duration, Instant};
+use std::time::Instant;
 
 /// The calls that are measured.
 const CALLS: [&str; 7] = [
@@ -35,12 +35,5 @@ fn times(criterion: &mut Criterion) {
     }
 }
 
-fn short() -> Criterion {
-    Criterion::default()
-        .warm_up_time(Duration::from_millis(100))
-        .measurement_time(Duration::from_millis(400))
-        .sample_size(40)
-}
-
-criterion_group!(name = all; config = short(); targets = times);
+criterion_group!(all, times);
 criterion_main!(all);

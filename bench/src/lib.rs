@@ -1,7 +1,5 @@
 //! Calls of hexadecimal codecs on prepared input, each as its user writes it.
 
-#[cfg(feature = "c")]
-mod c;
 mod libraries;
 
 pub use libraries::cases;
@@ -23,29 +21,6 @@ pub struct Case {
 pub type Repeat = Box<dyn FnMut(usize)>;
 
 impl Case {
-    /// A case of the call that `prepare` returns, with its buffers.
-    fn new<F: FnMut() + 'static>(
-        call: String,
-        library: &'static str,
-        size: usize,
-        prepare: impl Fn() -> F + 'static,
-    ) -> Case {
-        let prepare = move || -> Repeat {
-            let mut call = prepare();
-            Box::new(move |count| {
-                for _ in 0..count {
-                    call();
-                }
-            })
-        };
-        Case {
-            call,
-            library,
-            size,
-            prepare: Box::new(prepare),
-        }
-    }
-
     /// The call with its buffers. If they are made for each measurement, they have the same addresses for each library: a
     /// store that crosses a page takes long.
     pub fn prepared(&self) -> Repeat {

@@ -1,6 +1,6 @@
 //! The libraries, and how each makes the calls.
 
-use crate::Case;
+use crate::{Case, Repeat};
 use std::hint::black_box;
 
 /// Every call of every library, for `size` bytes. Those of const-hex and const-hex-proved take turns.
@@ -34,8 +34,6 @@ pub fn cases(size: usize) -> Vec<Case> {
     known_lengths!(1 2 3 4 8 12 16 17 20 24 32 33 48 64 65 128 256 2048);
     with_names_of_hex!(hex, "hex", cases);
     of_data_encoding(&mut cases);
-    #[cfg(feature = "c")]
-    crate::c::cases(&mut cases);
     cases.list
 }
 
@@ -43,7 +41,7 @@ pub fn cases(size: usize) -> Vec<Case> {
 const TEXTS: [&str; 3] = ["", ", first character invalid", ", last character invalid"];
 
 /// The cases for bytes, and for texts that are made of their text in lowercase.
-pub(crate) struct Cases {
+struct Cases {
     bytes: Vec<u8>,
     text: Vec<u8>,
     list: Vec<Case>,
@@ -51,7 +49,7 @@ pub(crate) struct Cases {
 
 impl Cases {
     /// Adds a case that calls `run` on the bytes and on a buffer for the text.
-    pub(crate) fn encoding<T>(
+    fn encoding<T>(
         &mut self,
         call: &str,
         library: &'static str,
@@ -62,7 +60,7 @@ impl Cases {
     }
 
     /// Adds a case for each kind of text, which calls `run` on the text and on a buffer for the bytes.
-    pub(crate) fn decoding<T: 'static, E: 'static>(
+    fn decoding<T: 'static, E: 'static>(
         &mut self,
         call: &str,
         library: &'static str,
@@ -96,14 +94,19 @@ impl Cases {
         size: usize,
         run: impl Fn(&[u8], &mut [u8]) -> T + Copy + 'static,
     ) {
-        let prepare = move || {
+        let prepare = move || -> Repeat {
             let (input, mut output) = (input.clone(), vec![0; size]);
-            move || {
+            let mut call = move || {
                 black_box(run(black_box(&input), black_box(&mut output)));
-            }
+            };
+            Box::new(move |count| (0..count).for_each(|_| call()))
         };
-        let case = Case::new(call.to_string(), library, self.bytes.len(), prepare);
-        self.list.push(case);
+        self.list.push(Case {
+            call: call.to_string(),
+            library,
+            size: self.bytes.len(),
+            prepare: Box::new(prepare),
+        });
     }
 }
 

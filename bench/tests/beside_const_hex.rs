@@ -11,20 +11,18 @@ use random::Random;
 /// What a library encodes bytes to, also into an output of a size.
 macro_rules! encoded {
     ($library:ident, $bytes:expr, $size:expr) => {{
+        use $library::*;
         let (mut lower, mut upper) = (vec![7; $size], vec![7; $size]);
-        let results = [
-            $library::encode_to_slice($bytes, &mut lower).map_err(|error| error.to_string()),
-            $library::encode_to_slice_upper($bytes, &mut upper).map_err(|error| error.to_string()),
-        ];
-        let shown = $library::display($bytes);
-        let texts = [
-            $library::encode($bytes),
-            $library::encode_upper($bytes),
-            $library::encode_prefixed($bytes),
-            $library::encode_upper_prefixed($bytes),
-            format!("{shown:#x}{shown:X}"),
-        ];
-        (results, lower, upper, texts)
+        let is_lower = encode_to_slice($bytes, &mut lower);
+        let is_upper = encode_to_slice_upper($bytes, &mut upper);
+        [
+            format!("{is_lower:?} {lower:?} {is_upper:?} {upper:?}"),
+            encode($bytes),
+            encode_upper($bytes),
+            encode_prefixed($bytes),
+            encode_upper_prefixed($bytes),
+            format!("{:#x} {:X}", display($bytes), display($bytes)),
+        ]
     }};
 }
 
@@ -32,33 +30,27 @@ macro_rules! encoded {
 /// do not count. After an invalid character a library may have decoded more or fewer of the bytes before it.
 macro_rules! decoded {
     ($library:ident, $text:expr, $size:expr, $added:expr) => {{
-        use $library::FromHexError::{self, *};
-        let in_text = |added| {
-            move |error: FromHexError| match error {
-                InvalidHexCharacter { c, index } => (c, index + added, String::new()),
-                error => (' ', 0, error.to_string()),
-            }
+        use $library::{FromHexError::InvalidHexCharacter, *};
+        let in_text = |error| match error {
+            InvalidHexCharacter { c, index } => InvalidHexCharacter {
+                c,
+                index: index + $added,
+            },
+            error => error,
         };
         let mut output = vec![7; $size];
-        let result = $library::decode_to_slice($text, &mut output).map_err(in_text($added));
-        if matches!(&result, Err((_, _, message)) if message.is_empty()) {
+        let result = decode_to_slice($text, &mut output).map_err(in_text);
+        if matches!(result, Err(InvalidHexCharacter { .. })) {
             output.clear();
         }
-        macro_rules! arrays {
-            ($count:literal) => {
-                [
-                    $library::decode_to_array::<_, $count>($text),
-                    $library::const_decode_to_array::<$count>($text),
-                ]
-                .map(|array| array.map_err(in_text($added)))
-            };
-        }
-        (
-            (result, output, $library::check_raw($text)),
-            $library::decode($text).map_err(in_text($added)),
-            $library::check($text).map_err(in_text(0)),
-            (arrays!(0), arrays!(1), arrays!(20)),
-        )
+        [
+            format!("{result:?} {output:?}"),
+            format!("{:?} {}", check($text), check_raw($text)),
+            format!("{:?}", decode($text).map_err(in_text)),
+            format!("{:?}", decode_to_array::<_, 0>($text).map_err(in_text)),
+            format!("{:?}", decode_to_array::<_, 20>($text).map_err(in_text)),
+            format!("{:?}", const_decode_to_array::<20>($text).map_err(in_text)),
+        ]
     }};
 }
 
@@ -72,11 +64,7 @@ fn random_inputs() {
         let theirs = encoded!(const_hex, bytes, size);
         assert_eq!(theirs, encoded!(const_hex_proved, bytes, size), "{bytes:?}");
         let has_prefix = text.starts_with(b"0x") || text.starts_with(b"0X");
-        let added = if has_prefix && text.len() % 2 == 0 {
-            2
-        } else {
-            0
-        };
+        let added = 2 * usize::from(has_prefix && text.len() % 2 == 0);
         let size = (text.len() / 2 + random.below(2)).saturating_sub(random.below(3));
         let theirs = decoded!(const_hex, text, size, added);
         assert_eq!(

@@ -1,38 +1,10 @@
 /*
- * Tests of the library in several threads, and over text that another thread changes meanwhile.
+ * Each function of the library, over text that another thread changes meanwhile.
  */
 #include "common.h"
 #include <pthread.h>
 
-enum { THREADS = 8, COUNT = 100, LENGTH = 2 * COUNT };
-
-/* Encodes and decodes bytes of the thread's own. Returns NULL if each came back. */
-static void *work(void *number) {
-  unsigned char bytes[COUNT], back[COUNT];
-  char text[CONST_HEX_ENCODED_SIZE(COUNT, CONST_HEX_PREFIX)];
-  for (size_t turn = 0; turn < 2000; turn++) {
-    size_t count = turn % COUNT;
-    memset(bytes, (int)(turn + (size_t)number), count);
-    if (!const_hex_encode(bytes, count, text, sizeof text, CONST_HEX_PREFIX) ||
-        !const_hex_decode_exact(text, 2 * count + 2, back, count, NULL) ||
-        memcmp(bytes, back, count) != 0) {
-      return number;
-    }
-  }
-  return NULL;
-}
-
-TEST(threads) {
-  pthread_t all[THREADS];
-  for (size_t which = 0; which < THREADS; which++) {
-    expect(pthread_create(&all[which], NULL, work, (void *)(which + 1)) == 0, "a thread begins",
-           which, 0);
-  }
-  for (size_t which = 0; which < THREADS; which++) {
-    void *failed = all;
-    expect(pthread_join(all[which], &failed) == 0 && failed == NULL, "a thread", which, 0);
-  }
-}
+enum { COUNT = 100, LENGTH = 2 * COUNT };
 
 /* A text that another thread makes valid and invalid in turn, until it is told to stop. */
 static volatile char changing[LENGTH];

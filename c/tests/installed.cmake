@@ -51,8 +51,6 @@ if(NOT CMAKE_CROSSCOMPILING)
   set(INCLUDE "'-I${INSTALLED}/include'")
   test_compiled(musl_static musl-gcc c "${INCLUDE} -static '${LIB}/libconst_hex.a'")
   test_compiled(musl_shared musl-gcc c "${INCLUDE} '${LIB}/libconst_hex.so' '-Wl,-rpath,${LIB}'")
-  test(installed.musl_check NEEDS musl-gcc ${WITH} COMMAND sh -c "musl-gcc -std=c99 -O2 -static ${INCLUDE} \\
-    '-I${PROJECT_SOURCE_DIR}' '${SOURCE}/check.c' '${LIB}/libconst_hex.a' -o musl_check && ./musl_check")
 endif()
 # By CMake, from this folder or the archive.
 set(toolchain)

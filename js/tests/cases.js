@@ -71,7 +71,8 @@ function cellBytes(cell) {
     return Uint8Array.from(parts, (part) => (part[1] ? Number(`0${part.slice(1)}`) : part.charCodeAt()));
 }
 
-/** What the lines of the table ask, by their first word. */
+/** What the lines of the table ask, by their first word. Others ask of what this package does not have, and of long texts,
+ * as `longTexts` does. */
 const questions = {
     write(bytes, digits) {
         for (const [prefix, upper] of [[false, false], [false, true], [true, false], [true, true]]) {
@@ -94,10 +95,6 @@ const questions = {
     },
 };
 
-/** What the lines ask of functions that this package does not have, and of long texts, as `longTexts` does. */
-const OTHER_QUESTIONS = ['write-into', 'digits', 'json', 'json-into', 'json-message', 'write-times', 'read-times',
-    'fronts', 'each-byte', 'pieces', 'calls', 'values-of-step', 'write-step', 'read-step'];
-
 async function tableOfTestVectors() {
     const isFile = TABLE.protocol === 'file:';
     const read = isFile ? (await import('node:fs')).readFileSync : async (url) => (await fetch(url)).text();
@@ -106,7 +103,7 @@ async function tableOfTestVectors() {
     for (const line of table.split('\n')) {
         const [asked, input, result] = line.split('\t');
         const [question, number] = asked.split(' ');
-        if (result === undefined || OTHER_QUESTIONS.includes(question)) continue;
+        if (!(question in questions)) continue;
         const [bytes, answer] = [input, result].map(cellBytes);
         const wanted = question.startsWith('read') && !result.startsWith('!') ? digitsOf(answer) : stringOf(answer);
         const isText = question !== 'write' && digitsOf(utf8(stringOf(bytes))) === digitsOf(bytes);
@@ -115,19 +112,6 @@ async function tableOfTestVectors() {
         count[question] += 1;
     }
     for (const [question, lines] of Object.entries(count)) equal(lines > 20, true, question);
-}
-
-// Texts up to a length are copied by a loop, and longer ones at once.
-function eachIndex() {
-    for (const length of [1, 8, 9, 48, 49]) {
-        const text = digitsOf(bytesOf(length));
-        for (let index = 0; index < text.length; index++) {
-            for (const invalid of ['g', '\u0130', '\u{1f95d}']) {
-                const broken = text.slice(0, index) + invalid + text.slice(index + 1);
-                compare(broken, errorAt(broken, index, utf8(invalid)));
-            }
-        }
-    }
 }
 
 function longTexts() {
@@ -144,22 +128,28 @@ function longTexts() {
     }
 }
 
-function bordersOfChunks() {
-    const text = 'ab'.repeat(CHUNK + 4);
-    for (let near = -5; near < 5; near++) {
-        for (const index of [CHUNK + near, 2 * CHUNK + near]) {
-            for (const invalid of ['g', '\u00e9', '\u20ac', '\u{1f95d}', '\ud800', '\udc00']) {
-                for (const end of ['', '0', '\u00e9']) {
-                    const broken = text.slice(0, index) + invalid + text.slice(index) + end;
-                    const wanted = errorAt(broken, index, utf8(invalid));
-                    for (const form of [broken, utf8(broken)]) compare(form, wanted);
-                    compareInto(broken, utf8(broken).length >> 1, wanted);
-                }
-            }
+/** Compares digits with something invalid before an index. */
+function compareBroken(digits, index) {
+    for (const invalid of ['g', '\u00e9', '\u0130', '\u20ac', '\u{1f95d}', '\ud800', '\udc00']) {
+        for (const end of ['', '0', '\u00e9']) {
+            const broken = digits.slice(0, index) + invalid + digits.slice(index) + end;
+            const wanted = errorAt(broken, index, utf8(invalid));
+            for (const form of [broken, utf8(broken)]) compare(form, wanted);
+            compareInto(broken, utf8(broken).length >> 1, wanted);
         }
+    }
+}
+
+function invalidCharacters() {
+    // Texts up to a length are copied by a loop, and longer ones at once.
+    for (const length of [1, 8, 9, 48, 49]) {
+        for (let index = 0; index <= 2 * length; index++) compareBroken(digitsOf(bytesOf(length)), index);
+    }
+    const digits = 'ab'.repeat(CHUNK + 4);
+    for (let near = -5; near < 5; near++) {
+        for (const index of [CHUNK + near, 2 * CHUNK + near]) compareBroken(digits, index);
         // In units the text may be no longer than a chunk, though it is in bytes.
-        const broken = `${text.slice(0, CHUNK + near)}\u20ac`;
-        compare(broken, errorAt(broken, CHUNK + near, [0xe2]));
+        compareBroken(digits.slice(0, CHUNK + near), CHUNK + near);
     }
 }
 
@@ -300,5 +290,5 @@ function errors() {
     equal(resultOf(() => decode('\ud800a')), '!InvalidHexCharacter 0xef 0'); // The bytes of U+FFFD.
 }
 
-export const cases = { tableOfTestVectors, eachIndex, longTexts, bordersOfChunks, arraysAndViews, otherTypes,
-    lostBuffers, overlap, failedAllocation, severalDecoders, streams, errors };
+export const cases = { tableOfTestVectors, longTexts, invalidCharacters, arraysAndViews, otherTypes, lostBuffers, overlap,
+    failedAllocation, severalDecoders, streams, errors };

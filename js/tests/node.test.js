@@ -68,20 +68,6 @@ test('the module works by vectors', () => {
     assert(swizzles >= 30, `i8x16.swizzle stands ${swizzles} times in the module`);
 });
 
-test('each result of the module is looked at', async () => {
-    const one = new Uint8Array(1);
-    const reads = ['decode', 'decodeInto', 'check'].map((name) => (loaded) => loaded[name]('6b', one));
-    for (const [name, ...calls] of [
-        ['encode', ...[4, 2 ** 18].map((size) => (loaded) => loaded.encode(new Uint8Array(size)))],
-        ['decoder_update', ...reads, (loaded) => loaded.decoder().push('6b')],
-        ['decoder_finish', ...reads, (loaded) => loaded.decoder().end()],
-    ]) {
-        const loaded = await loadOver((exports) => ({ ...exports, [`const_hex_${name}`]: () => 0 }));
-        calls.forEach((call, number) => assert.throws(() => call(loaded), Error, `${name} ${number}`));
-        if (name !== 'encode') assert.equal(loaded.isHex('6b'), false);
-    }
-});
-
 test('the memory keeps its size, and wipe clears all that calls left', async () => {
     let memory;
     const loaded = await loadOver((exports) => ({ memory } = exports));

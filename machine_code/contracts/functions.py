@@ -135,7 +135,7 @@ class Function:
         paths = list(self.cases(state))
         known = [[fact.term for fact in path.facts[len(state.facts) :]] for path in paths]
         is_start = z3.Or(*[z3.And(*terms) for terms in known])
-        state.prove(z3.Implies(self.is_for(state), is_start), "a start is missing")
+        state.prove(z3.Implies(self.applies_to(state), is_start), "a start is missing")
         return paths
 
     def stacks(self, state):
@@ -146,7 +146,7 @@ class Function:
         """The cases of the start, such as whether the text has a prefix."""
         return [state]
 
-    def is_for(self, state):
+    def applies_to(self, state):
         """Which starts the contract is for."""
         return z3.BoolVal(True)
 

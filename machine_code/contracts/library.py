@@ -322,8 +322,13 @@ def with_decoder(state):
 
 def decoder_of(state):
     """What a decoder had at the call."""
+    return decoder_in(state.entry)
+
+
+def decoder_in(state):
+    """What a decoder has now."""
     *position, character, kind = [
-        state.entry.cells["decoder", offset] for offset in range(state.WORD + 2)
+        state.cells["decoder", offset] for offset in range(state.WORD + 2)
     ]
     return simple(z3.ZeroExt(64 - 8 * state.WORD, joined(position))), character, kind
 
@@ -342,10 +347,9 @@ class DecoderUpdate(Text):
     arguments = base("decoder"), *Decode.arguments
     empty = BUFFERS
 
-    def kinds(self, state):
+    def kinds(self, position, character, kind):
         """What a decoder may be: at the start; after one digit, which may be the first half of a
         prefix; later, where no digit waits, or one; after an error."""
-        position, character, kind = decoder_of(with_decoder(state))
         waits, later = z3.And(kind == 1, is_digit(character)), z3.UGE(position, 2)
         return Kinds(
             start=z3.And(position == 0, kind == 0),
@@ -355,11 +359,11 @@ class DecoderUpdate(Text):
             failed=z3.UGT(kind, 1),
         )
 
-    def is_for(self, state):
-        return z3.Or(*self.kinds(state))
+    def applies_to(self, state):
+        return z3.Or(*self.kinds(*decoder_of(with_decoder(state))))
 
     def cases(self, state):
-        kinds = self.kinds(state)
+        kinds = self.kinds(*decoder_of(with_decoder(state)))
         is_rest = z3.And(
             z3.UGE(N, 1), is_prefix(decoder_of(state)[1], state.byte_of_input(word(0)))
         )
@@ -401,7 +405,12 @@ class DecoderUpdate(Text):
         if other := state.branch(z3.And(waits, N == 0)):
             prove_has(other, "decoder", character, offset=state.WORD)
         if other := state.branch(z3.And(waits, N != 0)):
+            other.prove(z3.UGT(N, other.body), "what waits is not among the digits")
             prove_has(other, "decoder", other.byte_of_input(N - 1), offset=state.WORD)
+        # What waits is a digit. So the next call, too, begins in a state that a start is for.
+        position, _, kind = decoder_in(state)
+        is_start = z3.Or(*self.kinds(position, byte(ord("0")), kind))
+        state.prove(is_start, "the decoder is in a state that no start is for")
 
     def rejects(self, state, index, character):
         position = saturating_add(state, decoder_of(state)[0], index)
@@ -421,11 +430,11 @@ class ChangedDecoder(DecoderUpdate):
     is_declassified = True
     is_in_module = False
 
-    def is_for(self, state):
-        return z3.Not(super().is_for(state))
+    def applies_to(self, state):
+        return z3.Not(super().applies_to(state))
 
     def cases(self, state):
-        return [state.branch(self.is_for(state))]
+        return [state.branch(self.applies_to(state))]
 
     def store(self, state, offset, data):
         """Anything may be written to the output."""

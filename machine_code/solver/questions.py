@@ -114,13 +114,6 @@ def _zeros(term):
     """The terms that are all 0 just if this one is."""
     if z3.is_app_of(term, z3.Z3_OP_BOR) or z3.is_app_of(term, z3.Z3_OP_CONCAT):
         return [part for child in term.children() for part in _zeros(child)]
-    if z3.is_app_of(term, z3.Z3_OP_EXTRACT) and z3.is_app_of(term.arg(0), z3.Z3_OP_BOR):
-        high, low = term.params()
-        return [
-            part
-            for child in term.arg(0).children()
-            for part in _zeros(z3.simplify(z3.Extract(high, low, child)))
-        ]
     return [] if z3.is_bv_value(term) and term.as_long() == 0 else [term]
 
 

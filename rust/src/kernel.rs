@@ -56,4 +56,4 @@ pub mod secret;
 mod space;
 #[cfg(feature = "alloc")]
 pub use owned::*;
-pub use space::{Byte, Space};
+pub use space::Space;

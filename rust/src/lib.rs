@@ -307,12 +307,7 @@ pub fn decode_to_front<T: AsRef<[u8]>>(data: T, out: &mut [u8]) -> Result<usize,
 /// ```
 #[inline]
 pub fn decode_to_array<T: AsRef<[u8]>, const N: usize>(input: T) -> Result<[u8; N], FromHexError> {
-    array(input.as_ref())
-}
-
-/// Does the same for bytes of either type.
-#[inline(always)]
-fn array<B: kernel::Byte, const N: usize>(text: &[u8]) -> Result<[B; N], FromHexError> {
+    let text = input.as_ref();
     let digits = strip_even(text)?;
     if digits.len() != N << 1 {
         return wrong_length();
@@ -329,7 +324,7 @@ fn array<B: kernel::Byte, const N: usize>(text: &[u8]) -> Result<[B; N], FromHex
 #[cold]
 #[cfg_attr(target_arch = "aarch64", inline(never))]
 #[cfg_attr(not(target_arch = "aarch64"), inline(always))]
-fn wrong_length<B, const N: usize>() -> Result<[B; N], FromHexError> {
+fn wrong_length<const N: usize>() -> Result<[u8; N], FromHexError> {
     Err(FromHexError::InvalidStringLength)
 }
 

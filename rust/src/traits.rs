@@ -92,7 +92,6 @@ pub mod signed {
     use super::*;
     use crate as codec;
 
-    // Not by the proved loop over a slice of numbers: a vector would be filled twice. The bits are the same.
     from_hex! {
         /// A type that is read from hexadecimal text, with or without a prefix: bytes or numbers of type `i8` in
         /// arrays, vectors and boxes, and their holders. As an `i8`, a byte from 128 on is negative.
@@ -105,10 +104,14 @@ pub mod signed {
         /// ```
     }
 
-    read! { [const N: usize] [i8; N], FromHexError, hex => crate::array(hex.as_ref()); }
+    read! {
+        [const N: usize] [i8; N], FromHexError,
+        hex => codec::decode_to_array(hex).map(|bytes: [u8; N]| bytes.map(|byte| byte as i8));
+    }
     #[cfg(feature = "alloc")]
     read! {
-        [] Vec<i8>, FromHexError, hex => crate::decode(hex).map(crate::kernel::numbers);
+        [] Vec<i8>, FromHexError,
+        hex => codec::decode(hex).map(|bytes| bytes.into_iter().map(|byte| byte as i8).collect());
         [] Box<[i8]>, FromHexError, hex => Vec::from_hex(hex).map(Vec::<i8>::into_boxed_slice);
     }
 }

@@ -3,9 +3,12 @@
 //! `cargo test --test constant_time`.
 #![cfg(all(target_arch = "x86_64", target_os = "linux", feature = "alloc"))]
 
+mod valgrind;
+
 use const_hex_proved::{self as hex, secret};
 use std::collections::BTreeSet;
 use std::process::Command;
+use valgrind::{black_box, request};
 
 /// What depends on a secret in a call.
 #[derive(Clone, Copy, Debug, PartialEq)]
@@ -27,75 +30,43 @@ struct Data {
     output: Vec<u8>,
 }
 
-/// A call by its name, and what is found in it with machine code and with portable code.
+/// A call by its text, and what is found in it with machine code and with portable code.
 type Row = (&'static str, [Found; 2], fn(&mut Data));
 
-/// A row of a call, whose result is kept.
-macro_rules! row {
-    ($name:literal, $found:expr, |$data:ident| $call:expr) => {
-        ($name, $found, |$data| black_box($call))
+/// Rows of calls, whose results are kept.
+macro_rules! rows {
+    ($data:ident: $($call:expr => $found:expr;)+) => {
+        [$((stringify!($call), $found, |$data| { let _ = black_box($call); }),)+]
     };
 }
 
-const SECRET: [Row; 6] = [
-    row!("secret::encode", [Nothing; 2], |data| secret::encode(
-        &data.bytes
-    )),
-    row!("secret::encode_upper", [Nothing; 2], |data| {
-        secret::encode_upper(&data.bytes)
-    }),
-    row!("secret::encode_to_slice", [Nothing; 2], |data| {
-        secret::encode_to_slice(&data.bytes, &mut data.output)
-    }),
-    row!("secret::encode_to_slice_upper", [Nothing; 2], |data| {
-        secret::encode_to_slice_upper(&data.bytes, &mut data.output)
-    }),
-    row!("secret::decode_to_slice", [Validity; 2], |data| {
-        secret::decode_to_slice(&data.text, &mut data.output[..data.bytes.len()])
-    }),
+const SECRET: [Row; 6] = rows! { data:
+    secret::encode(&data.bytes) => [Nothing; 2];
+    secret::encode_upper(&data.bytes) => [Nothing; 2];
+    secret::encode_to_slice(&data.bytes, &mut data.output) => [Nothing; 2];
+    secret::encode_to_slice_upper(&data.bytes, &mut data.output) => [Nothing; 2];
+    secret::decode_to_slice(&data.text, &mut data.output[..data.bytes.len()]) => [Validity; 2];
     // For the last length alone. For the others the lengths differ.
-    row!("secret::decode_to_array", [Validity; 2], |data| {
-        secret::decode_to_array::<_, MAX_LENGTH>(&data.text)
-    }),
-];
+    secret::decode_to_array::<_, MAX_LENGTH>(&data.text) => [Validity; 2];
+};
 
 /// The other functions. docs/CONSTANT_TIME.md names what is found here.
-const PUBLIC: [Row; 12] = [
-    row!("encode", [Nothing, Addresses], |data| hex::encode(
-        &data.bytes
-    )),
-    row!("encode_to_slice", [Nothing, Addresses], |data| {
-        hex::encode_to_slice(&data.bytes, &mut data.output)
-    }),
-    row!("display", [Nothing, Addresses], |data| hex::display(
-        &data.bytes
-    )
-    .to_string()),
-    row!("ToHexExt", [Nothing, Addresses], |data| {
-        hex::ToHexExt::encode_hex(&data.bytes)
-    }),
-    row!("check_raw", [Validity, Addresses], |data| hex::check_raw(
-        &data.text
-    )),
+const PUBLIC: [Row; 12] = rows! { data:
+    hex::encode(&data.bytes) => [Nothing, Addresses];
+    hex::encode_to_slice(&data.bytes, &mut data.output) => [Nothing, Addresses];
+    hex::display(&data.bytes).to_string() => [Nothing, Addresses];
+    hex::ToHexExt::encode_hex(&data.bytes) => [Nothing, Addresses];
+    hex::check_raw(&data.text) => [Validity, Addresses];
     // They test for a prefix.
-    row!("check", [Jumps, Addresses], |data| hex::check(&data.text)),
-    row!("decode", [Jumps, Addresses], |data| hex::decode(&data.text)),
-    row!("strict::decode", [Jumps, Addresses], |data| {
-        hex::strict::decode(&data.text)
-    }),
-    row!("Decoder", [Jumps, Addresses], |data| hex::Decoder::new()
-        .decode(&data.text, &mut data.output)),
+    hex::check(&data.text) => [Jumps, Addresses];
+    hex::decode(&data.text) => [Jumps, Addresses];
+    hex::strict::decode(&data.text) => [Jumps, Addresses];
+    hex::Decoder::new().decode(&data.text, &mut data.output) => [Jumps, Addresses];
     // They look digits up in a table.
-    row!("ToHex", [Addresses; 2], |data| hex::ToHex::encode_hex::<
-        String,
-    >(&data.bytes)),
-    row!("const_check", [Addresses; 2], |data| hex::const_check(
-        &data.text
-    )),
-    row!("const_decode_to_array", [Addresses; 2], |data| {
-        hex::const_decode_to_array::<MAX_LENGTH>(&data.text)
-    }),
-];
+    hex::ToHex::encode_hex::<String>(&data.bytes) => [Addresses; 2];
+    hex::const_check(&data.text) => [Addresses; 2];
+    hex::const_decode_to_array::<MAX_LENGTH>(&data.text) => [Addresses; 2];
+};
 
 #[test]
 fn secrets() {
@@ -118,7 +89,7 @@ fn compare(rows: &[Row]) {
     }
 }
 
-/// Makes the call that the variable names, at each length. This is what valgrind runs.
+/// Makes the call that the variable has, at each length. This is what valgrind runs.
 #[test]
 fn call() {
     let name = std::env::var("CONST_HEX_CALL").unwrap_or_default();
@@ -178,34 +149,10 @@ fn found_in(call: &str) -> (Found, BTreeSet<String>) {
     (found, jumps.union(&addresses).cloned().collect())
 }
 
-/// Tells valgrind that nothing has written these bytes. The instructions, which do nothing elsewhere, and the numbers
-/// are those of valgrind.h and memcheck.h.
+/// Tells valgrind that nothing has written these bytes.
 fn make_undefined(bytes: &[u8]) {
+    // VG_USERREQ__MAKE_MEM_UNDEFINED of valgrind/memcheck.h.
     const MAKE_MEM_UNDEFINED: usize = (b'M' as usize) << 24 | (b'C' as usize) << 16 | 1;
-    let request = [
-        MAKE_MEM_UNDEFINED,
-        bytes.as_ptr() as usize,
-        bytes.len(),
-        0,
-        0,
-        0,
-    ];
-    // SAFETY: the rotations add up to 128 bits, and the registers are declared.
-    unsafe {
-        std::arch::asm!(
-            "rol rdi, 3",
-            "rol rdi, 13",
-            "rol rdi, 61",
-            "rol rdi, 51",
-            "xchg rbx, rbx",
-            in("rax") &request,
-            inout("rdx") 0usize => _,
-        )
-    }
-}
-
-/// Takes the value, of which the compiler then knows that something may look at it.
-fn black_box<T>(value: T) {
-    // SAFETY: this is no instruction.
-    unsafe { std::arch::asm!("/* {} */", in(reg) &value, options(nostack, preserves_flags)) };
+    let start = bytes.as_ptr() as usize;
+    request([MAKE_MEM_UNDEFINED, start, bytes.len(), 0, 0, 0]);
 }

@@ -2,34 +2,27 @@
 
 use const_hex_proved::*;
 
-#[test]
-fn tables() {
-    for byte in 0..=255_u8 {
-        let value = char::from(byte).to_digit(16);
-        let wanted = value.map_or(NIL, |value| u8::try_from(value).unwrap());
-        assert_eq!(HEX_DECODE_LUT[usize::from(byte)], wanted);
-    }
-    assert_eq!(HEX_CHARS_LOWER, b"0123456789abcdef");
-    assert_eq!(HEX_CHARS_UPPER, b"0123456789ABCDEF");
-}
-
 const KIWI: Buffer<4, true> = const_encode(b"kiwi");
 const TEXT: &str = KIWI.as_str();
-const BYTES: Result<[u8; 4], FromHexError> = const_decode_to_array(TEXT.as_bytes());
-const CHECKED: [u8; 4] = bytes_of(TEXT.as_bytes());
-const INVALID: Result<(), FromHexError> = const_check(b"0xzz");
 const ARRAY: &[u8; 10] = KIWI.as_byte_array();
 const UPPER: Buffer<2> = Buffer::new().const_format_upper(&[0xAB, 0xCD]);
-const _: () = assert!(const_check_raw(b"6b697769"));
 
 #[test]
 fn in_constants() {
     assert_eq!(TEXT, "0x6b697769");
-    assert_eq!((BYTES, CHECKED), (Ok(*b"kiwi"), *b"kiwi"));
-    let error = FromHexError::InvalidHexCharacter { c: 'z', index: 2 };
-    assert_eq!(INVALID, Err(error));
     assert_eq!(ARRAY, b"0x6b697769");
     assert_eq!(UPPER.as_str(), "ABCD");
+}
+
+/// Each use of a constant is a decoder of its own. A digit that waits is not shown.
+#[test]
+fn decoders() {
+    const NEW: Decoder = Decoder::new();
+    for digit in ["6", "7"] {
+        let mut decoder = NEW;
+        assert_eq!(decoder.decode(digit, &mut []), Ok(0));
+        assert_eq!(format!("{decoder:?}"), "Decoder { position: 1, .. }");
+    }
 }
 
 /// The length is that of the text. A constant of the macro's has no name that the text may have.

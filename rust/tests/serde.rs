@@ -1,4 +1,4 @@
-//! Fields of JSON.
+//! Fields of JSON that have options, vectors, or no prefix. The table asks what the other functions write and read.
 #![cfg(all(feature = "std", feature = "serde"))]
 
 use const_hex_proved::{serde as hexadecimal, FromHexError};
@@ -9,16 +9,6 @@ use serde::{Deserialize, Deserializer, Serialize};
 #[derive(Debug, Default, Deserialize, PartialEq, Serialize)]
 #[serde(default)]
 struct Fields {
-    #[serde(with = "const_hex_proved")]
-    prefixed: Vec<u8>,
-    #[serde(serialize_with = "const_hex_proved::serialize_upper")]
-    #[serde(deserialize_with = "const_hex_proved::deserialize")]
-    prefixed_upper: [u8; 2],
-    #[serde(with = "const_hex_proved::serde::no_prefix")]
-    lower: Vec<u8>,
-    #[serde(serialize_with = "const_hex_proved::serde::no_prefix::serialize_upper")]
-    #[serde(deserialize_with = "const_hex_proved::serde::no_prefix::deserialize")]
-    upper: [u8; 2],
     #[serde(with = "const_hex_proved::serde::option")]
     option: Option<[u8; 2]>,
     #[serde(with = "const_hex_proved::serde::vec")]
@@ -33,25 +23,12 @@ struct Fields {
     strict_option: Option<[u8; 1]>,
     #[serde(with = "const_hex_proved::serde::strict::vec")]
     strict_vec: Vec<Box<[u8]>>,
-    #[serde(deserialize_with = "const_hex_proved::serde::signed::deserialize")]
-    #[serde(skip_serializing)]
-    signed: Vec<i8>,
-    #[serde(deserialize_with = "const_hex_proved::serde::signed::option::deserialize")]
-    #[serde(skip_serializing)]
-    signed_option: Option<[i8; 1]>,
-    #[serde(deserialize_with = "const_hex_proved::serde::signed::no_prefix::vec::deserialize")]
-    #[serde(skip_serializing)]
-    signed_vec: Vec<[i8; 1]>,
 }
 
 #[test]
 fn all_forms() {
-    let text = r#"{"prefixed":"0xdead","prefixed_upper":"0xBEEF","lower":"6bff","upper":"01AB","option":"0xdead","vec":["0x6b69","0x"],"bare_option":"6b","bare_vec":["6b","69"],"strict":"6b","strict_option":"69","strict_vec":["6b","6977"]}"#;
-    let mut fields = Fields {
-        prefixed: vec![0xDE, 0xAD],
-        prefixed_upper: [0xBE, 0xEF],
-        lower: b"k\xFF".to_vec(),
-        upper: [1, 0xAB],
+    let text = r#"{"option":"0xdead","vec":["0x6b69","0x"],"bare_option":"6b","bare_vec":["6b","69"],"strict":"6b","strict_option":"69","strict_vec":["6b","6977"]}"#;
+    let fields = Fields {
         option: Some([0xDE, 0xAD]),
         vec: vec![b"ki".to_vec(), Vec::new()],
         bare_option: Some(b"k".to_vec()),
@@ -59,19 +36,12 @@ fn all_forms() {
         strict: b"k".to_vec(),
         strict_option: Some(*b"i"),
         strict_vec: vec![b"k"[..].into(), b"iw"[..].into()],
-        ..Fields::default()
     };
     assert_eq!(serde_json::to_string(&fields).unwrap(), text);
-    let text = text.replace(
-        '}',
-        r#","signed":"ff","signed_option":"0xff","signed_vec":["80"]}"#,
-    );
-    fields.signed = vec![-1];
-    (fields.signed_option, fields.signed_vec) = (Some([-1]), vec![[-128]]);
     // A prefix may be there or not.
-    let other = text.replace("0xdead", "DEAD").replace("6bff", "0X6Bff");
-    for text in [text, other.replace(r#"n":"6b"#, r#"n":"0X6B"#)] {
-        assert_eq!(serde_json::from_str::<Fields>(&text).unwrap(), fields);
+    let other = text.replace("0xdead", "DEAD");
+    for text in [text, &other.replace(r#"n":"6b"#, r#"n":"0X6B"#)] {
+        assert_eq!(serde_json::from_str::<Fields>(text).unwrap(), fields);
     }
 }
 
@@ -80,7 +50,7 @@ fn all_forms() {
 fn empty_fields() {
     let empty = serde_json::to_string(&Fields::default()).unwrap();
     assert!(empty.ends_with(r#""option":null,"vec":[],"bare_option":null,"bare_vec":[],"strict":"","strict_option":null,"strict_vec":[]}"#));
-    for text in ["{}", &empty, r#"{"signed_option":null}"#] {
+    for text in ["{}", &empty] {
         let found = serde_json::from_str::<Fields>(text).unwrap();
         assert_eq!(found, Fields::default());
     }

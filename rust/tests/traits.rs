@@ -1,6 +1,6 @@
 //! Printing, and the traits, at what no line of the table asks.
 
-use const_hex_proved::{display, FromHexError, ToHex};
+use const_hex_proved::{display, ToHex};
 use std::fmt::Write;
 
 /// Bytes of each kind that a signed number tells apart, and their text.
@@ -11,7 +11,7 @@ const TEXT: &str = "007f80ff";
 #[cfg(feature = "core-error")]
 #[test]
 fn an_error_of_core() {
-    let error: &dyn core::error::Error = &FromHexError::OddLength;
+    let error: &dyn core::error::Error = &const_hex_proved::FromHexError::OddLength;
     assert_eq!(error.to_string(), "odd number of digits");
 }
 
@@ -52,16 +52,6 @@ fn calls_of_a_formatter() {
             }
         }
     }
-}
-
-#[test]
-fn the_longest_message() {
-    let longest = FromHexError::InvalidHexCharacter {
-        c: '\u{80}',
-        index: usize::MAX,
-    };
-    let message = format!("invalid character '\\u{{80}}' at position {}", usize::MAX);
-    assert_eq!(longest.to_string(), message);
 }
 
 #[test]
@@ -124,7 +114,7 @@ fn errors_of_the_standard_library() {
 mod owned {
     use super::*;
     use const_hex_proved::traits::signed;
-    use const_hex_proved::{decode_append, FromHex, ToHexExt};
+    use const_hex_proved::{decode_append, FromHex, FromHexError};
     use std::borrow::Cow;
     use std::rc::Rc;
     use std::sync::Arc;
@@ -149,21 +139,9 @@ mod owned {
         }
         let numbers = [0_i8, 127, -128, -1];
         reads! { signed::FromHex;
-            Vec<u8> = BYTES.to_vec();
-            [i8; 4] = numbers;
             Box<[i8]> = numbers.into();
             Rc<[i8; 4]> = Rc::new(numbers);
         }
-    }
-
-    #[test]
-    fn an_unsized_type() {
-        let bytes: &dyn AsRef<[u8]> = &BYTES;
-        assert_eq!(ToHexExt::encode_hex(bytes), TEXT);
-        assert_eq!(
-            ToHexExt::encode_hex_with_prefix(&BYTES[..]),
-            format!("0x{TEXT}")
-        );
     }
 
     /// Nothing is allocated for no bytes, or for an error of the length.
@@ -176,11 +154,5 @@ mod owned {
             assert_eq!(decode_append(text, &mut full), wanted);
             assert_eq!(full.capacity(), capacity);
         }
-    }
-
-    /// The type of the elements need not be named.
-    #[test]
-    fn a_vector_without_its_type() {
-        assert_eq!(Vec::from_hex(TEXT), Ok(BYTES.to_vec()));
     }
 }

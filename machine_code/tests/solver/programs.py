@@ -13,8 +13,6 @@ from execution import proofs
 from reading import library
 from build import ASM, MODULE, RUST, linked, linked_module
 
-# The byte in which the dispatcher of the Rust crate keeps its choice.
-CHOICE = "const_hex_1_0_0_choice"
 COMPILERS = {"v2": "cc", "v3": "cc", "aarch64": "aarch64-linux-gnu-gcc"}
 # Where it begins, a character in eax, whether it is a digit, what is done in a round, and where it
 # returns.

@@ -8,8 +8,9 @@ import contextlib
 
 import mutants
 import pytest
+import z3
 from contracts.functions import N
-from contracts.library import CheckRaw
+from contracts.library import CheckRaw, DecoderUpdate
 from programs import edited, prove
 from solver.questions import Rejected
 
@@ -30,3 +31,16 @@ def test_a_start_that_is_missing():
 
     with pytest.raises(Rejected, match="a start is missing"):
         prove(edited("functions_x86_64", "check_raw", "", ""), "check_raw", contracts=[Empty()])
+
+
+def test_a_state_of_a_decoder_that_is_missing():
+    class Short(DecoderUpdate):
+        def kinds(self, position, character, kind):
+            return super().kinds(position, character, kind)._replace(waiting=z3.BoolVal(False))
+
+    with pytest.raises(Rejected, match="a state that no start is for"):
+        prove(
+            edited("functions_x86_64", "decoder_update", "", ""),
+            "decoder_update",
+            contracts=[Short()],
+        )

@@ -1,4 +1,4 @@
-//! What only this package decides: its names, and what `FromHex` and fields read.
+//! What only this package decides: its names, and what fields read.
 #![cfg(feature = "std")]
 
 // Each name of the crate. All but `FromHex` and `serde` are those of const-hex-proved.
@@ -10,50 +10,19 @@ use const_hex::{
     traits, Buffer, FromHex, FromHexError, ToHex, ToHexExt,
 };
 
-/// Vectors of `i8` have the trait too, so a vector is named.
-#[test]
-fn from_hex() {
-    assert_eq!(Vec::<u8>::from_hex("666f6f626172").unwrap(), b"foobar");
-    assert_eq!(Vec::<i8>::from_hex("7f80").unwrap(), [127, -128]);
-    assert_eq!(<[i8; 1] as FromHex>::from_hex("ff"), Ok([-1]));
-    assert_eq!(Box::<[u8]>::from_hex("0x6b").unwrap()[..], b"k"[..]);
-}
-
+/// `#[serde(with = "const_hex")]` calls the functions of the root. Fields may be arrays of `i8`, too.
 #[cfg(feature = "serde")]
 #[test]
 fn fields() {
-    #[derive(Debug, PartialEq, serde::Deserialize, serde::Serialize)]
-    struct Fields {
-        #[serde(with = "const_hex")]
-        bytes: Vec<u8>,
-        #[serde(with = "const_hex::serde::no_prefix")]
-        digits: [u8; 2],
-        #[serde(
-            serialize_with = "const_hex::serialize_upper",
-            deserialize_with = "const_hex::deserialize"
-        )]
-        numbers: Array,
-    }
-    #[derive(Debug, PartialEq)]
-    struct Array([i8; 2]);
-    impl AsRef<[u8]> for Array {
-        fn as_ref(&self) -> &[u8] {
-            b"\xFF\x01"
-        }
-    }
-    impl FromHex for Array {
-        type Error = FromHexError;
+    use const_hex::serde::no_prefix;
+    use serde_json::{json, value::Serializer};
 
-        fn from_hex<T: AsRef<[u8]>>(hex: T) -> Result<Array, Self::Error> {
-            <[i8; 2]>::from_hex(hex).map(Array)
-        }
-    }
-    let fields = Fields {
-        bytes: vec![1, 10, 100],
-        digits: [1, 2],
-        numbers: Array([-1, 1]),
-    };
-    let text = r#"{"bytes":"0x010a64","digits":"0102","numbers":"0xFF01"}"#;
-    assert_eq!(serde_json::to_string(&fields).unwrap(), text);
-    assert_eq!(serde_json::from_str::<Fields>(text).unwrap(), fields);
+    let bytes = [10, 255];
+    assert_eq!(const_hex::serialize(bytes, Serializer).unwrap(), "0x0aff");
+    let upper = const_hex::serialize_upper(bytes, Serializer);
+    assert_eq!(upper.unwrap(), "0x0AFF");
+    assert_eq!(no_prefix::serialize(bytes, Serializer).unwrap(), "0aff");
+    let numbers = Some([10_i8, -1]);
+    assert_eq!(const_hex::deserialize(json!("0x0aff")).ok(), numbers);
+    assert_eq!(no_prefix::deserialize(json!("0aff")).ok(), numbers);
 }

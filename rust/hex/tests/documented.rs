@@ -17,29 +17,17 @@ fn names() {
     assert_eq!(Vec::from_hex("666f6f626172").unwrap(), b"foobar");
 }
 
+/// `#[serde(with = "hex")]` calls the functions of the root, and `with = "hex::serde"` those of the module.
 #[cfg(feature = "serde")]
 #[test]
 fn fields() {
-    #[derive(Debug, PartialEq, serde::Deserialize, serde::Serialize)]
-    struct Fields {
-        #[serde(with = "hex")]
-        lower: Vec<u8>,
-        #[serde(with = "hex::serde")]
-        array: [u8; 2],
-        #[serde(
-            serialize_with = "hex::serialize_upper",
-            deserialize_with = "hex::deserialize"
-        )]
-        upper: Vec<u8>,
-    }
-    let fields = Fields {
-        lower: vec![1, 10, 100],
-        array: [1, 2],
-        upper: vec![1, 10, 100],
-    };
-    let text = r#"{"lower":"010a64","array":"0102","upper":"010A64"}"#;
-    assert_eq!(serde_json::to_string(&fields).unwrap(), text);
-    assert_eq!(serde_json::from_str::<Fields>(text).unwrap(), fields);
+    use serde_json::{json, value::Serializer};
+
+    let bytes = [10, 255];
+    assert_eq!(hex::serialize(bytes, Serializer).unwrap(), "0aff");
+    assert_eq!(hex::serialize_upper(bytes, Serializer).unwrap(), "0AFF");
+    assert_eq!(hex::serde::serialize(bytes, Serializer).unwrap(), "0aff");
+    assert_eq!(hex::serde::deserialize(json!("0aff")).ok(), Some(bytes));
 }
 
 /// The crate rejects a prefix, and so does this package without the feature `prefix`.

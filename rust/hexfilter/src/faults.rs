@@ -2,7 +2,7 @@
 //! a run reads to the end and no further, flushes once, makes an interrupted call again and no other, and returns the
 //! error of the call.
 
-use crate::proved::{run, Groups, Mode, Reading, RunError};
+use crate::proved::{request_of, run, Mode, Request, RunError};
 use std::cell::RefCell;
 use std::io::{Error, ErrorKind, Read, Result, Write};
 
@@ -48,39 +48,27 @@ impl Write for Output<'_> {
     }
 }
 
-fn encode(size: usize, separator: u8) -> Mode {
-    let groups = Groups { size, separator };
-    Mode::Encode {
-        prefix: false,
-        upper: false,
-        groups,
+/// What the program does with these options.
+fn mode(options: &str) -> Mode {
+    let arguments: Vec<String> = options.split_whitespace().map(String::from).collect();
+    match request_of(&arguments) {
+        Ok(Request::Run(mode, _)) => mode,
+        _ => panic!("{options}"),
     }
-}
-
-fn decode(is_check: bool) -> Mode {
-    let groups = Groups {
-        size: 0,
-        separator: b' ',
-    };
-    Mode::Decode(Reading {
-        is_check,
-        ignore_whitespace: false,
-        groups,
-    })
 }
 
 #[test]
 fn each_call_fails() {
-    // The mode, the input, the calls if none fails, and the output. A text with an error is read no further.
-    let rows: [(Mode, &[u8], &str, &[u8]); 6] = [
-        (encode(0, b' '), b"ki", "rwwrwwrf", b"6b69"),
-        (encode(2, b':'), b"ki", "rwwrwwwrf", b"6b:69"),
-        (encode(2, b'\n'), b"ki", "rwwrwwwrwf", b"6b\n69\n"),
-        (decode(false), b"6b69", "rrwrrwrf", b"ki"),
-        (decode(true), b"6b69", "rrrrrf", b""),
-        (decode(false), b"6bz9", "rrwr", b"k"),
+    // The options, the input, the calls if none fails, and the output. A text with an error is read no further.
+    let rows: [(&str, &[u8], &str, &[u8]); 6] = [
+        ("", b"ki", "rwwrwwrf", b"6b69"),
+        ("-s:", b"ki", "rwwrwwwrf", b"6b:69"),
+        ("-w2", b"ki", "rwwrwwwrwf", b"6b\n69\n"),
+        ("-d", b"6b69", "rrwrrwrf", b"ki"),
+        ("--check", b"6b69", "rrrrrf", b""),
+        ("-d", b"6bz9", "rrwr", b"k"),
     ];
-    for (mode, input, calls, output) in rows {
+    for (options, input, calls, output) in rows {
         for kind in [
             ErrorKind::Interrupted,
             ErrorKind::TimedOut,
@@ -93,7 +81,7 @@ fn each_call_fails() {
                     kind,
                 });
                 let mut written = Output(&log, Vec::new());
-                let found = match run(mode, &mut Input(&log, input), &mut written) {
+                let found = match run(mode(options), &mut Input(&log, input), &mut written) {
                     Ok(()) | Err(RunError::Text(..)) => None,
                     Err(RunError::Read(error)) => Some((true, error.kind())),
                     Err(RunError::Write(error)) => Some((false, error.kind())),
@@ -111,7 +99,7 @@ fn each_call_fails() {
                         &output[..writes],
                     ),
                 };
-                let row = format!("{mode:?}, call {failing}: {kind:?}");
+                let row = format!("{options:?}, call {failing}: {kind:?}");
                 assert_eq!(
                     (found, &written.1[..], &log.borrow().calls),
                     (wanted, bytes, &all),

@@ -4,7 +4,6 @@ use super::{space::write_text, unchecked};
 use crate::proved::text_length;
 use alloc::alloc::{alloc, handle_alloc_error, Layout};
 use alloc::vec::Vec;
-use core::mem::ManuallyDrop;
 
 /// Makes space for so many more bytes.
 // To an empty vector by the allocator: `Vec::with_capacity` and `Vec::reserve` are calls of some thirty instructions
@@ -57,12 +56,4 @@ pub fn decode_append(digits: &[u8], bytes: &mut Vec<u8>) -> bool {
         }
         is_valid
     }
-}
-
-/// Returns the same vector, whose bytes are signed numbers then.
-#[inline(always)]
-pub fn numbers(bytes: Vec<u8>) -> Vec<i8> {
-    let mut bytes = ManuallyDrop::new(bytes);
-    // SAFETY: these are the parts of a vector that is not dropped, and both types have the same layout and bits.
-    unsafe { Vec::from_raw_parts(bytes.as_mut_ptr().cast(), bytes.len(), bytes.capacity()) }
 }

@@ -61,22 +61,3 @@ pub unsafe fn read(text: *const u8, bytes: *mut u8, length: usize) -> bool {
     }
     true
 }
-
-#[cfg(test)]
-#[test]
-fn what_is_refused_is_not_written() {
-    for length in 1..=100 {
-        for invalid in 0..2 * length {
-            let (mut text, mut bytes) = ([b'a'; 200], [0; 100]);
-            text[invalid] = b'g';
-            // SAFETY: there are two characters for each byte.
-            assert!(!unsafe { read(text.as_ptr(), bytes.as_mut_ptr(), length) });
-            let written = bytes.iter().take_while(|byte| **byte == 0xAA).count();
-            let is_kept = bytes[written..].iter().all(|byte| *byte == 0);
-            assert!(
-                written <= invalid / 2 && is_kept,
-                "character {invalid} of {length} bytes"
-            );
-        }
-    }
-}

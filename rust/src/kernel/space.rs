@@ -4,17 +4,6 @@ use super::{unchecked, TargetKernel};
 use crate::proved::{text_length, Kernel};
 use core::{mem::MaybeUninit, ptr};
 
-/// A type of bytes.
-///
-/// # Safety
-///
-/// Its values have 8 bits, and every pattern of these is a value.
-pub unsafe trait Byte: Copy {}
-// SAFETY: that holds for both types of numbers of 8 bits.
-unsafe impl Byte for u8 {}
-// SAFETY: the same.
-unsafe impl Byte for i8 {}
-
 /// Space for `N` bytes.
 pub struct Space<const N: usize>(MaybeUninit<[u8; N]>);
 
@@ -42,11 +31,10 @@ impl<const N: usize> Space<N> {
     /// Returns the bytes of digits, or `None` if some byte is not a digit. Panics unless there are two for each of `N`
     /// bytes.
     #[inline]
-    pub fn bytes<B: Byte>(&mut self, digits: &[u8]) -> Option<&[B; N]> {
+    pub fn bytes(&mut self, digits: &[u8]) -> Option<&[u8; N]> {
         assert!(digits.len() == N << 1);
         let bytes = self.0.as_mut_ptr().cast();
-        // SAFETY: there are two digits for each of `N` bytes, and if the result is true, all bytes are written,
-        // and each of them is a value of type `B`.
+        // SAFETY: there are two digits for each of `N` bytes, and if the result is true, all bytes are written.
         unsafe {
             let is_valid = if TargetKernel::PIECE == 1 && matches!(N, 5..=22) {
                 read_apart::<N>(digits.as_ptr(), bytes)

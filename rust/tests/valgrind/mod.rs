@@ -1,0 +1,127 @@
+//! What valgrind counts and finds. On AArch64 it is QEMU that counts.
+#![allow(dead_code)] // No program uses all of it.
+
+use std::io::{BufRead, BufReader};
+use std::process::{Command, Stdio};
+use std::{env, fs, process};
+
+/// Returns the value, of which the compiler then knows nothing, as `std::hint::black_box` does from Rust 1.66 on.
+pub fn black_box<T>(value: T) -> T {
+    // SAFETY: this is no instruction.
+    unsafe { std::arch::asm!("/* {} */", in(reg) &value, options(nostack, preserves_flags)) };
+    value
+}
+
+/// Asks valgrind for something, by the number of the request and its arguments. The instructions, which do nothing
+/// elsewhere, are those of valgrind.h.
+#[cfg(target_arch = "x86_64")]
+pub fn request(words: [usize; 6]) {
+    // SAFETY: the rotations add up to 128 bits, and the registers are declared.
+    unsafe {
+        std::arch::asm!(
+            "rol rdi, 3",
+            "rol rdi, 13",
+            "rol rdi, 61",
+            "rol rdi, 51",
+            "xchg rbx, rbx",
+            in("rax") &words,
+            inout("rdx") 0usize => _,
+        )
+    }
+}
+
+/// Tells callgrind to write what it has counted, and to count from 0 on.
+#[cfg(target_arch = "x86_64")]
+fn mark() {
+    // VG_USERREQ__DUMP_STATS of valgrind/callgrind.h.
+    const DUMP_STATS: usize = (b'C' as usize) << 24 | (b'T' as usize) << 16;
+    request([DUMP_STATS, 0, 0, 0, 0, 0]);
+}
+
+/// Prints a line among those that QEMU prints for each instruction. It is written at once.
+#[cfg(not(target_arch = "x86_64"))]
+fn mark() {
+    std::io::Write::write_all(&mut std::io::stderr(), format!("{MARK}\n").as_bytes()).unwrap();
+}
+
+const MARK: &str = "a round begins or ends";
+
+/// How many calls are made in the shorter rounds, and in the longer one.
+fn calls(size: usize) -> [usize; 2] {
+    if size > 2048 || cfg!(target_arch = "aarch64") {
+        [10, 30]
+    } else {
+        [100, 500]
+    }
+}
+
+/// Makes a call for input of a size in three rounds, and marks where each begins and ends. In the first round symbols
+/// are bound, and the allocator chooses where large blocks stand.
+pub fn repeat(size: usize, mut call: impl FnMut(usize)) {
+    let [few, more] = calls(size);
+    for count in [few, few, more] {
+        mark();
+        call(count);
+        mark();
+    }
+}
+
+/// Runs this program, which repeats a call for each of these sizes, and returns how many instructions one call takes:
+/// what the last two rounds differ by.
+pub fn instructions(sizes: &[usize], prepare: impl FnOnce(&mut Command)) -> Vec<u64> {
+    let counted = match cfg!(target_arch = "x86_64") {
+        true => counted_by_callgrind(prepare),
+        false => counted_by_qemu(prepare),
+    };
+    assert_eq!(counted.len() / 6, sizes.len(), "a round was not counted");
+    // Of each call, what was counted before each of its rounds, and in it.
+    let rounds = counted.chunks_exact(6).zip(sizes);
+    let one = rounds.map(|(counted, size)| {
+        let [few, more] = calls(*size);
+        (counted[5] - counted[3]) / (more - few) as u64
+    });
+    one.collect()
+}
+
+/// Runs this program by another one.
+fn run_by(command: &str, prepare: impl FnOnce(&mut Command)) -> Command {
+    let mut words = command.split(' ');
+    let mut program = Command::new(words.next().unwrap());
+    program.args(words).arg(env::current_exe().unwrap());
+    prepare(&mut program);
+    program
+}
+
+/// What callgrind counted up to each mark.
+fn counted_by_callgrind(prepare: impl FnOnce(&mut Command)) -> Vec<u64> {
+    let path = env::temp_dir().join(format!("const-hex-counts.{}", process::id()));
+    let options = "--combine-dumps=yes --callgrind-out-file";
+    let command = format!("valgrind --tool=callgrind {options}={}", path.display());
+    let output = run_by(&command, prepare).output().expect(&command);
+    assert!(output.status.success(), "{command}: {output:?}");
+    let dumps = fs::read_to_string(&path).unwrap();
+    fs::remove_file(&path).unwrap();
+    let totals = dumps
+        .lines()
+        .filter_map(|line| line.strip_prefix("totals: "));
+    totals.map(|total| total.parse().unwrap()).collect()
+}
+
+/// The lines that QEMU printed up to each mark, one for each instruction.
+fn counted_by_qemu(prepare: impl FnOnce(&mut Command)) -> Vec<u64> {
+    let command = "qemu-aarch64 -L /usr/aarch64-linux-gnu -singlestep -d nochain,exec";
+    let mut program = run_by(command, prepare);
+    let mut child = program.stderr(Stdio::piped()).spawn().expect(command);
+    let (mut rounds, mut count) = (Vec::new(), 0);
+    for line in BufReader::new(child.stderr.take().unwrap()).lines() {
+        match line.unwrap() {
+            line if line == MARK => {
+                rounds.push(count);
+                count = 0;
+            }
+            line => count += u64::from(line.starts_with("Trace")),
+        }
+    }
+    assert!(child.wait().unwrap().success(), "{command}");
+    rounds
+}
