@@ -1,5 +1,5 @@
 -- Parts of groups, and of a text that is encoded part after part.
-use Rattle.std.proofs.Common.{◌≡◌, ℕ, ◌+◌, ◌-◌, ◌<◌, ◌≤◌, List, [], ◌∷◌, ◌++◌, length, min, take, drop, get_or, slice_set, refl, sym, ap, ◌∙◌, arith, append_assoc, length-append, Bool, false, Result, take-add, length-set, length-take, length-take-le, length-drop, take-take, take_all, append-nil, OnErr, OnOk}
+use Rattle.std.proofs.Common.{◌≡◌, ℕ, ◌+◌, ◌-◌, ◌<◌, ◌≤◌, List, [], ◌∷◌, ◌++◌, length, min, take, drop, slice_set, refl, sym, ap, ◌∙◌, arith, append_assoc, length-append, Bool, false, Result, take-add, length-set, length-take, length-take-le, length-drop, take-take, take_all, append-nil, OnErr, OnOk}
 use Rattle.std.proofs.lemmas.Bool.Decides.{nat_tests}
 use Rattle.std.proofs.lemmas.List.{take_more_set}
 use borrow.Rule.Slice.PartMut.{put_mid}
@@ -87,15 +87,6 @@ puts_one g text out new some short many space copied rest =
     ∙ ap (λ l. s ∷ l) (within_group g 0 (take n text) rest (omega (arith, size)))
     ∙ ap (λ k. s ∷ (take n text ++ groups_from g k rest)) end
     ∙ rw (added, put, front, kept) refl
-
--- four pairs, each after a separator
-pub puts_pairs : (s : ℕ) (text rest : List ℕ) → 8 ≤ length text
-    → groups_from (record { size = 2; separator = s }) 2 (take 8 text ++ rest)
-    ≡ s ∷ get_or text 0 0 ∷ get_or text 1 0 ∷ s ∷ get_or text 2 0 ∷ get_or text 3 0 ∷ s ∷ get_or text 4 0
-    ∷ get_or text 5 0 ∷ s ∷ get_or text 6 0 ∷ get_or text 7 0 ∷ groups_from (record { size = 2; separator = s }) 2 rest
-unfolding groups_from
-puts_pairs s (a ∷ b ∷ c ∷ d ∷ e ∷ f ∷ g ∷ h ∷ text) rest many = refl
-puts_pairs s _ rest many = absurd (omega arith)
 
 pub if_ok : {T E P : Type 0} (r : Result T E) → P → OnOk r P
 if_ok r p = grind arith
