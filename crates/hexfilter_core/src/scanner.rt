@@ -108,7 +108,7 @@ fn copy_block(chunk: &[u8], output: &mut [u8]) -> usize
     ensures copied { take result output.new ≡ take result chunk.now }
     ensures length { length output.new ≡ length output.old }
 {
-    // With a test of the first byte, long runs of whitespace take a third of the time.
+    // The test of the first byte alone makes long runs of whitespace faster.
     if chunk.len() < LANES || chunk[0] <= b' ' {
         return 0;
     }

@@ -227,8 +227,8 @@ impl Stage {
     }
 }
 
-/// Decodes the next part of a text into the front of the output, or only checks it. Returns the number of
-/// bytes there.
+/// Decodes the next part of a text into the front of the output. Returns the number of bytes there that are written: 0
+/// if the text is only checked.
 #[inline(always)]
 fn decode_text(
     decoder: &mut Decoder,
@@ -244,11 +244,6 @@ fn decode_text(
     ensures most { IfOk result (λ n. n ≤ (length text.now + 1) / 2) }
     ensures length { length output.new ≡ length output.old }
 {
-    if reading.is_check {
-        return match decoder.check(text) {
-            Ok(()) => Ok(0),
-            Err(error) => Err(error),
-        };
-    }
-    decoder.decode(text, output)
+    let count = decoder.decode(text, output)?;
+    Ok(if reading.is_check { 0 } else { count })
 }

@@ -82,7 +82,7 @@ impl Scanner {
 /// Copies bytes of the first block, if there is one, before one that is below 33. Returns how many.
 #[inline(always)]
 fn copy_block(chunk: &[u8], output: &mut [u8]) -> usize {
-    // With a test of the first byte, long runs of whitespace take a third of the time.
+    // The test of the first byte alone makes long runs of whitespace faster.
     if chunk.len() < LANES || chunk[0] <= b' ' {
         return 0;
     }
