@@ -5,7 +5,7 @@ ghost use Rattle.hexfilter_core.specs.Dumps.{PutsInto, groups_from};
 
 use crate::mode::Groups;
 
-/// How many characters a short group has at most.
+/// How many characters are copied at once.
 const SHORT: usize = 16;
 
 /// Puts the text into the output, with a separator before each character that follows a whole group. The
@@ -30,59 +30,30 @@ pub(crate) fn put_groups(
     let mut done = 0;
     let mut end = 0;
     'groups: while done < text.len() {
-        if column == groups.size && groups.size <= SHORT && text.len() - done > SHORT {
-            let (taken, put) = put_short(groups, &text[done..], &mut output[end..]);
-            done += taken;
-            end += put;
-            continue;
-        }
         let (start, first) = separate(groups, column, output, end);
         let count = (groups.size - first).min(text.len() - done);
+        copy(&text[done..], count, &mut output[start..]);
         end = start + count;
-        output[start..end].copy_from_slice(&text[done..done + count]);
         done += count;
         column = first + count;
     }
     (end, column)
 }
 
-/// Puts whole groups into the output, each after a separator, until at most `SHORT` characters are left. Returns how many
-/// were put there, and how many bytes these are with their separators.
-#[inline(never)]
-fn put_short(groups: Groups, text: &[u8], output: &mut [u8]) -> (usize, usize)
-    requires size { groups.size ≢ 0 }
-    requires short { groups.size ≤ 16 }
-    requires text { 16 < length text.now }
-    requires space { 2 * length text.now ≤ length output.old }
-    ensures some { 0 < result.0 }
-    ensures within { result.0 ≤ length text.now }
-    ensures space { result.1 ≤ 2 * result.0 }
-    ensures length { length output.new ≡ length output.old }
-    ensures groups { PutsInto groups groups.size (take result.0 text.now) (take result.1 output.new) groups.size }
-{
-    let mut done = 0;
-    let mut end = 0;
-    'groups: while text.len() - done > SHORT {
-        put_group(groups, &text[done..], &mut output[end..]);
-        done += groups.size;
-        end += groups.size + 1;
-    }
-    (done, end)
-}
-
-/// Puts one group into the output, after a separator. More bytes may change: `SHORT` characters are copied, since a copy
-/// of as many as a group has would be a call.
+/// Copies the first `count` characters of the text to the front of the output. More bytes may change.
 #[inline(always)]
-fn put_group(groups: Groups, text: &[u8], output: &mut [u8])
-    requires size { groups.size ≢ 0 }
-    requires short { groups.size ≤ 16 }
-    requires text { 16 ≤ length text.now }
-    requires space { 17 ≤ length output.old }
+fn copy(text: &[u8], count: usize, output: &mut [u8])
+    requires text { count ≤ length text.now }
+    requires space { count ≤ length output.old }
     ensures length { length output.new ≡ length output.old }
-    ensures groups { PutsInto groups groups.size (take groups.size text.now) (take (groups.size + 1) output.new) groups.size }
+    ensures copied { take count output.new ≡ take count text.now }
 {
-    output[0] = groups.separator;
-    output[1..SHORT + 1].copy_from_slice(&text[..SHORT]);
+    // A copy of a fixed size is no call.
+    if count <= SHORT && text.len() >= SHORT && output.len() >= SHORT {
+        output[..SHORT].copy_from_slice(&text[..SHORT]);
+    } else {
+        output[..count].copy_from_slice(&text[..count]);
+    }
 }
 
 /// Puts a separator into the output at an index if the group is whole. Returns the index after it, and how many

@@ -38,7 +38,7 @@ pub use self::error::*;
 //    1  and the crate's decoder is cloned
 //    2  before it reads a part, or ends
 //   46  deleted: attribute
-//  417  deleted: clause
+//  406  deleted: clause
 //   78  deleted: ghost item
 //    3  deleted: model
 //    5  deleted: output

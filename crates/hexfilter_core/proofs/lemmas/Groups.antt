@@ -54,40 +54,6 @@ goes_on g first c text done count laid before some within h out put rest =
     ∙ sym (append_assoc laid piece (groups_from g (c + count) rest))
     ∙ ap (λ l. l ++ groups_from g (c + count) rest) (sym put)
 
--- `done` characters stand in groups, and then `count` more are put there
-pub puts_more : (g : Groups) (c d e : ℕ) (text : List ℕ) (done count : ℕ) (out new : List ℕ) (end m k : ℕ)
-    → done ≤ length text → end ≤ length out → k ≤ length new
-    → PutsInto g c (take done text) (take end out) d
-    → PutsInto g d (take count (take (length text - done) (drop done text))) (take k new) e
-    → PutsInto g c (take (done + count) text) (take (end + k) (put_mid end m out new)) e
-puts_more g c d e text done count out new end m k within started enough first more rest =
-    let piece = take count (drop done text) in
-    let next =
-    rw (take_all (length text - done) (drop done text) (omega (arith, length-drop done text))) at more rest in
-    rw (take-add done count text, take_put end m k out new started enough)
-    (ap (groups_from g c) (append_assoc (take done text) piece rest) ∙ first (piece ++ rest)
-    ∙ ap (λ l. take end out ++ l) next
-    ∙ sym (append_assoc (take end out) (take k new) (groups_from g e rest)))
-
--- one group after a separator
-pub puts_one : (g : Groups) (text out new : List ℕ) → 0 < g.size → g.size ≤ 16 → 16 ≤ length text → 17 ≤ length out
-    → new ≡ take 16 text
-    → PutsInto g g.size (take g.size text) (take (g.size + 1) (put_mid 1 16 (slice_set out 0 g.separator) new)) g.size
-puts_one g text out new some short many space copied rest =
-    let n = g.size in
-    let s = g.separator in
-    let size : length (take n text) ≡ n = length-take-le n text (omega (arith, short, many)) in
-    let all : length new ≡ 16 = rw copied (length-take-le 16 text many) in
-    let added : n + 1 ≡ 1 + n = omega arith in
-    let end : 0 + length (take n text) ≡ n = omega (arith, size) in
-    let put = take_put 1 16 n (slice_set out 0 s) new (omega (arith, length-set out 0 s, space)) (omega (arith, all, short)) in
-    let front = take_more_set out 0 s (omega (arith, space)) in
-    let kept : take n new ≡ take n text = rw copied (take-take n 16 text short) in
-    after_group g (take n text ++ rest) some (omega (arith, size, some, length-append (take n text) rest))
-    ∙ ap (λ l. s ∷ l) (within_group g 0 (take n text) rest (omega (arith, size)))
-    ∙ ap (λ k. s ∷ (take n text ++ groups_from g k rest)) end
-    ∙ rw (added, put, front, kept) refl
-
 pub if_ok : {T E P : Type 0} (r : Result T E) → P → OnOk r P
 if_ok r p = grind arith
 

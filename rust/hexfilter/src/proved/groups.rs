@@ -4,7 +4,7 @@
 use crate::std_shim::prelude::*;
 use crate::proved::mode::Groups;
 
-/// How many characters a short group has at most.
+/// How many characters are copied at once.
 const SHORT: usize = 16;
 
 /// Puts the text into the output, with a separator before each character that follows a whole group. The
@@ -21,42 +21,25 @@ pub(crate) fn put_groups(
     let mut done = 0;
     let mut end = 0;
     'groups: while done < text.len() {
-        if column == groups.size && groups.size <= SHORT && text.len() - done > SHORT {
-            let (taken, put) = put_short(groups, &text[done..], &mut output[end..]);
-            done += taken;
-            end += put;
-            continue;
-        }
         let (start, first) = separate(groups, column, output, end);
         let count = (groups.size - first).min(text.len() - done);
+        copy(&text[done..], count, &mut output[start..]);
         end = start + count;
-        output[start..end].copy_from_slice(&text[done..done + count]);
         done += count;
         column = first + count;
     }
     (end, column)
 }
 
-/// Puts whole groups into the output, each after a separator, until at most `SHORT` characters are left. Returns how many
-/// were put there, and how many bytes these are with their separators.
-#[inline(never)]
-fn put_short(groups: Groups, text: &[u8], output: &mut [u8]) -> (usize, usize) {
-    let mut done = 0;
-    let mut end = 0;
-    'groups: while text.len() - done > SHORT {
-        put_group(groups, &text[done..], &mut output[end..]);
-        done += groups.size;
-        end += groups.size + 1;
-    }
-    (done, end)
-}
-
-/// Puts one group into the output, after a separator. More bytes may change: `SHORT` characters are copied, since a copy
-/// of as many as a group has would be a call.
+/// Copies the first `count` characters of the text to the front of the output. More bytes may change.
 #[inline(always)]
-fn put_group(groups: Groups, text: &[u8], output: &mut [u8]) {
-    output[0] = groups.separator;
-    output[1..SHORT + 1].copy_from_slice(&text[..SHORT]);
+fn copy(text: &[u8], count: usize, output: &mut [u8]) {
+    // A copy of a fixed size is no call.
+    if count <= SHORT && text.len() >= SHORT && output.len() >= SHORT {
+        output[..SHORT].copy_from_slice(&text[..SHORT]);
+    } else {
+        output[..count].copy_from_slice(&text[..count]);
+    }
 }
 
 /// Puts a separator into the output at an index if the group is whole. Returns the index after it, and how many
