@@ -116,6 +116,7 @@ fn read_all<R: Read>(alloc: Global, input: &mut R) -> Result<Vec<u8>, RunError>
 }
 
 /// Writes all the bytes, and flushes.
+#[tactic(auto, using(const_hex::proofs::lemmas::WriteSinks::writes))]
 fn write_all<W: Write>(bytes: &[u8], output: &mut W) -> Result<(), RunError>
     ensures ok { OnOk result (Appends (W.contents output.old) (W.contents output.new) bytes.now) }
     ensures err { OnErr result (result ≡ Err WriteFailed) }

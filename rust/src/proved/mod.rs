@@ -23,7 +23,7 @@ pub use self::error::*;
 
 // The places that each rule of rust/erase has changed:
 //
-//   15  Rattle's std is the module std_shim
+//   14  Rattle's std is the module std_shim
 //    1  Rust's errors are not copied
 //    2  a formatter has a lifetime in place of its writer's type
 //   55  all crates are one module
@@ -38,7 +38,7 @@ pub use self::error::*;
 //    1  and the crate's decoder is cloned
 //    2  before it reads a part, or ends
 //   46  deleted: attribute
-//  406  deleted: clause
+//  405  deleted: clause
 //   78  deleted: ghost item
 //    3  deleted: model
 //    5  deleted: output

@@ -1,9 +1,6 @@
 -- Parts of groups, and of a text that is encoded part after part.
-use Rattle.std.proofs.Common.{◌≡◌, ℕ, ◌+◌, ◌-◌, ◌<◌, ◌≤◌, List, [], ◌∷◌, ◌++◌, length, min, take, drop, slice_set, refl, sym, ap, ◌∙◌, arith, append_assoc, length-append, Bool, false, Result, take-add, length-set, length-take, length-take-le, length-drop, take-take, take_all, append-nil, OnErr, OnOk}
+use Rattle.std.proofs.Common.{◌≡◌, ℕ, ◌+◌, ◌<◌, ◌≤◌, List, [], ◌∷◌, ◌++◌, length, min, take, drop, refl, sym, ap, ◌∙◌, arith, append_assoc, length-append, Bool, false, Result, take-add, length-take, length-drop, append-nil, OnErr, OnOk}
 use Rattle.std.proofs.lemmas.Bool.Decides.{nat_tests}
-use Rattle.std.proofs.lemmas.List.{take_more_set}
-use borrow.Rule.Slice.PartMut.{put_mid}
-use Rattle.hexfilter_core.proofs.lemmas.Texts.{take_put}
 use Rattle.hexfilter_core.specs.Dumps.{Groups, PutsInto, groups_from, encoded, ended}
 use Rattle.const_hex.specs.Prelude.{full_text, hex_text, prefix_of}
 use Rattle.const_hex_arch.proofs.lemmas.Texts.{hex_text-append, hex_text-nil}

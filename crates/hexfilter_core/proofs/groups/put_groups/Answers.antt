@@ -1,4 +1,4 @@
-use Rattle.std.proofs.Common.{◌≡◌, ◌∙◌, ◌+◌, ◌-◌, ◌++◌, take, drop, ap, arith, take-take}
+use Rattle.std.proofs.Common.{◌≡◌, ◌∙◌, ◌++◌, take, drop, ap, arith}
 use Rattle.std.proofs.lemmas.List.{take_rest}
 use Rattle.hexfilter_core.proofs.lemmas.Groups.{goes_on}
 use Rattle.hexfilter_core.proofs.lemmas.Texts.{take_put}
