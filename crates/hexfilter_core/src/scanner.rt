@@ -82,14 +82,13 @@ impl Scanner {
         ensures length { length output.new ≡ length output.old }
     {
         let size = reading.groups.size;
-        if size == 0 {
-            let count = copy_run(chunk, output);
-            self.place = self.place.right(count);
-            return count;
-        }
-        let most = size.saturating_sub(self.column).min(chunk.len());
-        let count = copy_run(&chunk[..most], output);
-        self.column = self.column.saturating_add(count);
+        let left = if size == 0 {
+            chunk.len()
+        } else {
+            size.saturating_sub(self.column)
+        };
+        let count = copy_run(&chunk[..left.min(chunk.len())], output);
+        self.column = self.column.saturating_add(count).min(size);
         self.place = self.place.right(count);
         count
     }

@@ -148,26 +148,21 @@ impl Stage {
         ensures within { result.0 ≤ length output.new }
         ensures lengths { (length text.new ≡ length text.old) × (length output.new ≡ length output.old) }
     {
-        let mut done = 0;
+        let mut next = *self;
+        if let Ok(count) = next.decode_part(reading, chunk, text, output) {
+            *self = next;
+            return (count, None);
+        }
+        // Byte by byte, up to the invalid character.
         let mut end = 0;
-        let mut size = chunk.len();
-        'parts: while done < chunk.len() {
+        'bytes: for done in 0..chunk.len() {
             let mut next = *self;
-            let part = &chunk[done..done + size];
-            match next.decode_part(reading, part, text, &mut output[end..]) {
+            match next.decode_part(reading, &chunk[done..done + 1], text, &mut output[end..]) {
                 Ok(count) => {
                     *self = next;
-                    done += size;
                     end += count;
-                    size = size.min(chunk.len() - done);
                 }
-                Err(_) => {
-                    // The half with the invalid character is cut again, down to this character.
-                    if size == 1 {
-                        return (end, Some(self.error(reading, chunk[done])));
-                    }
-                    size /= 2;
-                }
+                Err(_) => return (end, Some(self.error(reading, chunk[done]))),
             }
         }
         (end, None)

@@ -36,7 +36,7 @@ pub use self::error::*;
 //    6  and kernels over vectors are there for WebAssembly alone
 //   13  and panics instead of returning an error
 //    1  and the crate's decoder is cloned
-//    2  before it reads a part, or ends
+//    3  before it reads a part, or ends
 //   46  deleted: attribute
 //  405  deleted: clause
 //   78  deleted: ghost item

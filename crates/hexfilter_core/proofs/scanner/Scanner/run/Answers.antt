@@ -2,23 +2,16 @@ use Rattle.std.proofs.Common.{◌≤◌, take, arith, length-take, length-take-l
 use Rattle.hexfilter_core.proofs.lemmas.Texts.{high_added, next_bound}
 use Rattle.hexfilter_core.proofs.scanner.Scanner.run.Goals as goal
 
-pub returns-then-size-eq0-clause-added : goal.returns-then-size-eq0-clause-added
-returns-then-size-eq0-clause-added c = λ x is.
-    let copied = c.copy_run-count.ensures in
-    rw copied.copied (high_added c.args.reading c.args.self.now _ _ x _ is copied.high (λ some. omega (arith, some))
-    (omega (arith, next_bound c.args.reading 0 x (omega arith), is.next))
-    (λ at. c.right-self.ensures x _ at (omega (arith, length-take-le c.copy_run-count.result c.args.chunk.now (omega (arith, copied.within))))))
-
 pub returns-clause-added : goal.returns-clause-added
 returns-clause-added c = λ x is.
     let xs = c.args.chunk.now in
-    let n = c.copy_run-count-2.result in
-    let ran = c.copy_run-count-2.ensures in
-    let few : n ≤ c.min-most.result = omega (arith, ran.within, length-take c.min-most.result xs) in
-    let same = take-take n c.min-most.result xs few in
+    let n = c.copy_run-count.result in
+    let ran = c.copy_run-count.ensures in
+    let few : n ≤ c.min.result = omega (arith, ran.within, length-take c.min.result xs) in
+    let same = take-take n c.min.result xs few in
     let size = length-take-le n xs (omega (arith, few)) in
     let bound = next_bound c.args.reading 0 x (omega arith) in
     rw (rw same at ran.copied)
     (high_added c.args.reading c.args.self.now _ _ x (take n xs) is (rw same at ran.high)
-    (λ some. omega (arith, size, few, bound, is.next)) (omega (arith, size, few, bound, is.next))
-    (λ at. c.right-self-2.ensures x (take n xs) at size))
+    (λ some. grind (arith, size, few, bound, is.next, some)) (omega (arith, size, few, bound, is.next))
+    (λ at. c.right-self.ensures x (take n xs) at size))
