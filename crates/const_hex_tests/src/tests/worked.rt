@@ -1,5 +1,5 @@
-//! Worked rows of the calls that allocate nothing, and that the table of test vectors does not ask. Their contracts
-//! say the same of every input; here the terms of the contracts meet values from elsewhere.
+//! Worked rows of calls that the table of test vectors does not ask. Their contracts say the same of every input; here
+//! the terms of the contracts meet values from elsewhere.
 
 ghost use Rattle.std.specs.Prelude.{◌≡◌, ◌≤◌, true, false};
 ghost use Rattle.const_hex.specs.Prelude.{text_length};
