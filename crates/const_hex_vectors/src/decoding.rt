@@ -1,10 +1,13 @@
 //! The lines of texts that are read. The contracts show that the other decoders read the same.
 
+ghost use Rattle.std.specs.Prelude.{◌≤◌};
+
 use crate::kernels::prefix_length;
 use crate::line::{AllocResult, Line};
 use const_hex::{
-    Decoder, FromHex, FromHexError, JsonError, Kernel, check, check_raw, check_with,
-    decode_to_front_with, decode_to_slice, decode_to_slice_with, decode_with, deserialize,
+    Decoder, FromHex, FromHexError, JsonError, Kernel, check, check_raw, check_with, const_check,
+    const_check_raw, const_decode_to_array, decode_to_array, decode_to_front_with, decode_to_slice,
+    decode_to_slice_with, decode_with, deserialize,
 };
 use const_hex_tests::by_each_kernel;
 use const_hex_tests::testing::KernelCase;
@@ -15,6 +18,8 @@ use std::convert::AsSlice;
 pub(crate) fn read(line: &mut Line<'_>) -> AllocResult<()> {
     let digits = line.input.len().saturating_sub(prefix_length(line.input));
     read_into(line, digits / 2)?;
+    checks(line, "check", check(line.input));
+    checks(line, "const_check", const_check(line.input));
     by_each_kernel!(read_by(line)?);
     if line.result != "!OddLength" || check_raw(line.input) {
         read_chunks(line);
@@ -22,12 +27,17 @@ pub(crate) fn read(line: &mut Line<'_>) -> AllocResult<()> {
     Ok(())
 }
 
+/// Whether a check accepts the text, or returns the line's error.
+fn checks(line: &mut Line<'_>, call: &str, checked: Result<(), FromHexError>) {
+    match checked {
+        Ok(()) => line.holds(call, !line.result.starts_with('!')),
+        Err(error) => line.reads::<[u8; 0]>(call, Err(error), line.result),
+    }
+}
+
 fn read_by<K: Kernel>(line: &mut Line<'_>, kernel: KernelCase) -> AllocResult<()> {
     let (alloc, text) = (line.alloc, line.input);
-    match check_with::<K>(text) {
-        Ok(()) => line.holds(kernel.name, !line.result.starts_with('!')),
-        Err(error) => line.reads::<[u8; 0]>(kernel.name, Err(error), line.result),
-    }
+    checks(line, kernel.name, check_with::<K>(text));
     line.reads(kernel.name, decode_with::<K>(alloc, text), line.result);
     let mut output = vec![in alloc; 0xEEu8; text.len()]?;
     let done = decode_to_front_with::<K>(text, &mut output);
@@ -38,7 +48,27 @@ fn read_by<K: Kernel>(line: &mut Line<'_>, kernel: KernelCase) -> AllocResult<()
 
 pub(crate) fn read_into(line: &mut Line<'_>, size: usize) -> AllocResult<()> {
     by_each_kernel!(fill_by(line, size)?);
+    macro_rules! read_arrays {
+        ($($size:literal),+) => {
+            match size {
+                $($size => read_array::<$size>(line),)+
+                _ => {}
+            }
+        };
+    }
+    read_arrays!(0, 1, 2, 3, 4, 5, 8, 12, 16, 20, 32, 33, 64, 65, 128);
     Ok(())
+}
+
+fn read_array<const N: usize>(line: &mut Line<'_>)
+    requires { N ≤ 128 }
+{
+    let (alloc, text, result) = (line.alloc, line.input, line.result);
+    line.reads("decode_to_array", decode_to_array::<N>(text), result);
+    line.reads("const_decode_to_array", const_decode_to_array::<N>(text), result);
+    line.reads("from_hex", <[u8; N]>::from_hex(alloc, text), result);
+    let mut output = [0xEE; N];
+    line.fills("decode_to_slice", decode_to_slice(text, &mut output), &output, result);
 }
 
 fn fill_by<K: Kernel>(line: &mut Line<'_>, size: usize, kernel: KernelCase) -> AllocResult<()> {
@@ -75,16 +105,17 @@ fn in_pieces<K: Kernel>(alloc: Global, text: &[u8], size: usize) -> Result<Vec<u
 }
 
 pub(crate) fn read_digits(line: &mut Line<'_>) {
+    are_digits(line, "check_raw", check_raw(line.input));
+    are_digits(line, "const_check_raw", const_check_raw(line.input));
     by_each_kernel!(digits_by(line));
 }
 
 fn digits_by<K: Kernel>(line: &mut Line<'_>, kernel: KernelCase) {
-    let are_digits = K::check(line.input);
-    line.is(
-        kernel.name,
-        if are_digits { "true" } else { "false" },
-        line.result,
-    );
+    are_digits(line, kernel.name, K::check(line.input));
+}
+
+fn are_digits(line: &mut Line<'_>, call: &str, returned: bool) {
+    line.is(call, if returned { "true" } else { "false" }, line.result);
 }
 
 /// Asks for the message of a text's error, or of that for an output of so many bytes.

@@ -1,8 +1,7 @@
 //! The lines that are asked of one step by 16 and by 32 lanes.
 
-use crate::line::{Line, show};
-use crate::steps::decoded_or;
-use const_hex::{Lanes16, Lanes32, lanes16, lanes32};
+use crate::line::{AllocResult, Line, show};
+use const_hex::{Lanes16, Lanes32, decode_to_slice_with, lanes16, lanes32};
 use std::simd::prelude::*;
 
 macro_rules! values {
@@ -45,19 +44,13 @@ pub(crate) fn text(line: &mut Line<'_>) {
     }
 }
 
-macro_rules! bytes {
-    ($line:ident, $first:ident, $second:ident, $kernel:ident, $vector:ident) => {
-        let text = [$vector::from_array(*$first), $vector::from_array(*$second)];
-        let bytes = decoded_or::<$vector, $kernel>(text, $vector::splat(0xEE)).to_array();
-        $line.gives("decode_chunk", show($line.alloc, &bytes), $line.result);
+/// Asks for the bytes of the 32 or 64 characters of a line, 0xEE for each if one is invalid.
+pub(crate) fn bytes(line: &mut Line<'_>) -> AllocResult<()> {
+    let mut output = vec![in line.alloc; 0xEEu8; line.input.len() / 2]?;
+    let _ = match output.len() {
+        32 => decode_to_slice_with::<Lanes32>(line.input, &mut output),
+        _ => decode_to_slice_with::<Lanes16>(line.input, &mut output),
     };
-}
-
-/// Asks for the bytes of the 32 or 64 characters of a line, 0xEE in each lane if one is invalid.
-pub(crate) fn bytes(line: &mut Line<'_>) {
-    if let [first, second] = line.input.as_chunks::<16>().0 {
-        bytes!(line, first, second, Lanes16, u8x16);
-    } else if let [first, second] = line.input.as_chunks::<32>().0 {
-        bytes!(line, first, second, Lanes32, u8x32);
-    }
+    line.gives("decode_to_slice_with", show(line.alloc, &output), line.result);
+    Ok(())
 }

@@ -12,7 +12,6 @@ mod kernels;
 mod lanes;
 mod line;
 mod memory;
-mod steps;
 
 use crate::line::{AllocResult, Line, read_bytes, read_cell};
 use const_hex::{Kernel, Lanes16, Lanes32, Plain};
@@ -114,7 +113,7 @@ fn ask(line: &mut Line<'_>, question: &str, number: usize) -> AllocResult<()> {
         "calls" => calls::calls(line, number),
         "values-of-step" => Ok(lanes::values(line)),
         "write-step" => Ok(lanes::text(line)),
-        "read-step" => Ok(lanes::bytes(line)),
+        "read-step" => lanes::bytes(line),
         _ => Ok(line.is("no such question", question, "")),
     }
 }

@@ -12,7 +12,7 @@ ghost use Rattle.consthex.specs.declared.error.RunError.TheVariants.{NoMemory, T
 use crate::answers::{LIMIT, answer};
 use crate::error::RunError;
 use crate::mode::Mode;
-use std::alloc::{AllocError, Global};
+use std::alloc::Global;
 use std::io::{Read, Write};
 
 /// Reads the whole input, writes what the mode returns for it, and flushes.
@@ -101,39 +101,22 @@ fn read_all<R: Read>(alloc: Global, input: &mut R) -> Result<Vec<u8>, RunError>
     ensures not_text { (e : FromHexError) → result ≢ Err (Text e) }
     ensures not_written { result ≢ Err WriteFailed }
 {
-    let mut bytes: Vec<u8> = Vec::new(alloc);
-    let mut count = 0;
-    'reads: while count <= LIMIT {
-        make_space(&mut bytes, count)?;
-        let Ok(read) = input.read(&mut bytes[count..]) else {
+    let mut bytes = Vec::new(alloc);
+    let mut chunk = [0; 4096];
+    'reads: while bytes.len() <= LIMIT {
+        let Ok(count) = input.read(&mut chunk) else {
             return Err(RunError::ReadFailed);
         };
-        if read == 0 {
-            bytes.truncate(count);
+        if count == 0 {
             return Ok(bytes);
         }
-        count += read;
+        bytes.extend_from_slice(&chunk[..count])?;
     }
     Err(RunError::TooLong)
 }
 
-/// Makes space after the first bytes, if there is none: twice as many bytes, but at least 4096, and
-/// at most one more than an input may have.
-fn make_space(bytes: &mut Vec<u8>, count: usize) -> Result<(), AllocError>
-    requires below_limit { count ≤ limit }
-    requires bound { vec_len bytes.old ≤ limit + 1 }
-    ensures space { OnOk result (count < vec_len bytes.new) }
-    ensures bound { OnOk result (vec_len bytes.new ≤ limit + 1) }
-    ensures kept { OnOk result (count ≤ vec_len bytes.old
-        → take count bytes.new.items ≡ take count bytes.old.items) }
-{
-    if count < bytes.len() {
-        return Ok(());
-    }
-    bytes.resize((2 * count).clamp(4096, LIMIT + 1), 0)
-}
-
 /// Writes all the bytes, and flushes.
+#[tactic(auto, using(const_hex::proofs::lemmas::WriteSinks::writes))]
 fn write_all<W: Write>(bytes: &[u8], output: &mut W) -> Result<(), RunError>
     ensures ok { OnOk result (Appends (W.contents output.old) (W.contents output.new) bytes.now) }
     ensures err { OnErr result (result ≡ Err WriteFailed) }

@@ -19,6 +19,16 @@ use crate::runs::run;
 use std::io::{Read, Write};
 use std::process::ExitCode;
 
+/// A text without groups.
+const PLAIN: Reading = Reading {
+    is_check: false,
+    ignore_whitespace: false,
+    groups: Groups {
+        size: 0,
+        separator: b' ',
+    },
+};
+
 /// Decodes a text without groups.
 fn decode<R: Read, W: Write>(input: &mut R, output: &mut W) -> Result<(), RunError>
     ensures ok { OnOk result ((x : List ℕ) × (y : List ℕ) × Consumes (R.remaining input.old) (R.remaining input.new) x
@@ -42,16 +52,7 @@ fn decode<R: Read, W: Write>(input: &mut R, output: &mut W) -> Result<(), RunErr
         × Spells (take (2 * length y) (body_of x)) y × Appends (W.contents output.old) (W.contents output.new) y) }
     ensures retried { (e : Error) → (result ≡ Err (Read e)) ⊎ (result ≡ Err (Write e)) → error_kind e ≢ Interrupted }
 {
-    let groups = Groups {
-        size: 0,
-        separator: b' ',
-    };
-    let reading = Reading {
-        is_check: false,
-        ignore_whitespace: false,
-        groups,
-    };
-    run(Mode::Decode(reading), input, output)
+    run(Mode::Decode(PLAIN), input, output)
 }
 
 /// Decodes lines of a text. An error names the line of the character, and its column.
@@ -62,16 +63,11 @@ fn decode_lines<R: Read, W: Write>(input: &mut R, output: &mut W) -> Result<(), 
         × ((lines line : List ℕ) → x ≡ lines ++ 10 ∷ line → length x < 2 ^ 64 - 1 → All (λ b. b ≢ 10) line
         → (p.line ≡ 2 + count_by (λ b. b == 10) lines) × (p.column ≡ 1 + length line)) }
 {
-    let groups = Groups {
-        size: 0,
-        separator: b' ',
-    };
-    let reading = Reading {
-        is_check: false,
+    let lines = Reading {
         ignore_whitespace: true,
-        groups,
+        ..PLAIN
     };
-    run(Mode::Decode(reading), input, output)
+    run(Mode::Decode(lines), input, output)
 }
 
 /// Encodes bytes into a text, which is empty before, in any groups, and decodes the text: lines without whitespace. These

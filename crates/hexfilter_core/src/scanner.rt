@@ -1,17 +1,13 @@
 //! The text of an input: the input without what is left out.
 
-ghost use Rattle.std.specs.Prelude.{◌≡◌, ◌+◌, ◌≤◌, ◌<◌, ◌∷◌, [], List, ℕ, false, length, min, take, not, nat_lt, option_to_list};
-ghost use Rattle.std.specs.List.{All, prefix_len};
+ghost use Rattle.std.specs.Prelude.{◌≡◌, ◌+◌, ◌≤◌, ◌<◌, ◌∷◌, [], List, ℕ, false, length, take, nat_lt, option_to_list};
+ghost use Rattle.std.specs.List.{All};
 ghost use Rattle.hexfilter_core.specs.Stages.{HasAdded, HasScanned};
 ghost use Rattle.hexfilter_core.specs.Dumps.{StandsAfter, is_whitespace, kept, next};
 
 use crate::groups::put;
 use crate::mode::Reading;
 use crate::place::Place;
-use std::simd::prelude::*;
-
-/// How many bytes are looked at together.
-const LANES: usize = 32;
 
 /// How far an input was read.
 #[derive(Clone, Copy, Debug)]
@@ -54,7 +50,7 @@ impl Scanner {
             let count = scanner.run(reading, &chunk[done..], &mut output[end..]);
             done += count;
             end += count;
-            if count == LANES || done == chunk.len() {
+            if done == chunk.len() {
                 continue;
             }
             let added = scanner.next(reading, chunk[done]);
@@ -76,9 +72,7 @@ impl Scanner {
         added
     }
 
-    /// Copies bytes before the next that is left out or is below 33, or fewer. Returns how many.
-    // Faster than a byte at a time: by rustc 1.95 for x86-64, hexfilter takes 1.3 million instructions in place of
-    // 11.6 to decode 262,144 bytes with `--ignore-whitespace`, and 6.1 in place of 20.4 from groups of 4.
+    /// Copies bytes of a group before the first that is whitespace or a control character. Returns how many.
     #[inline(always)]
     fn run(&mut self, reading: Reading, chunk: &[u8], output: &mut [u8]) -> usize
         requires { length chunk.now ≤ length output.old }
@@ -87,34 +81,34 @@ impl Scanner {
             → HasAdded reading self.new x (take result chunk.now) (take result output.new) }
         ensures length { length output.new ≡ length output.old }
     {
-        let count = copy_block(chunk, output);
-        if reading.groups.size == 0 {
-            self.place = self.place.right(count);
-            return count;
-        }
-        let count = count.min(reading.groups.size.saturating_sub(self.column));
-        self.column = self.column.saturating_add(count);
+        let size = reading.groups.size;
+        let left = if size == 0 {
+            chunk.len()
+        } else {
+            size.saturating_sub(self.column)
+        };
+        let count = copy_run(&chunk[..left.min(chunk.len())], output);
+        self.column = self.column.saturating_add(count).min(size);
         self.place = self.place.right(count);
         count
     }
 }
 
-/// Copies bytes of the first block, if there is one, before one that is below 33. Returns how many.
+/// Copies the bytes before the first that is whitespace or a control character. Returns how many.
 #[inline(always)]
-fn copy_block(chunk: &[u8], output: &mut [u8]) -> usize
+fn copy_run(chunk: &[u8], output: &mut [u8]) -> usize
     requires { length chunk.now ≤ length output.old }
-    ensures within { result ≤ min 32 (length chunk.now) }
+    ensures within { result ≤ length chunk.now }
     ensures high { All (λ b. nat_lt b 33 ≡ false) (take result chunk.now) }
     ensures copied { take result output.new ≡ take result chunk.now }
     ensures length { length output.new ≡ length output.old }
 {
-    // With a test of the first byte, long runs of whitespace take a third of the time.
-    if chunk.len() < LANES || chunk[0] <= b' ' {
-        return 0;
-    }
-    let block = u8x32::from_slice(chunk);
-    block.copy_to_slice(output);
-    count_digits(block)
+    let count = chunk
+        .iter()
+        .position(|byte| *byte <= b' ')
+        .unwrap_or(chunk.len());
+    output[..count].copy_from_slice(&chunk[..count]);
+    count
 }
 
 /// What a byte adds to the text, and how many characters then came since the last separator.
@@ -135,17 +129,6 @@ fn step(reading: Reading, column: usize, byte: u8) -> (Option<u8>, usize)
     }
     let next = column.saturating_add(1).min(groups.size);
     (Some(if is_whole { 0 } else { byte }), next)
-}
-
-/// How many lanes come before the first with a space or a control character.
-fn count_digits(block: u8x32) -> usize
-    ensures { result ≡ prefix_len (λ b. not (nat_lt b 33)) block }
-{
-    let others = block.simd_lt(u8x32::splat(33)).to_bitmask();
-    if others == 0 {
-        return LANES;
-    }
-    others.trailing_zeros() as usize
 }
 
 /// Whether the byte is whitespace.

@@ -23,10 +23,10 @@ pub use self::error::*;
 
 // The places that each rule of rust/erase has changed:
 //
-//   15  Rattle's std is the module std_shim
+//   14  Rattle's std is the module std_shim
 //    1  Rust's errors are not copied
 //    2  a formatter has a lifetime in place of its writer's type
-//   54  all crates are one module
+//   55  all crates are one module
 //    2  an allocation never fails: without memory the program ends
 //   79  an assertion names no runtime
 //    3  an example names a kernel that each target has
@@ -36,15 +36,15 @@ pub use self::error::*;
 //    6  and kernels over vectors are there for WebAssembly alone
 //   13  and panics instead of returning an error
 //    1  and the crate's decoder is cloned
-//    2  before it reads a part, or ends
+//    3  before it reads a part, or ends
 //   46  deleted: attribute
-//  424  deleted: clause
+//  405  deleted: clause
 //   78  deleted: ghost item
 //    3  deleted: model
 //    5  deleted: output
 //    1  each value may be dropped
 //    4  kernels that no target uses are left out, and callers that nothing exports
 //    1  the kernel is chosen for the processor
-//   13  what a constant calls is constant
+//   12  what a constant calls is constant
 //    2  what an error alone needs is compiled in the crates that call it
 //    2  what hexfilter uses of const_hex is a module of std_shim

@@ -26,33 +26,3 @@ pub two_more : (u : List ℕ) (i j next : ℕ) → j < length u → j ≡ i + 1 
 two_more u i j next within one two first second done =
     let middle = digits_more u i done (omega (arith, within, one)) (has_value (get_or u i 0) first) in
     rw two (digits_more u j (rw one middle) within (has_value (get_or u j 0) second))
-
--- the error for a pair that is not both digits, after digits
-pub bad_pair : (t : List ℕ) (i index : ℕ) (e : FromHexError) → IsEven (length t) → i + 1 < length (body_of t)
-    → AllDigits (take i (body_of t)) → index ≡ i + (length t - length (body_of t))
-    → (IsDigit (get_or (body_of t) i 0) × IsDigit (get_or (body_of t) (i + 1) 0) → ⊥)
-    → ((IsDigit (get_or (body_of t) i 0) → ⊥) → e ≡ InvalidHexCharacter (get_or (body_of t) i 0) index)
-    → (IsDigit (get_or (body_of t) i 0) → e ≡ InvalidHexCharacter (get_or (body_of t) (i + 1) 0) (index + 1))
-    → Reads t (Err e)
-bad_pair t i index e even within done at not first second =
-    let u = body_of t in
-    elim (cases_Bool (is_some (hex_value (get_or u i 0)))) [
-      | inl digit ↦
-          elim (cases_Bool (is_some (hex_value (get_or u (i + 1) 0)))) [
-            | inl both ↦ absurd (not (digit, both))
-            | inr none ↦
-                let before = digits_more u i done (omega (arith, within)) (has_value (get_or u i 0) digit) in
-                rw (second digit) (even, (i + 1, record { within = within; before = before; here = none }, refl, omega (arith, at)))
-          ]
-      | inr none ↦
-          rw (first (λ digit. no_value _ none digit))
-          (even, (i, record { within = omega (arith, within); before = done; here = none }, refl, at))
-    ]
-
--- how many bytes are left
-pub rest_length : (i : ℕ) (u rest : List ℕ) → rest ≡ drop i u → length rest ≡ length u - i
-rest_length i u rest e = rw e (length-drop i u)
-
--- a byte of them
-pub rest_byte : (i j k : ℕ) (u rest : List ℕ) → rest ≡ drop i u → k ≡ i + j → get_or rest j 0 ≡ get_or u k 0
-rest_byte i j k u rest e at = rw (e, at) (get_or-drop i u j 0)

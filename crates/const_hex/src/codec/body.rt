@@ -100,20 +100,6 @@ pub(crate) fn locate_invalid<K: Kernel>(text: &[u8]) -> (char, usize)
     (char::from(byte), index)
 }
 
-/// The error that names the first byte of a pair, which stands at the index, or the second byte if
-/// the first one is a digit.
-#[inline(always)]
-pub(crate) fn invalid_pair(first: u8, second: u8, index: usize) -> FromHexError
-    requires { index < usize.MAX }
-    ensures first { (IsDigit first → ⊥) → result ≡ InvalidHexCharacter first index }
-    ensures second { IsDigit first → result ≡ InvalidHexCharacter second (index + 1) }
-{
-    if value_at(first) == NIL {
-        return invalid_character(first, index);
-    }
-    invalid_character(second, index + 1)
-}
-
 /// The error that names a byte and its position.
 #[inline(always)]
 pub(crate) fn invalid_character(byte: u8, index: usize) -> FromHexError
@@ -127,8 +113,6 @@ pub(crate) fn invalid_character(byte: u8, index: usize) -> FromHexError
 
 /// The first byte that is not a digit, and its index. If there is none, a NUL character and the
 /// length of the text.
-// A caller that has already seen an invalid character may get the latter, if another process has
-// removed it from shared memory in between. Nothing is read out of bounds then.
 #[inline(always)]
 pub(crate) fn find_first_bad<K: Kernel>(text: &[u8]) -> (u8, usize)
     ensures bad { (AllDigits text.now → ⊥) → FirstBad text.now result.1 }
@@ -136,7 +120,21 @@ pub(crate) fn find_first_bad<K: Kernel>(text: &[u8]) -> (u8, usize)
     ensures within { result.1 ≤ length text.now }
     ensures all { (result.1 ≡ length text.now) ↔ AllDigits text.now }
 {
-    let mut index = skip_pairs(text, K::skip_digits(text));
+    find_first_bad_from(text, skip_pairs(text, K::skip_digits(text)))
+}
+
+/// As `find_first_bad`, for a text that begins with that many digits.
+// A caller that has already seen an invalid character may get the NUL character, if another process has
+// removed it from shared memory in between. Nothing is read out of bounds then.
+#[inline(always)]
+pub(crate) fn find_first_bad_from(text: &[u8], start: usize) -> (u8, usize)
+    requires { AllDigits (take start text.now) × start ≤ length text.now }
+    ensures bad { (AllDigits text.now → ⊥) → FirstBad text.now result.1 }
+    ensures byte { result.0 ≡ slice_index text.now result.1 }
+    ensures within { result.1 ≤ length text.now }
+    ensures all { (result.1 ≡ length text.now) ↔ AllDigits text.now }
+{
+    let mut index = start;
     'digits: while index < text.len() {
         let byte = text[index];
         if value_at(byte) == NIL {

@@ -4,10 +4,10 @@ ghost use Rattle.std.specs.Prelude.{◌↔◌, Result, Ok, IsTrue};
 ghost use Rattle.const_hex.specs.Prelude.{AllDigits, ChecksText, FromHexError};
 
 use crate::codec::body::{
-    are_digits, find_invalid_character, invalid_pair, strip_even, strip_prefix,
+    find_first_bad_from, find_invalid_character, invalid_character, strip_even, strip_prefix,
 };
 use crate::error::FromHexError;
-use const_hex_arch::{FixedKernel, Kernel, NIL, value_at};
+use const_hex_arch::{FixedKernel, Kernel};
 
 /// Whether [`decode`](crate::decode) accepts a text.
 ///
@@ -60,12 +60,10 @@ pub fn const_check(input: &[u8]) -> Result<(), FromHexError>
     if input.len() % 2 != 0 {
         return Err(FromHexError::OddLength);
     }
-    let mut rest = strip_prefix(input);
-    'pairs: while let [first, second, after @ ..] = rest {
-        if !are_digits(*first, *second) {
-            return Err(invalid_pair(*first, *second, input.len() - rest.len()));
-        }
-        rest = after;
+    let body = strip_prefix(input);
+    let (byte, index) = find_first_bad_from(body, 0);
+    if index < body.len() {
+        return Err(invalid_character(byte, index + input.len() - body.len()));
     }
     Ok(())
 }
@@ -96,12 +94,5 @@ pub fn check_raw(input: &[u8]) -> bool
 pub fn const_check_raw(input: &[u8]) -> bool
     ensures { IsTrue result ↔ AllDigits input.now }
 {
-    let mut rest = input;
-    'digits: while let [first, after @ ..] = rest {
-        if value_at(*first) == NIL {
-            return false;
-        }
-        rest = after;
-    }
-    true
+    find_first_bad_from(input, 0).1 == input.len()
 }

@@ -3,9 +3,8 @@
 ghost use Rattle.std.specs.Prelude.{◌≡◌, ◌*◌, false, length, IsTrue, Ok};
 ghost use Rattle.const_hex.specs.Prelude.{body_of, ReadsSized, all_digits, DecodesToSlice, DecodesToFront, DecodesToArray};
 
-use crate::codec::body::{
-    are_digits, decode_body, find_invalid_character, invalid_pair, strip_even, strip_prefix,
-};
+use crate::codec::body::{decode_body, find_invalid_character, strip_even, strip_prefix};
+use crate::codec::checks::const_check;
 use crate::error::FromHexError;
 use const_hex_arch::{FixedKernel, Kernel, value_at};
 
@@ -151,19 +150,14 @@ pub fn const_decode_to_array<const N: usize>(input: &[u8]) -> Result<[u8; N], Fr
     if body.len() != 2 * N {
         return Err(FromHexError::InvalidStringLength);
     }
+    if let Err(error) = const_check(input) {
+        return Err(error);
+    }
     let mut bytes = [0; N];
     let mut index = 0;
-    // If it were computed from the index, LLVM would unroll the loop for more lengths, and save more registers.
-    let mut left = body.len();
     'pairs: while index < N {
-        let at = 2 * index;
-        let (first, second) = (body[at], body[at + 1]);
-        if !are_digits(first, second) {
-            return Err(invalid_pair(first, second, input.len() - left));
-        }
-        bytes[index] = value_at(first) * 16 + value_at(second);
+        bytes[index] = value_at(body[2 * index]) * 16 + value_at(body[2 * index + 1]);
         index += 1;
-        left -= 2;
     }
     Ok(bytes)
 }

@@ -1,22 +1,9 @@
-//! One invalid lane, an iterator at its end, and values beside each other.
+//! An iterator at its end, and values beside each other.
 
 use crate::tests::rows::same;
-use const_hex::{BytesToHexChars, lanes16, lanes32};
+use const_hex::BytesToHexChars;
 use hash_hex::FixedBytes;
 use std::collections::HashSet;
-use std::simd::prelude::*;
-
-#[test]
-fn one_invalid_lane(rt: HostRuntime) {
-    for lane in 0..32usize {
-        let mut text = [b'a'; 32];
-        text[lane] = b'g';
-        same!(&rt, "lanes32::check_chunk", lane; lanes32::check_chunk(u8x32::from_array(text)), false);
-        let mut text = [b'a'; 16];
-        text[lane % 16] = b'g';
-        same!(&rt, "lanes16::check_chunk", lane; lanes16::check_chunk(u8x16::from_array(text)), false);
-    }
-}
 
 #[test]
 fn no_characters_are_left(rt: HostRuntime) {

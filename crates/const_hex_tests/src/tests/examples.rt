@@ -1,37 +1,19 @@
-//! One call of each function of `examples`, whose contract says the rest.
+//! One call of each function of `examples` that may fail for another reason than its input, or whose contract leaves a
+//! part of the result open. The others have contracts that say all.
 
-use crate::examples::constants::{transfer, wrapped_ether};
-use crate::examples::contracts::key_of;
 use crate::examples::files::{write_line, write_text};
 use crate::examples::json_rpc::{code_of, reason};
-use crate::examples::own_kernel::write_pieces;
-use crate::examples::readers::{
-    is_same_account, read_both, read_salt, read_shared, replace_key, replace_whole_key,
-};
+use crate::examples::readers::{is_same_account, read_both, read_salt, read_shared};
 use crate::examples::sinks::{packets, send_json};
 use crate::examples::store::canonical;
 use crate::examples::streams::{
     check_chunk, check_chunks, decode_chunks, decode_stream, decode_where_it_fits,
 };
-use crate::examples::writers::{fill_field, put_label};
 use crate::testing::texts::invalid;
 use crate::tests::rows::{Testing, Text, same, same_bytes};
-use const_hex::{Decoder, FromHexError, JsonError, PieceSink, SliceOutput};
+use const_hex::{Decoder, FromHexError, JsonError, PieceSink};
 use serde_json::json;
 use std::rc::Rc;
-
-#[test]
-fn parts_of_buffers(rt: HostRuntime) {
-    let mut field = [b'.'; 4];
-    same!(&rt; fill_field(&mut field, b"ki"), Ok(()));
-    same!(&rt; fill_field(&mut field, b"kiwi"), Err(FromHexError::InvalidStringLength));
-    same_bytes!(&rt, "fill_field", "ki"; field, "6b69");
-    put_label(&mut field, b"k=");
-    same_bytes!(&rt, "put_label", "k="; field, "k=69");
-    let mut text = [0; 8];
-    write_pieces(b"kiwi", &mut SliceOutput::new(&mut text));
-    same_bytes!(&rt, "write_pieces", "kiwi"; text, "6b697769");
-}
 
 const LOWER: &[u8] = b"ff80";
 
@@ -62,19 +44,6 @@ fn whole_streams(rt: HostRuntime) {
         let mut reader = text.as_bytes();
         same!(&rt, "decode_stream", text; decode_stream(&mut reader, &mut bytes).expect(&rt, "a stream"), want);
     }
-}
-
-#[test]
-fn keys(rt: HostRuntime) {
-    let decoded = key_of(rt.alloc(), UPPER).expect(&rt, "key_of");
-    same_bytes!(&rt, "key_of", Text(UPPER); decoded, [0xFF, 0x80]);
-    let mut key = [0xEE; 32];
-    same!(&rt; replace_key(&mut key, b"6b6"), Err(FromHexError::OddLength));
-    same_bytes!(&rt, "the key", "6b6"; key, [0xEE; 32]);
-    same!(&rt; replace_key(&mut key, &[b'a'; 64]), Ok(()));
-    same_bytes!(&rt, "the key", "64 letters"; key, [0xAA; 32]);
-    same!(&rt; replace_whole_key(&mut key, &[b'z'; 64]), Err(invalid(b'z', 0)));
-    same_bytes!(&rt, "the key", "64 letters z"; key, [0xAA; 32]);
 }
 
 #[test]
@@ -112,13 +81,6 @@ fn sinks(rt: HostRuntime) {
     same!(&rt, "send_json", "kiwi"; sink.pieces().len(), 1);
     let sink = packets(rt.alloc(), &[0xAB; 5000]).expect(&rt, "packets");
     same!(&rt, "packets", 5000; sink.pieces().len(), 3);
-}
-
-#[test]
-fn constants(rt: HostRuntime) {
-    let ether = b"\xC0\x2A\xAA\x39\xB2\x23\xFE\x8D\x0A\x0E\x5C\x4F\x27\xEA\xD9\x08\x3C\x75\x6C\xC2";
-    same_bytes!(&rt, "wrapped_ether", ""; wrapped_ether(), ether);
-    same!(&rt; (transfer()[0], transfer()[31]), (0xDD, 0xEF));
 }
 
 #[test]

@@ -1,5 +1,5 @@
-//! Worked rows of the calls that allocate nothing, and that the table of test vectors does not ask. Their contracts
-//! say the same of every input; here the terms of the contracts meet values from elsewhere.
+//! Worked rows of calls that the table of test vectors does not ask. Their contracts say the same of every input; here
+//! the terms of the contracts meet values from elsewhere.
 
 ghost use Rattle.std.specs.Prelude.{◌≡◌, ◌≤◌, true, false};
 ghost use Rattle.const_hex.specs.Prelude.{text_length};
@@ -8,113 +8,11 @@ use crate::testing::texts::{invalid, make_bytes, print};
 use crate::tests::rows::{Testing, Text, same, same_bytes};
 use const_hex::FromHexError::{InvalidStringLength, OddLength};
 use const_hex::{
-    Buffer, BufferedHex, FromHex, FromHexError, PieceSink, check, check_raw, const_check,
-    const_check_raw, const_decode_to_array, const_encode, decode_to_array, decode_to_slice,
-    encode_to_slice, encode_to_slice_upper, encode_to_str, encode_to_str_upper,
+    Buffer, BufferedHex, FromHex, FromHexError, PieceSink, const_decode_to_array, const_encode,
+    decode_to_array,
 };
 use hash_hex::Hash32;
 use std::boxed::BoxedSlice;
-
-const HELLO: &[u8] = b"48656c6c6f20776f726c6421";
-
-/// What each check returns for a text: those that remove a prefix, and those of digits alone.
-#[test]
-fn checks(rt: HostRuntime) {
-    let rows: [(&[u8], Result<(), FromHexError>, bool); 13] = [
-        (b"", Ok(()), true),
-        (b"0x", Ok(()), false),
-        (HELLO, Ok(()), true),
-        (b"0x48656c6c6f20776f726c6421", Ok(()), false),
-        (b"0X48656C6C6F20776F726C6421", Ok(()), false),
-        (b"48656c6c6f20776f726c642", Err(OddLength), true),
-        (b"0x1", Err(OddLength), false),
-        (b"foo", Err(OddLength), false),
-        (b"123", Err(OddLength), true),
-        (b"0x0x", Err(invalid(b'x', 3)), false),
-        (b"0xzz", Err(invalid(b'z', 2)), false),
-        (b"Hello world!", Err(invalid(b'H', 0)), false),
-        (b"\xff0", Err(invalid(0xFF, 0)), false),
-    ];
-    for (text, checked, is_digits) in rows {
-        same!(&rt, "check", Text(text); (check(text), const_check(text)), (checked, checked));
-        same!(&rt, "check_raw", Text(text); (check_raw(text), const_check_raw(text)), (is_digits, is_digits));
-    }
-}
-
-/// An array, or an error, is as wanted.
-fn reads<const N: usize>(
-    rt: &impl Testing,
-    call: &str,
-    row: Text<'_>,
-    read: &Result<[u8; N], FromHexError>,
-    wanted: Result<&[u8], FromHexError>,
-) {
-    let found = match read {
-        Ok(bytes) => Ok(Text(bytes)),
-        Err(error) => Err(*error),
-    };
-    same!(rt, call, row; found, wanted.map(|bytes| Text(bytes)));
-}
-
-/// What each decoder of N bytes returns, and what `decode_to_slice` leaves of bytes 0xEE after an error.
-fn decodes<const N: usize>(rt: &impl Testing, text: &[u8], wanted: Result<&[u8], FromHexError>)
-    requires { N ≤ 128 }
-{
-    let row = Text(text);
-    macro_rules! each {
-        ($($call:literal => $read:expr,)+) => { $(reads(rt, $call, row, &$read, wanted);)+ };
-    }
-    each! {
-        "decode_to_array" => decode_to_array::<N>(text),
-        "const_decode_to_array" => const_decode_to_array::<N>(text),
-        "from_hex" => <[u8; N]>::from_hex(rt.alloc(), text),
-    }
-    let mut bytes = [0xEE; N];
-    let done = decode_to_slice(text, &mut bytes);
-    same!(rt, "decode_to_slice", row; done.err(), wanted.err());
-    same_bytes!(rt, "decode_to_slice", row; bytes, wanted.unwrap_or(&[0xEE; N]));
-}
-
-#[test]
-fn decoders(rt: HostRuntime) {
-    decodes::<0>(&rt, b"0x", Ok(b""));
-    decodes::<0>(&rt, b"0X", Ok(b""));
-    decodes::<4>(&rt, b"6b697769", Ok(b"kiwi"));
-    decodes::<4>(&rt, b"0x6b697769", Ok(b"kiwi"));
-    decodes::<4>(&rt, b"0X6B697769", Ok(b"kiwi"));
-    decodes::<12>(&rt, HELLO, Ok(b"Hello world!"));
-    for text in [b"0x1".as_slice(), b"foo", b"123"] {
-        decodes::<1>(&rt, text, Err(OddLength));
-    }
-    decodes::<1>(&rt, b"0xzz", Err(invalid(b'z', 2)));
-    decodes::<1>(&rt, b"0x", Err(InvalidStringLength));
-    decodes::<2>(&rt, b"ff", Err(InvalidStringLength));
-    decodes::<3>(&rt, b"6b697769", Err(InvalidStringLength));
-    decodes::<3>(&rt, b"zz", Err(InvalidStringLength));
-    decodes::<3>(&rt, b"zzz", Err(OddLength));
-    same!(&rt; <[i8; 2]>::from_hex(rt.alloc(), b"ff80"), Ok([-1, -128]));
-    let signed = <Vec<i8>>::from_hex(rt.alloc(), b"ff80").expect(&rt, "memory");
-    same!(&rt; (signed.len(), signed[0], signed[1]), (2, -1, -128));
-    let signed = <BoxedSlice<i8>>::from_hex(rt.alloc(), b"7F80").expect(&rt, "memory");
-    same!(&rt; (signed.len(), signed[0], signed[1]), (2, 127, -128));
-}
-
-/// The text of that length with every digit, as in the table of test vectors.
-#[test]
-fn checks_of_each_length(rt: HostRuntime) {
-    let mut text = Vec::new(rt.alloc());
-    for length in 1..=130usize {
-        let digit = b"0123456789abcdefABCDEF"[7 * (length - 1) % 22];
-        text.push(digit).expect(&rt, "memory");
-        same!(&rt, "const_check_raw", length; (const_check_raw(&text), check_raw(&text)), (true, true));
-        let wanted = if length % 2 == 0 {
-            Ok(())
-        } else {
-            Err(OddLength)
-        };
-        same!(&rt, "const_check", length; (const_check(&text), check(&text)), (wanted, wanted));
-    }
-}
 
 /// A sink that fails at each of the three calls, or at none.
 #[test]
@@ -129,26 +27,6 @@ fn refused_calls(rt: HostRuntime) {
         same!(&rt, "pieces", refuse_at; sink.pieces().len(), pieces);
         for (piece, size) in sink.pieces().iter().zip(sizes) {
             same!(&rt, "a piece", refuse_at; piece.len(), size);
-        }
-    }
-}
-
-#[test]
-fn encoders(rt: HostRuntime) {
-    let mut text = [0xEE; 8];
-    same!(&rt; encode_to_slice(b"kiwi", &mut text), Ok(()));
-    same_bytes!(&rt, "encode_to_slice", "kiwi"; text, "6b697769");
-    same!(&rt; encode_to_slice_upper(b"kiwi", &mut text), Ok(()));
-    same_bytes!(&rt, "encode_to_slice_upper", "kiwi"; text, "6B697769");
-    same!(&rt; encode_to_str(b"kiwi", &mut text).unwrap_or(""), "6b697769");
-    same!(&rt; encode_to_str_upper(b"kiwi", &mut text).unwrap_or(""), "6B697769");
-    same!(&rt; encode_to_slice(b"", &mut []), Ok(()));
-    for size in 0..=20usize {
-        let mut text = [0xEE; 20];
-        if size != 10 {
-            let encoded = encode_to_slice(b"fiver", &mut text[..size]);
-            same!(&rt, "encode_to_slice", size; encoded, Err(InvalidStringLength));
-            same_bytes!(&rt, "encode_to_slice", size; text, [0xEE; 20]);
         }
     }
 }
@@ -181,8 +59,8 @@ fn formats<const N: usize, const DIGITS: usize, const FULL: usize>(
     same_bytes!(rt, "as_byte_array", N; full.as_byte_array(), upper);
     let owned = full.to_string(rt.alloc()).expect(rt, "memory");
     same_bytes!(rt, "to_string", N; owned, upper);
-    decodes::<N>(rt, lower.as_bytes(), Ok(bytes));
-    decodes::<N>(rt, upper.as_bytes(), Ok(bytes));
+    same!(rt, "decode_to_array", N; decode_to_array::<N>(upper.as_bytes()), Ok(*bytes));
+    same!(rt, "const_decode_to_array", N; const_decode_to_array::<N>(upper.as_bytes()), Ok(*bytes));
 }
 
 #[test]
@@ -208,6 +86,15 @@ fn worked_buffers(rt: HostRuntime) {
         .to_vec(rt.alloc())
         .expect(&rt, "memory");
     same_bytes!(&rt, "to_vec", 0; empty, [48, 120]);
+}
+
+#[test]
+fn signed_bytes(rt: HostRuntime) {
+    same!(&rt; <[i8; 2]>::from_hex(rt.alloc(), b"ff80"), Ok([-1, -128]));
+    let signed = <Vec<i8>>::from_hex(rt.alloc(), b"ff80").expect(&rt, "memory");
+    same!(&rt; (signed.len(), signed[0], signed[1]), (2, -1, -128));
+    let signed = <BoxedSlice<i8>>::from_hex(rt.alloc(), b"7F80").expect(&rt, "memory");
+    same!(&rt; (signed.len(), signed[0], signed[1]), (2, 127, -128));
 }
 
 #[test]

@@ -119,15 +119,11 @@ fn ends<R: Read>(
     );
     let (bytes, count) = host.printed.get();
     let printed = &bytes[..count.min(128)];
-    let line = (status != 0).then_some(Escaped(line.as_bytes()));
-    let shown = printed.strip_suffix(b"\n").map(|line| Escaped(line));
-    assert_eq!(rt; shown, line, "standard error: {:?}", Shown(host.arguments));
-    assert_eq!(rt;
-        printed.is_empty(),
-        (status == 0),
-        "standard error: {:?}",
-        Shown(host.arguments)
-    );
+    let line = match status {
+        0 => String::new(rt.alloc()),
+        _ => format!(in rt.alloc(); "{line}\n").expect(rt, "memory"),
+    };
+    same_bytes(rt, Shown(host.arguments), printed, line.as_bytes());
 }
 
 /// Arguments, an input, what is written, the status, and the line on standard error.

@@ -9,7 +9,6 @@ use crate::mode::Mode;
 use crate::runs::{run, run_bytes};
 use crate::tests::devices::{InjectedFault, Source, Target};
 use crate::tests::{Escaped, Testing, same_bytes};
-use const_hex::FromHexError::OddLength;
 use std::alloc::{AllocError, Global};
 use std::io::{self, ErrorKind, Read};
 
@@ -29,19 +28,6 @@ const ANSWERS: [Answered<'_>; 11] = [
     (Mode::Check, b"6B697769\n", b"ok\n"),
     (Mode::Check, b"\n", b"ok\n"),
 ];
-
-// The other lines are those of whole runs.
-#[test]
-fn prints_errors(rt: HostRuntime) {
-    assert_eq!(rt; RunError::NoMemory.status(), 4);
-    for (error, line) in [
-        (RunError::NoMemory, "out of memory"),
-        (RunError::Text(OddLength), "odd number of digits"),
-    ] {
-        let text = line_of(rt.alloc(), error).expect(&rt, "memory");
-        assert_eq!(rt; text.as_str(), line);
-    }
-}
 
 /// What an error prints, as its contract says: the message of the text's error, too.
 fn line_of(alloc: Global, error: RunError) -> Result<String, AllocError>

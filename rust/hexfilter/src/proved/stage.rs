@@ -112,26 +112,21 @@ impl Stage {
         text: &mut [u8],
         output: &mut [u8],
     ) -> (usize, Option<RunError>) {
-        let mut done = 0;
+        let mut next = self.clone();
+        if let Ok(count) = next.decode_part(reading, chunk, text, output) {
+            *self = next;
+            return (count, None);
+        }
+        // Byte by byte, up to the invalid character.
         let mut end = 0;
-        let mut size = chunk.len();
-        'parts: while done < chunk.len() {
+        'bytes: for done in 0..chunk.len() {
             let mut next = self.clone();
-            let part = &chunk[done..done + size];
-            match next.decode_part(reading, part, text, &mut output[end..]) {
+            match next.decode_part(reading, &chunk[done..done + 1], text, &mut output[end..]) {
                 Ok(count) => {
                     *self = next;
-                    done += size;
                     end += count;
-                    size = size.min(chunk.len() - done);
                 }
-                Err(_) => {
-                    // The half with the invalid character is cut again, down to this character.
-                    if size == 1 {
-                        return (end, Some(self.error(reading, chunk[done])));
-                    }
-                    size /= 2;
-                }
+                Err(_) => return (end, Some(self.error(reading, chunk[done]))),
             }
         }
         (end, None)
@@ -175,8 +170,8 @@ impl Stage {
     }
 }
 
-/// Decodes the next part of a text into the front of the output, or only checks it. Returns the number of
-/// bytes there.
+/// Decodes the next part of a text into the front of the output. Returns the number of bytes there that are written: 0
+/// if the text is only checked.
 #[inline(always)]
 fn decode_text(
     decoder: &mut Decoder,
@@ -184,11 +179,6 @@ fn decode_text(
     text: &[u8],
     output: &mut [u8],
 ) -> Result<usize, FromHexError> {
-    if reading.is_check {
-        return match decoder.check(text) {
-            Ok(()) => Ok(0),
-            Err(error) => Err(error),
-        };
-    }
-    decoder.decode(text, output)
+    let count = decoder.decode(text, output)?;
+    Ok(if reading.is_check { 0 } else { count })
 }

@@ -37,7 +37,7 @@ pub(crate) const fn is_prefix(first: u8, second: u8) -> bool {
 /// Whether both bytes are digits.
 // NIL alone has the highest bit, so one test serves for both.
 #[inline(always)]
-pub(crate) const fn are_digits(first: u8, second: u8) -> bool {
+pub(crate) fn are_digits(first: u8, second: u8) -> bool {
     value_at(first) | value_at(second) < 128
 }
 
@@ -74,16 +74,6 @@ pub(crate) fn locate_invalid<K: Kernel>(text: &[u8]) -> (char, usize) {
     (byte as char, index)
 }
 
-/// The error that names the first byte of a pair, which stands at the index, or the second byte if
-/// the first one is a digit.
-#[inline(always)]
-pub(crate) const fn invalid_pair(first: u8, second: u8, index: usize) -> FromHexError {
-    if value_at(first) == NIL {
-        return invalid_character(first, index);
-    }
-    invalid_character(second, index + 1)
-}
-
 /// The error that names a byte and its position.
 #[inline(always)]
 pub(crate) const fn invalid_character(byte: u8, index: usize) -> FromHexError {
@@ -95,11 +85,17 @@ pub(crate) const fn invalid_character(byte: u8, index: usize) -> FromHexError {
 
 /// The first byte that is not a digit, and its index. If there is none, a NUL character and the
 /// length of the text.
-// A caller that has already seen an invalid character may get the latter, if another process has
-// removed it from shared memory in between. Nothing is read out of bounds then.
 #[inline(always)]
 pub(crate) fn find_first_bad<K: Kernel>(text: &[u8]) -> (u8, usize) {
-    let mut index = skip_pairs(text, K::skip_digits(text));
+    find_first_bad_from(text, skip_pairs(text, K::skip_digits(text)))
+}
+
+/// As `find_first_bad`, for a text that begins with that many digits.
+// A caller that has already seen an invalid character may get the NUL character, if another process has
+// removed it from shared memory in between. Nothing is read out of bounds then.
+#[inline(always)]
+pub(crate) const fn find_first_bad_from(text: &[u8], start: usize) -> (u8, usize) {
+    let mut index = start;
     'digits: while index < text.len() {
         let byte = text[index];
         if value_at(byte) == NIL {

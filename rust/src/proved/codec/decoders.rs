@@ -2,9 +2,8 @@
 //! Decoding a whole text.
 
 use crate::std_shim::prelude::*;
-use crate::proved::codec::body::{
-    are_digits, decode_body, find_invalid_character, invalid_pair, strip_even, strip_prefix,
-};
+use crate::proved::codec::body::{decode_body, find_invalid_character, strip_even, strip_prefix};
+use crate::proved::codec::checks::const_check;
 use crate::proved::error::FromHexError;
 use crate::proved::{FixedKernel, Kernel, value_at};
 
@@ -103,19 +102,14 @@ pub const fn const_decode_to_array<const N: usize>(input: &[u8]) -> Result<[u8; 
     if body.len() != 2 * N {
         return Err(FromHexError::InvalidStringLength);
     }
+    if let Err(error) = const_check(input) {
+        return Err(error);
+    }
     let mut bytes = [0; N];
     let mut index = 0;
-    // If it were computed from the index, LLVM would unroll the loop for more lengths, and save more registers.
-    let mut left = body.len();
     'pairs: while index < N {
-        let at = 2 * index;
-        let (first, second) = (body[at], body[at + 1]);
-        if !are_digits(first, second) {
-            return Err(invalid_pair(first, second, input.len() - left));
-        }
-        bytes[index] = value_at(first) * 16 + value_at(second);
+        bytes[index] = value_at(body[2 * index]) * 16 + value_at(body[2 * index + 1]);
         index += 1;
-        left -= 2;
     }
     Ok(bytes)
 }

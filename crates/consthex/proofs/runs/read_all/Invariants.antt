@@ -1,13 +1,9 @@
-use Rattle.std.proofs.Common.{◌-◌, ◌≤◌, take, vec_len}
+use Rattle.std.proofs.Common.{◌-◌, vec_len}
 use Rattle.std.specs.Io.KnownBytes.{Consumes}
 use Rattle.consthex.proofs.runs.read_all.Given as goal
 
 abbrev pub invariant-reads : goal.invariant-reads
-invariant-reads g l = record {
-  within : l.count ≤ vec_len l.bytes;
-  bound : vec_len l.bytes ≤ 1048577;
-  read : Consumes (g.R.Read.remaining l.initial.input) (g.R.Read.remaining l.input) (take l.count l.bytes.items);
-}
+invariant-reads g l = Consumes (g.R.Read.remaining l.initial.input) (g.R.Read.remaining l.input) l.bytes.items
 
 abbrev pub decreases-reads : goal.decreases-reads
-decreases-reads g l = 1048577 - l.count
+decreases-reads g l = 1048577 - vec_len l.bytes

@@ -7,53 +7,46 @@ use Rattle.hexfilter_core.proofs.stage.Stage.decode.Goals as goal
 cut_at : (x u : List ℕ) (k : ℕ) → k < length u → (x ++ take k u) ++ get_or u k 0 ∷ drop (k + 1) u ≡ x ++ u
 cut_at x u k h = grind (arith, common_steps)
 
-pub parts-preserved-in-Ok : goal.parts-preserved-in-Ok
-parts-preserved-in-Ok c =
+pub returns-in-Ok-clause-made : goal.returns-in-Ok-clause-made
+returns-in-Ok-clause-made c = λ x y left has.
+    (λ some. c.in-Ok.ensures.ok x y has, λ none. absurd (omega (arith, none, c.requires.chunk)))
+
+pub bytes-preserved : goal.bytes-preserved
+bytes-preserved c =
     let chunk = c.args.chunk.now in
-    let done = c.parts.done in
-    let end = c.parts.end in
-    let out = c.parts.output in
-    let new = c.decode_part.new.output in
-    let count = c.in-Ok.count in
-    let i = c.parts.invariant in
-    let space = c.parts.auto.output in
-    let ensured = c.in-Ok.ensures in
-    let size = part_size chunk done c.parts.size (done + c.parts.size - done) i.within (omega arith) in record {
-      fewer = omega (arith, ensured.most, size);
-      within = omega arith;
-      some = λ more. omega arith;
+    let done = c.bytes.done in
+    let end = c.bytes.end in
+    let out = c.bytes.output in
+    let new = c.decode_part-in-bytes.new.output in
+    let count = c.in-Ok-decode_part.count in
+    let i = c.bytes.invariant in
+    let space = c.bytes.auto.output in
+    let ensured = c.in-Ok-decode_part.ensures in
+    let size = part_size chunk done 1 (done + 1 - done) (omega (arith, c.bytes-test.true)) (omega arith) in record {
+      fewer = omega (arith, i.fewer, ensured.most, size);
       decoded = λ x y has.
-          let put = take_put end _ count out new (omega (arith, space))
+          let put = take_put end _ count out new (omega (arith, space, i.fewer, c.bytes-test.true, c.requires.space))
           (omega (arith, ensured.lengths.1, ensured.within, space)) in
-          rw (part_joined x chunk done c.parts.size (done + c.parts.size - done) (omega arith), append_assoc y (take end out) (take count new), sym put) at
+          rw (part_joined x chunk done 1 (done + 1 - done) (omega arith), append_assoc y (take end out) (take count new), sym put) at
           (ensured.ok (x ++ take done chunk) (y ++ take end out) (i.decoded x y has));
     }
 
-pub parts-preserved : goal.parts-preserved
-parts-preserved c =
-    let i = c.parts.invariant in record {
-      fewer = i.fewer;
-      within = omega (arith, i.within);
-      some = λ more. omega (arith, i.some more, c.if-size-eq1.false);
-      decoded = λ x y has.
-          rw (take-put_mid_below c.parts.end _ c.parts.output c.decode_part.new.output c.parts.end (omega arith)
-          (omega (arith, c.parts.auto.output))) (i.decoded x y has);
-    }
-
-pub returns-then-size-eq1-clause-made : goal.returns-then-size-eq1-clause-made
-returns-then-size-eq1-clause-made c = λ x y left has.
+pub returns-in-Err-clause-made : goal.returns-in-Err-clause-made
+returns-in-Err-clause-made c = λ x y left has.
     let chunk = c.args.chunk.now in
-    let done = c.parts.done in
-    let end = c.parts.end in
-    let out = c.parts.output in
-    let i = c.parts.invariant in
-    let space = c.parts.auto.output in
-    let inside = c.parts-test.true in
+    let done = c.bytes.done in
+    let end = c.bytes.end in
+    let out = c.bytes.output in
+    let i = c.bytes.invariant in
+    let space = c.bytes.auto.output in
+    let inside : done < length chunk = c.bytes-test.true in
     let read = i.decoded x y has in
-    let size = part_size chunk done c.parts.size (done + c.parts.size - done) i.within (omega arith) in
-    let invalid = rw (part_joined x chunk done 1 (done + c.parts.size - done) (omega (arith, c.if-size-eq1.true))) at
-    (c.in-Err.ensures.err (x ++ take done chunk) (y ++ take end out) read (omega (arith, size, space, i.within))) in
-    rw (take-put_mid_below end _ out c.decode_part.new.output end (omega arith) (omega (arith, space)))
+    let size = part_size chunk done 1 (done + 1 - done) (omega (arith, inside)) (omega arith) in
+    let invalid = rw (part_joined x chunk done 1 (done + 1 - done) (omega arith)) at
+    (c.in-Err.ensures.err (x ++ take done chunk) (y ++ take end out) read
+    (omega (arith, size, space, i.fewer, inside, c.requires.space))) in
+    rw (take-put_mid_below end _ out c.decode_part-in-bytes.new.output end (omega arith)
+    (omega (arith, space, i.fewer, inside, c.requires.space)))
     (rw (cut_at x chunk done inside) at
     (c.error.ensures (x ++ take done chunk) (y ++ take end out) (drop (done + 1) chunk) left read
     (omega (arith, length-drop (done + 1) chunk, c.requires.chunk, inside))
@@ -61,6 +54,6 @@ returns-then-size-eq1-clause-made c = λ x y left has.
 
 pub returns-clause-made : goal.returns-clause-made
 returns-clause-made c = λ x y left has. (
-  λ some. rw (take_all c.parts.done c.args.chunk.now (omega arith)) at (c.parts.invariant.decoded x y has),
+  λ some. rw (take_all c.bytes.done c.args.chunk.now (omega arith)) at (c.bytes.invariant.decoded x y has),
   λ none. absurd (omega (arith, none, c.requires.chunk)),
 )

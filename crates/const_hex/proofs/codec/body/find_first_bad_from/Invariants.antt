@@ -1,9 +1,9 @@
 use Rattle.std.proofs.Common.{◌-◌, ◌≤◌, length, take}
 use Rattle.const_hex.specs.Prelude.{AllDigits}
-use Rattle.const_hex.proofs.codec.body.find_first_bad.Given as goal
+use Rattle.const_hex.proofs.codec.body.find_first_bad_from.Given as goal
 
 abbrev pub invariant-digits : goal.invariant-digits
-invariant-digits g l = AllDigits (take l.index l.text) × (l.index ≤ length l.text)
+invariant-digits l = AllDigits (take l.index l.text) × (l.index ≤ length l.text)
 
 abbrev pub decreases-digits : goal.decreases-digits
-decreases-digits g l = length l.text - l.index
+decreases-digits l = length l.text - l.index
