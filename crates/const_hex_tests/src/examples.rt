@@ -5,9 +5,11 @@
 pub mod constants;
 pub mod files;
 pub mod json_rpc;
+pub mod outputs;
 pub mod own_kernel;
 pub mod readers;
 pub mod sinks;
 pub mod store;
 pub mod streams;
+pub mod values;
 pub mod writers;

@@ -1,4 +1,4 @@
-//! One call of each function of `examples`, whose contract says the rest.
+//! Calls of functions of `examples`, whose contracts say the rest.
 
 use crate::examples::constants::{transfer, wrapped_ether};
 use crate::examples::files::{write_line, write_text};
