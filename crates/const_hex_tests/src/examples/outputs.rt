@@ -1,8 +1,8 @@
 //! Outputs that gather text, and sinks as outputs.
 
-ghost use Rattle.std.specs.Prelude.{◌≡◌, ◌∷◌, [], false, codes};
+ghost use Rattle.std.specs.Prelude.{◌≡◌, ◌≤◌, ◌∷◌, [], false, codes, length, IsAscii};
 ghost use Rattle.std.specs.List.{FoldsTo};
-ghost use Rattle.const_hex.specs.Outputs.{HasSpace};
+ghost use Rattle.const_hex.specs.Outputs.{HasSpace, less_space};
 
 use const_hex::{BufferedOutput, Output, PieceSink, Sink, SinkOutput};
 use std::alloc::Global;
@@ -27,6 +27,16 @@ pub fn write_long<O: Output>(mut gathering: BufferedOutput<O, 3>) -> O
     gathering.write(b"0x");
     gathering.write(b"c0de");
     gathering.finish()
+}
+
+/// Gathers text. What is gathered has at most eight bytes, and fits into the output.
+pub fn gather<O: Output>(gathering: &mut BufferedOutput<O, 8>, text: &[u8])
+    requires ascii { IsAscii text.now }
+    requires fits { HasSpace (less_space (O.space gathering.old.0) (length gathering.old.1)) (length text.now) }
+    ensures bound { length gathering.new.1 ≤ 8 }
+    ensures fits { HasSpace (O.space gathering.new.0) (length gathering.new.1) }
+{
+    gathering.write(text);
 }
 
 /// Writes to a sink as to an output.

@@ -2,7 +2,7 @@
 
 ghost use Rattle.std.specs.Prelude.{◌≡◌, ◌≤◌, ◌-◌, ◌++◌, List, ℕ, Some, true, false, length, take, IfOk, OnOk};
 ghost use Rattle.std.specs.List.{All, concat};
-ghost use Rattle.const_hex.specs.Prelude.{Cut, full_text};
+ghost use Rattle.const_hex.specs.Prelude.{full_text};
 
 use const_hex::serde::serialize_inner;
 use const_hex::{BufferedHex, PieceSink, Sink, SinkError};
@@ -12,7 +12,7 @@ use std::alloc::Global;
 ///
 /// Returns an error if there is too little memory.
 pub fn packets(alloc: Global, bytes: &[u8]) -> Result<PieceSink, SinkError>
-    ensures cut { IfOk result (λ sink. Cut (full_text true false bytes.now) sink.pieces) }
+    ensures whole { IfOk result (λ sink. concat sink.pieces ≡ full_text true false bytes.now) }
     ensures sizes { IfOk result
         (λ sink. All (λ piece. (1 ≤ length piece) × (length piece ≤ 4096)) sink.pieces) }
     ensures large { IfOk result
