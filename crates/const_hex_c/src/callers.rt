@@ -1,6 +1,6 @@
 //! What a program in C can rely on. No export calls this.
 
-ghost use Rattle.std.specs.Prelude.{◌≡◌, ◌⊎◌, ◌<◌, ◌∷◌, ◌++◌, [], IfSome, Err, codes, drop, false, take, true};
+ghost use Rattle.std.specs.Prelude.{◌≡◌, ◌<◌, ◌∷◌, ◌++◌, [], IfSome, Err, codes, drop, false, take, true};
 ghost use Rattle.const_hex.specs.Results.{Reads};
 ghost use Rattle.const_hex.specs.declared.error.FromHexError.TheVariants.{InvalidHexCharacter};
 
@@ -35,13 +35,20 @@ fn encode_without_nul(text: &mut [u8; 4]) -> bool
     const_hex_encode(b"\xC0\xDE", text, 4)
 }
 
-/// With too little space for the NUL, writes the empty string. An unknown flag is an error, too.
-fn encode_into_less(text: &mut [u8; 4], flags: u32) -> bool
-    requires { (flags ≡ 0) ⊎ (flags ≡ 8) }
+/// With too little space for the NUL, writes the empty string.
+fn encode_into_less(text: &mut [u8; 4]) -> bool
     ensures done { result ≡ false }
     ensures text { text.new ≡ 0 ∷ drop 1 text.old }
 {
-    const_hex_encode(b"\xC0\xDE", text, flags)
+    const_hex_encode(b"\xC0\xDE", text, 0)
+}
+
+/// With an unknown flag, writes the empty string.
+fn encode_with_unknown_flag(text: &mut [u8; 9]) -> bool
+    ensures done { result ≡ false }
+    ensures text { text.new ≡ 0 ∷ drop 1 text.old }
+{
+    const_hex_encode(b"\xC0\xDE", text, 8)
 }
 
 /// The first invalid character of a text and its position, as an error names them.
