@@ -1,7 +1,7 @@
 //! Calls on constants, whose results the contracts state as values.
 #![tactic(auto, unfolding(const_hex::specs::Prelude::hex_text))]
 
-ghost use Rattle.std.specs.Prelude.{◌≡◌, ◌∷◌, ◌++◌, [], Ok, Err, Some, None, negsuc, pos, true, false, IfOk, codes, string_bytes};
+ghost use Rattle.std.specs.Prelude.{◌≡◌, ◌∷◌, ◌++◌, [], Err, Some, None, negsuc, pos, true, false, IfOk, codes, string_bytes};
 ghost use Rattle.const_hex.specs.declared.error.FromHexError.TheVariants.{InvalidHexCharacter, InvalidStringLength, OddLength};
 
 use const_hex::{
