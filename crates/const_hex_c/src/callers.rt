@@ -1,11 +1,55 @@
 //! What a program in C can rely on. No export calls this.
 
-ghost use Rattle.std.specs.Prelude.{◌≡◌, ◌<◌, ◌∷◌, ◌++◌, IfSome, Err, codes, take};
+ghost use Rattle.std.specs.Prelude.{◌≡◌, ◌<◌, ◌∷◌, ◌++◌, [], IfSome, Err, codes, drop, false, take, true};
 ghost use Rattle.const_hex.specs.Results.{Reads};
 ghost use Rattle.const_hex.specs.declared.error.FromHexError.TheVariants.{InvalidHexCharacter};
 
 use crate::error::{HexError, INVALID_CHARACTER};
-use crate::{const_hex_check_nonnull, const_hex_error_message};
+use crate::{
+    const_hex_check_nonnull, const_hex_encode, const_hex_encoded_size, const_hex_error_message,
+};
+
+/// The sizes of texts of two bytes: with a NUL; in uppercase, with a prefix and a NUL; without a NUL; with an
+/// unknown flag.
+fn encoded_sizes() -> [usize; 4]
+    ensures { result ≡ 5 ∷ 7 ∷ 4 ∷ usize.MAX ∷ [] }
+{
+    [0, 3, 4, 8].map(|flags| const_hex_encoded_size(2, flags))
+}
+
+/// Writes the text of two bytes, in uppercase and with a prefix, and a NUL. What follows is unchanged.
+#[tactic(auto, unfolding(const_hex::specs::Prelude::hex_text))]
+fn encode(text: &mut [u8; 9]) -> bool
+    ensures done { result ≡ true }
+    ensures text { text.new ≡ codes "0xC0DE" ++ 0 ∷ drop 7 text.old }
+{
+    const_hex_encode(b"\xC0\xDE", text, 3)
+}
+
+/// Writes the text of two bytes without a NUL.
+#[tactic(auto, unfolding(const_hex::specs::Prelude::hex_text))]
+fn encode_without_nul(text: &mut [u8; 4]) -> bool
+    ensures done { result ≡ true }
+    ensures text { text.new ≡ codes "c0de" }
+{
+    const_hex_encode(b"\xC0\xDE", text, 4)
+}
+
+/// With too little space for the NUL, writes the empty string.
+fn encode_into_less(text: &mut [u8; 4]) -> bool
+    ensures done { result ≡ false }
+    ensures text { text.new ≡ 0 ∷ drop 1 text.old }
+{
+    const_hex_encode(b"\xC0\xDE", text, 0)
+}
+
+/// With an unknown flag, writes the empty string.
+fn encode_with_unknown_flag(text: &mut [u8; 9]) -> bool
+    ensures done { result ≡ false }
+    ensures text { text.new ≡ 0 ∷ drop 1 text.old }
+{
+    const_hex_encode(b"\xC0\xDE", text, 8)
+}
 
 /// The first invalid character of a text and its position, as an error names them.
 fn invalid_character(text: &[u8]) -> Option<(u32, usize)>

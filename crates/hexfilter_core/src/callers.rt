@@ -70,6 +70,40 @@ fn decode_lines<R: Read, W: Write>(input: &mut R, output: &mut W) -> Result<(), 
     run(Mode::Decode(lines), input, output)
 }
 
+/// Encodes two bytes in pairs of digits with a separator: a newline stands after the last, too.
+#[tactic(auto, unfolding(crate::specs::Dumps::groups_from, const_hex::specs::Prelude::hex_text))]
+fn encode_pairs<W: Write>(separator: u8, output: &mut W) -> Result<(), RunError>
+    ensures colons { separator ≡ 58 → OnOk result
+        (Appends (W.contents output.old) (W.contents output.new) (codes "6b:69")) }
+    ensures lines { separator ≡ 10 → OnOk result
+        (Appends (W.contents output.old) (W.contents output.new) (codes "6b" ++ 10 ∷ codes "69" ++ 10 ∷ [])) }
+{
+    let groups = Groups { size: 2, separator };
+    let mode = Mode::Encode {
+        prefix: false,
+        upper: false,
+        groups,
+    };
+    run(mode, &mut b"ki".as_slice(), output)
+}
+
+/// Decodes such pairs, with a space and a newline that are left out.
+#[tactic(auto, unfolding(crate::specs::Dumps::text_from))]
+fn decode_pairs<W: Write>(output: &mut W) -> Result<(), RunError>
+    ensures { OnOk result (Appends (W.contents output.old) (W.contents output.new) (codes "ki")) }
+{
+    let groups = Groups {
+        size: 2,
+        separator: b':',
+    };
+    let reading = Reading {
+        is_check: false,
+        ignore_whitespace: true,
+        groups,
+    };
+    run(Mode::Decode(reading), &mut b"6b: 69\n".as_slice(), output)
+}
+
 /// Encodes bytes into a text, which is empty before, in any groups, and decodes the text: lines without whitespace. These
 /// are the bytes again.
 fn encode_and_decode_groups<W: Write>(
@@ -110,6 +144,19 @@ fn encode<H: Host, R: Read, W: Write>(
     program(host, arguments, input, output)
 }
 
+/// Runs the program on a file. Standard input is not read.
+fn encode_file<H: Host, R: Read, W: Write>(
+    host: &H,
+    arguments: &[String],
+    input: &mut R,
+    output: &mut W,
+) -> ExitCode
+    requires { map string_bytes arguments.now ≡ codes "disk.img" ∷ [] }
+    ensures { input.new ≡ input.old }
+{
+    program(host, arguments, input, output)
+}
+
 /// Runs the program with `--check` alone.
 fn check<H: Host, R: Read, W: Write>(
     host: &H,
@@ -126,14 +173,15 @@ fn check<H: Host, R: Read, W: Write>(
     program(host, arguments, input, output)
 }
 
-/// Runs the program with `--version` alone.
+/// Runs the program with `--version` or `-V` alone.
 fn print_version<R: Read, W: Write>(
     host: &impl Host,
     arguments: &[String],
     input: &mut R,
     output: &mut W,
 ) -> ExitCode
-    requires { map string_bytes arguments.now ≡ codes "--version" ∷ [] }
+    requires { (map string_bytes arguments.now ≡ codes "--version" ∷ [])
+        ⊎ (map string_bytes arguments.now ≡ codes "-V" ∷ []) }
     ensures done { exit_status result ≡ 0
         → Appends (W.contents output.old) (W.contents output.new) (codes "hexfilter 1.0.0" ++ 10 ∷ []) }
     ensures failed { exit_status result ≡ 3 → (n : ℕ)
@@ -168,7 +216,8 @@ fn encode_and_decode<H: Host, W: Write>(
     (written, program(host, read, &mut input, output))
 }
 
-/// Runs the program to encode bytes into lines of 64 characters or pairs with colons, and again to decode them.
+/// Runs the program to encode bytes into lines of 64 characters, with a prefix and in uppercase, or into pairs with
+/// colons, and again to decode them.
 fn encode_and_decode_by_words<H: Host, W: Write>(
     host: &H,
     write: &[String],
@@ -178,7 +227,7 @@ fn encode_and_decode_by_words<H: Host, W: Write>(
     output: &mut W,
 ) -> (ExitCode, ExitCode)
     requires empty { text.old.items ≡ [] }
-    requires words { ((map string_bytes write.now ≡ codes "--wrap" ∷ codes "64" ∷ [])
+    requires words { ((map string_bytes write.now ≡ codes "--prefix" ∷ codes "--upper" ∷ codes "--wrap" ∷ codes "64" ∷ [])
         × (map string_bytes read.now ≡ codes "--decode" ∷ codes "--ignore-whitespace" ∷ []))
         ⊎ ((map string_bytes write.now ≡ codes "--group" ∷ codes "1" ∷ codes "--separator" ∷ codes ":" ∷ [])
         × (map string_bytes read.now ≡ codes "--decode" ∷ codes "--group" ∷ codes "1" ∷ codes "--separator" ∷ codes ":" ∷ [])) }

@@ -1,6 +1,6 @@
 //! A file or a socket that receives text.
 
-ghost use Rattle.std.specs.Prelude.{◌≢◌, ◌∷◌, ◌++◌, [], true, false, OnOk, OnErr, IfErr};
+ghost use Rattle.std.specs.Prelude.{◌≡◌, ◌≢◌, ◌∷◌, ◌++◌, [], true, false, OnOk, OnErr, IfErr, IsOk};
 ghost use Rattle.std.specs.IoError.{error_kind};
 ghost use Rattle.std.specs.Io.KnownBytes.{Appends};
 ghost use Rattle.const_hex.specs.Prelude.{full_text, WritesBeginning};
@@ -19,6 +19,17 @@ pub fn write_text<W: Write>(bytes: &[u8], writer: &mut W) -> io::Result<()>
 {
     let mut sink = WriteSink::new(writer);
     let _ = sink.write_hex::<false, true>(bytes);
+    sink.finish()
+}
+
+/// Writes the text of no bytes: the writer is not called.
+#[tactic(auto, unfolding(const_hex::specs::Prelude::hex_text))]
+pub fn write_nothing<W: Write>(writer: &mut W) -> io::Result<()>
+    ensures ok { IsOk result }
+    ensures unchanged { writer.new ≡ writer.old }
+{
+    let mut sink = WriteSink::new(writer);
+    let _ = sink.write_hex::<false, false>(b"");
     sink.finish()
 }
 

@@ -1,14 +1,15 @@
 //! Callers that read a text: as any type, by the law of such types alone; and into a key.
 
-ghost use Rattle.std.specs.Prelude.{◌≡◌, ◌↔◌, ◌⊎◌, ◌*◌, ℕ, false, drop, length, take, IsTrue, IfOk, IfErr, OnErr, Ok, Err};
+ghost use Rattle.std.specs.Prelude.{◌≡◌, ◌≢◌, ◌∷◌, [], ◌↔◌, ◌⊎◌, ◌*◌, ℕ, false, drop, length, take, IsTrue, IfOk, IfErr, OnErr, Ok, Err};
 ghost use Rattle.const_hex.specs.Prelude.{IsOdd, Reads, ReadsSized, body_of, lowered, Spells, IsRejected};
-ghost use Rattle.const_hex.specs.declared.error.FromHexError.TheVariants.{InvalidStringLength, OddLength};
+ghost use Rattle.const_hex.specs.declared.error.FromHexError.TheVariants.{InvalidStringLength, NoMemory, OddLength};
+ghost use Rattle.const_hex.specs.declared.error.FromHexError.{FromHexError};
 
 use const_hex::{
     CheckFirst, FixedKernel, FromHex, FromHexError, decode_to_front, decode_to_slice,
     decode_to_slice_with,
 };
-use hash_hex::Address20;
+use hash_hex::{Address20, FixedBytes};
 use std::alloc::Global;
 use std::rc::Rc;
 
@@ -105,4 +106,25 @@ pub fn read_salt(text: &[u8], salt: &mut [u8; 64]) -> Result<usize, FromHexError
         → salt.new ≡ salt.old) }
 {
     decode_to_front(text, salt)
+}
+
+/// Reads a text as a vector. Unless an allocation failed, an error means that the text cannot be decoded.
+pub fn read_vector(alloc: Global, text: &[u8]) -> Result<Vec<u8>, FromHexError>
+    ensures { IfErr result (λ e. e ≢ NoMemory → (why : FromHexError) × Reads text.now (Err why)) }
+{
+    read(alloc, text)
+}
+
+/// Reads a text of as many bytes as fit: only memory can be lacking.
+pub fn read_two(alloc: Global) -> Result<[u8; 2], FromHexError>
+    ensures { IfErr result (λ e. e ≡ NoMemory) }
+{
+    read(alloc, b"c0de")
+}
+
+/// The first four bytes of a call of `transfer`, from text.
+pub fn selector(alloc: Global) -> Result<[u8; 4], FromHexError>
+    ensures { IfOk result (λ bytes. bytes ≡ 169 ∷ 5 ∷ 156 ∷ 187 ∷ []) }
+{
+    Ok(*FixedBytes::<4>::from_hex(alloc, b"0xa9059cbb")?.as_bytes())
 }

@@ -1,8 +1,8 @@
 //! A text for any sink, and its pieces.
 
-ghost use Rattle.std.specs.Prelude.{◌≡◌, ◌≤◌, ◌++◌, List, ℕ, Some, true, false, length, IfOk, OnOk};
+ghost use Rattle.std.specs.Prelude.{◌≡◌, ◌≤◌, ◌-◌, ◌++◌, List, ℕ, Some, true, false, length, take, IfOk, OnOk};
 ghost use Rattle.std.specs.List.{All, concat};
-ghost use Rattle.const_hex.specs.Prelude.{Cut, full_text};
+ghost use Rattle.const_hex.specs.Prelude.{full_text};
 
 use const_hex::serde::serialize_inner;
 use const_hex::{BufferedHex, PieceSink, Sink, SinkError};
@@ -12,9 +12,11 @@ use std::alloc::Global;
 ///
 /// Returns an error if there is too little memory.
 pub fn packets(alloc: Global, bytes: &[u8]) -> Result<PieceSink, SinkError>
-    ensures cut { IfOk result (λ sink. Cut (full_text true false bytes.now) sink.pieces) }
+    ensures whole { IfOk result (λ sink. concat sink.pieces ≡ full_text true false bytes.now) }
     ensures sizes { IfOk result
         (λ sink. All (λ piece. (1 ≤ length piece) × (length piece ≤ 4096)) sink.pieces) }
+    ensures large { IfOk result
+        (λ sink. All (λ piece. 4033 ≤ length piece) (take (length sink.pieces - 1) sink.pieces)) }
 {
     let mut sink = PieceSink::new(alloc, 0);
     BufferedHex::<false, true>::new(bytes).write_to(&mut sink)?;
@@ -37,4 +39,14 @@ pub fn send_json<S: Sink>(bytes: &[u8], sink: &mut S) -> Result<(), SinkError>
         × (S.reported sink.new ≡ Some (reported ++ pieces))) }
 {
     serialize_inner::<false, true, S>(bytes, sink)
+}
+
+/// How many calls a sink takes for a text of at most 4032 bytes: no more than one.
+pub fn calls_of_short(alloc: Global, bytes: &[u8]) -> usize
+    requires { length bytes.now ≤ 2015 }
+    ensures { result ≤ 1 }
+{
+    let mut sink = PieceSink::new(alloc, 0);
+    let _ = BufferedHex::<false, true>::new(bytes).write_to(&mut sink);
+    sink.calls()
 }

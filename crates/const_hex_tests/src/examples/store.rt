@@ -1,10 +1,12 @@
 //! Keys of a store, which are found with or without a prefix and in either case.
 
-ghost use Rattle.std.specs.Prelude.{◌≡◌, ◌≢◌, Err, string_bytes, IfOk, IfErr};
+ghost use Rattle.std.specs.Prelude.{◌≡◌, ◌≢◌, ◌↔◌, Ok, Err, string_bytes, IfOk, IfErr, IsTrue};
 ghost use Rattle.const_hex.specs.Prelude.{Reads, body_of, lowered};
 ghost use Rattle.const_hex.specs.declared.error.FromHexError.TheVariants.{NoMemory};
 
-use const_hex::{FromHexError, decode, encode};
+use const_hex::{
+    FromHexError, decode, decode_to_array, encode, encode_to_slice, encode_upper_prefixed,
+};
 use std::alloc::Global;
 
 /// The form of a key that is stored: no prefix, and in lowercase.
@@ -15,4 +17,29 @@ pub fn canonical(alloc: Global, key: &[u8]) -> Result<String, FromHexError>
     let bytes = decode(alloc, key)?;
     let text = encode(alloc, &bytes)?;
     Ok(text)
+}
+
+/// Whether two texts are forms of one key.
+pub fn is_same_key(alloc: Global, first: &[u8], second: &[u8]) -> Result<bool, FromHexError>
+    ensures { IfOk result (λ same. IsTrue same
+        ↔ (lowered (body_of first.now) ≡ lowered (body_of second.now))) }
+{
+    Ok(decode(alloc, first)? == decode(alloc, second)?)
+}
+
+/// Writes a key as text, and reads it again.
+pub fn copy(alloc: Global, key: &[u8]) -> Result<Vec<u8>, FromHexError>
+    ensures { IfOk result (λ v. v.items ≡ key.now) }
+{
+    let text = encode_upper_prefixed(alloc, key)?;
+    decode(alloc, text.as_bytes())
+}
+
+/// Writes a key of 32 bytes as text, and reads it again, which cannot fail.
+pub fn copy_array(key: &[u8; 32]) -> Result<[u8; 32], FromHexError>
+    ensures { result ≡ Ok key.now }
+{
+    let mut text = [0; 64];
+    encode_to_slice(key, &mut text)?;
+    decode_to_array(&text)
 }

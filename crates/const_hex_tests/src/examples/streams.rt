@@ -1,10 +1,10 @@
 //! A text in chunks.
 
-ghost use Rattle.std.specs.Prelude.{◌≡◌, ◌≢◌, ◌/◌, ◌<◌, ◌↔◌, ℕ, drop, length, IfOk, IfErr, IfSome, Some, Err};
-ghost use Rattle.const_hex.specs.Prelude.{error_of, body_of, AllDigits};
+ghost use Rattle.std.specs.Prelude.{◌≡◌, ◌≢◌, ◌/◌, ◌<◌, ◌++◌, ◌↔◌, ℕ, drop, take, length, IfOk, IfErr, IfSome, OnOk, Some, Ok, Err};
+ghost use Rattle.const_hex.specs.Prelude.{error_of, body_of, AllDigits, Reads};
 ghost use Rattle.const_hex.specs.Results.{NamesFirstBad};
 ghost use Rattle.const_hex.specs.declared.error.FromHexError.{FromHexError};
-ghost use Rattle.const_hex.specs.declared.error.FromHexError.TheVariants.{InvalidHexCharacter, InvalidStringLength};
+ghost use Rattle.const_hex.specs.declared.error.FromHexError.TheVariants.{InvalidHexCharacter, InvalidStringLength, OddLength};
 
 use const_hex::{Decoder, FromHexError};
 use std::io::{self, Read, Write};
@@ -26,7 +26,9 @@ pub fn check_chunks(
 
 /// Checks a text in one chunk. An error names its first invalid character.
 pub fn check_chunk(text: &[u8]) -> Result<(), FromHexError>
-    ensures { (c i : ℕ) → result ≡ Err (InvalidHexCharacter c i) → NamesFirstBad text.now c i }
+    ensures character { (c i : ℕ) → result ≡ Err (InvalidHexCharacter c i) → NamesFirstBad text.now c i }
+    ensures digits { OnOk result (AllDigits (body_of text.now)) }
+    ensures not_odd { result ≢ Err OddLength }
 {
     let mut decoder = Decoder::new();
     decoder.check(text)
@@ -39,8 +41,10 @@ pub fn decode_chunks(
     front: &mut [u8],
     rest: &mut [u8],
 ) -> (Result<usize, FromHexError>, Result<usize, FromHexError>)
-    ensures { (e : FromHexError) → result.0 ≡ Err e → e ≢ InvalidStringLength
+    ensures error { (e : FromHexError) → result.0 ≡ Err e → e ≢ InvalidStringLength
         → (result.1 ≡ Err e) × (rest.new ≡ rest.old) }
+    ensures count { IfOk result.0 (λ n. AllDigits (body_of first.now) × (n ≡ length (body_of first.now) / 2)) }
+    ensures not_odd { result.0 ≢ Err OddLength }
 {
     let mut decoder = Decoder::new();
     let begun = decoder.decode(first, front);
@@ -84,4 +88,29 @@ pub fn decode_stream<R: Read, W: Write>(
         }
     }
     Ok(decoder.finish())
+}
+
+/// Decodes a whole text in two chunks. Returns the number of bytes of each.
+pub fn decode_whole(
+    first: &[u8],
+    second: &[u8],
+    front: &mut [u8],
+    rest: &mut [u8],
+) -> Result<(usize, usize), FromHexError>
+    ensures { IfOk result (λ n. Reads (first.now ++ second.now) (Ok (take n.0 front.new ++ take n.1 rest.new))) }
+{
+    let mut decoder = Decoder::new();
+    let begun = decoder.decode(first, front)?;
+    let more = decoder.decode(second, rest)?;
+    decoder.finish()?;
+    Ok((begun, more))
+}
+
+/// The position after a text that is read without an error.
+pub fn position_after(text: &[u8]) -> Option<usize>
+    ensures { IfSome result (λ n. n ≡ length text.now) }
+{
+    let mut decoder = Decoder::new();
+    decoder.check(text).ok()?;
+    Some(decoder.position())
 }

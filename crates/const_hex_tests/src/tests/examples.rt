@@ -1,5 +1,4 @@
-//! One call of each function of `examples` that may fail for another reason than its input, or whose contract leaves a
-//! part of the result open. The others have contracts that say all.
+//! Calls of functions of `examples`, whose contracts say the rest.
 
 use crate::examples::files::{write_line, write_text};
 use crate::examples::json_rpc::{code_of, reason};

@@ -16,11 +16,11 @@ Asked write read =
     (prefix : Bool) × (upper : Bool) × (ignores : Bool) × (g : Groups) × IgnoresLines ignores g
     × AreFor (Encode prefix upper g) write × AreFor (Decode (mirror ignores g)) read
 
-of_lines : (write read : List (List ℕ)) → write ≡ codes "--wrap" ∷ codes "64" ∷ []
+of_lines : (write read : List (List ℕ)) → write ≡ codes "--prefix" ∷ codes "--upper" ∷ codes "--wrap" ∷ codes "64" ∷ []
     → read ≡ codes "--decode" ∷ codes "--ignore-whitespace" ∷ [] → Asked write read
 of_lines write read wrote again = (
-  false,
-  false,
+  true,
+  true,
   true,
   lines,
   λ h. refl,
@@ -36,7 +36,7 @@ of_pairs write read words is wrote again =
     (false, false, false, pairs, λ h. h, (words, inr (inr found), wrote), (words, inr found, again))
 
 asked : (write read words : List (List ℕ)) → words ≡ codes "--group" ∷ codes "1" ∷ codes "--separator" ∷ codes ":" ∷ []
-    → ((write ≡ codes "--wrap" ∷ codes "64" ∷ []) × (read ≡ codes "--decode" ∷ codes "--ignore-whitespace" ∷ []))
+    → ((write ≡ codes "--prefix" ∷ codes "--upper" ∷ codes "--wrap" ∷ codes "64" ∷ []) × (read ≡ codes "--decode" ∷ codes "--ignore-whitespace" ∷ []))
     ⊎ ((write ≡ words) × (read ≡ codes "--decode" ∷ words)) → Asked write read
 asked write read words is (inl (wrote, again)) = of_lines write read wrote again
 asked write read words is (inr (wrote, again)) = of_pairs write read words is wrote again

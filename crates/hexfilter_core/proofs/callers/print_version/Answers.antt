@@ -1,10 +1,12 @@
-use Rattle.std.proofs.Common.{◌≡◌, ◌∷◌, [], ℕ, List, Ok, codes, refl}
-use Rattle.hexfilter_core.specs.Options.{Version, request_for, with_arguments}
+use Rattle.std.proofs.Common.{◌≡◌, ◌⊎◌, ◌∷◌, [], ℕ, List, Ok, codes, inl, inr, refl}
+use Rattle.hexfilter_core.specs.Options.{Version, request_for, with_arguments, with_letters}
 use Rattle.hexfilter_core.proofs.callers.print_version.Goals as goal
 
-asked : (words : List (List ℕ)) → words ≡ codes "--version" ∷ [] → request_for words ≡ Ok Version
-unfolding with_arguments
-asked words is = rw is refl
+asked : (words : List (List ℕ)) → (words ≡ codes "--version" ∷ []) ⊎ (words ≡ codes "-V" ∷ [])
+    → request_for words ≡ Ok Version
+unfolding with_arguments with_letters
+asked words (inl is) = rw is refl
+asked words (inr is) = rw is refl
 
 pub returns : goal.returns
 returns g c =

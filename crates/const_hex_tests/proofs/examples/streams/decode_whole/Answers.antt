@@ -1,0 +1,7 @@
+use Rattle.std.proofs.Common.{[], arith}
+use Rattle.const_hex_tests.proofs.examples.streams.decode_whole.Goals as goal
+
+pub returns : goal.returns
+returns c =
+    let one = c.decode.ensures.ok [] [] c.new-decoder.ensures.starts in
+    grind (arith, one, c.decode-2.ensures.ok c.args.first.now, c.finish.ensures.ok)
