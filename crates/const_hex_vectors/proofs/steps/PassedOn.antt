@@ -1,6 +1,5 @@
 -- A function that returns what one call returns. One walk serves any number of lanes.
-use Rattle.const_hex_arch.proofs.lemmas.Walks.DecodedChunk.{Chunks}
-use Rattle.const_hex_arch.proofs.lemmas.Walks.LaneOptions.{List, ℕ, [], ◌∷◌, refl, proved, concat, Option, ftrue, id⊢, emp, fact, tables, Array-Tells, Array-Lawful, u8, w8, yes, shows, uint_Lawful, nothing, peeks, calls_at, lasts, triple_of, framed, Stays, walk_of, stay_dropped, Goes-dropped, ends_at, Simd-Lawful, alloc_all, pass_all, free_all, look_at, get, lands_as, ‵, raw, ◌⊛◌, some, later, ◌$◌, ◌∵◌, !, qed, done, move, keep, drop, use1, split, join, pick, await, suffices, group, enter, no_more, and_then, returns, NoneClause, SpellsClause, sep, Lanes, Pair, pair_vals, lanes_vals, lanes_Tells, Answer, Answer-Lawful, Ura, Fn, Callee, local, value_local, place, copy, ty_array, ty_int, call, seq, Running, Model, Closed, Logic, Clauses, closing, Meets}
+use Rattle.const_hex_arch.proofs.lemmas.Walks.{Chunks, List, ℕ, [], ◌∷◌, refl, proved, concat, Option, ftrue, id⊢, emp, fact, tables, Array-Tells, Array-Lawful, u8, w8, yes, shows, uint_Lawful, nothing, peeks, calls_at, lasts, triple_of, framed, Stays, walk_of, stay_dropped, Goes-dropped, ends_at, Simd-Lawful, alloc_all, pass_all, free_all, look_at, get, lands_as, ‵, raw, ◌⊛◌, some, later, ◌$◌, ◌∵◌, !, qed, done, move, keep, drop, use1, split, join, pick, await, suffices, group, enter, no_more, and_then, returns, NoneClause, SpellsClause, sep, Lanes, Pair, pair_vals, lanes_vals, lanes_Tells, Answer, Answer-Lawful, Ura, Fn, Callee, local, value_local, place, copy, ty_array, ty_int, call, seq, Running, Model, Closed, Logic, Clauses, closing, Meets}
 use mir.Syntax.{return as end}
 use denote.Param.{layout}
 
