@@ -339,7 +339,9 @@ def stores(name, takes, function):
     accesses(name, takes, store, 0)
 
 
-for _name, _size in {"i32.load": 4, "i32.load8_u": 1, "i32.load16_u": 2, "i64.load": 8}.items():
+_LOADS = {"i32.load": 4, "i32.load8_u": 1, "i32.load16_u": 2}
+_LOADS |= {"i64.load": 8, "i64.load16_u": 2, "i64.load32_u": 4}
+for _name, _size in _LOADS.items():
     loads(_name, _size, lambda data: z3.ZeroExt(64 - 8 * len(data), joined(data)))
 loads("v128.load", 16, lambda data: data)
 loads("v128.load64_zero", 8, lambda data: data + [byte(0)] * 8)
@@ -351,6 +353,7 @@ stores("i32.store16", "ni", lambda value: split(value)[:2])
 # It has the results of others, where they are compared.
 stores("i64.store", "nl", split)
 stores("v128.store", "nv", lambda data: data)
+stores("v128.store8_lane", "nv", lambda data, index: data[index:][:1])
 stores("v128.store16_lane", "nv", lambda data, index: data[2 * index :][:2])
 stores("v128.store32_lane", "nv", lambda data, index: data[4 * index :][:4])
 stores("v128.store64_lane", "nv", lambda data, index: data[8 * index :][:8])
@@ -376,6 +379,7 @@ by_lanes("i16x8.mul", 2, MULTIPLY)
 computes("i16x8.shr_u", "vn", _shift_lanes)
 computes("i16x8.splat", "i", lambda a: split(z3.Extract(15, 0, a)) * 8)
 computes("i32x4.splat", "i", lambda a: split(_lower(a)) * 4)
+computes("i64x2.splat", "l", lambda a: split(a) * 2)
 computes(
     "i8x16.swizzle",
     "vv",
@@ -386,9 +390,3 @@ computes("i16x8.extend_low_i8x16_u", "v", lambda a: zero_extended(a[:8]))
 computes("i16x8.extend_high_i8x16_u", "v", lambda a: zero_extended(a[8:]))
 compares("v128.any_true", "v", lambda a: z3.Or(*[part != 0 for part in a]))
 accesses("i8x16.shuffle", "vv", lambda s, numbers, a, b: [(a + b)[index] for index in numbers])
-accesses("i8x16.extract_lane_u", "v", lambda s, numbers, a: z3.ZeroExt(56, a[numbers[0]]))
-accesses(
-    "i16x8.extract_lane_u",
-    "v",
-    lambda s, numbers, a: z3.ZeroExt(48, joined(a[2 * numbers[0] :][:2])),
-)

@@ -62,6 +62,8 @@ def _operand(text):
     if text in GENERAL:
         name, size = GENERAL[text]
         return Operand("general", size, name)
+    if match := re.fullmatch(r"([abcd])h", text):
+        return Operand("second byte", 1, f"r{match[1]}x")
     if match := re.fullmatch(r"([xy])mm(\d+)", text):
         return Operand("vector", SIZES[f"{match[1].upper()}MMWORD"], int(match[2]))
     if match := re.fullmatch(r"(?:(\w+) PTR )?\[(.*)\]", text):
@@ -142,6 +144,8 @@ class State(state.State):
         """The lowest bytes of an operand, or all."""
         if o.kind == "general":
             return split(z3.Extract(8 * o.size - 1, 0, self.general[o.name]))[:size]
+        if o.kind == "second byte":
+            return [z3.Extract(15, 8, self.general[o.name])]
         size = size or o.size
         if o.kind == "vector":
             return self.vectors[o.name][:size]
@@ -162,6 +166,7 @@ class State(state.State):
         """Writes a general register, of which 4 bytes clear the others, or memory."""
         if o.kind == "memory":
             return self.store(self.address_of(o), split(term))
+        require(o.kind == "general", "an unsupported register")
         if o.size == 4:
             term = z3.ZeroExt(32, term)
         elif o.size < 8:

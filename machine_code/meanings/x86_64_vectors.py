@@ -144,6 +144,7 @@ VECTORS = {
     "pxor": by_lanes(1, XOR),
     "psllw": shift_lanes(2, lambda a, count: a << count),
     "psrlw": shift_lanes(2, z3.LShR),
+    "punpckldq": by_halves(lambda a, b: a[:4] + b[:4] + a[4:8] + b[4:8]),
     "punpcklqdq": by_halves(lambda a, b: a[:8] + b[:8]),
     "pshufb": by_halves(lambda a, b: [looked_up(a, index) for index in b]),
     "packuswb": by_halves(lambda a, b: saturated(lanes(a + b, 2))),

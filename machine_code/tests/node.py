@@ -81,9 +81,7 @@ def _function(name, text):
     )
     if ".store" in mnemonic:
         return f'(func (export "{name}") {operands} {text})'
-    type_ = (
-        "i32" if re.search("any_true|wrap_i64|extract_lane", mnemonic) else mnemonic.split(".")[0]
-    )
+    type_ = "i32" if re.search("any_true|wrap_i64", mnemonic) else mnemonic.split(".")[0]
     result = type_ if type_ in TYPES.values() else "v128"
     return f'(func (export "{name}") i32.const {RESULT} {operands} {text} {result}.store)'
 

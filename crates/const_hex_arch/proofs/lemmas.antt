@@ -1,7 +1,5 @@
 pub mod Digits
-pub mod Ends
 pub mod FirstInvalid
-pub mod LaneMarks
 pub mod LaneText
 pub mod LaneValues
 pub mod Runs

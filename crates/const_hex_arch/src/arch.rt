@@ -1,7 +1,7 @@
 //! Kernels, which encode bytes as digits and decode digits to bytes.
 
-ghost use Rattle.std.specs.Prelude.{◌≡◌, Bool, ◌*◌, ◌≤◌, ◌↔◌, IsTrue, true, false, length, take};
-ghost use Rattle.const_hex_arch.specs.{HasSpace, Writes, hex_text, AllDigits, Spells, Partial};
+ghost use Rattle.std.specs.Prelude.{◌≡◌, Bool, ◌*◌, ◌≤◌, ◌↔◌, IsTrue, true, false, length, take, IsAscii};
+ghost use Rattle.const_hex_arch.specs.{HasSpace, IsKernelPiece, Writes, hex_text, AllDigits, Spells, Partial};
 
 pub mod by_length;
 pub mod check_first;
@@ -23,6 +23,23 @@ use crate::output::Output;
 /// assert!(rt; FixedKernel::check(b"6b697769"));
 /// ```
 pub type FixedKernel = Lanes32;
+
+/// Writes a piece of text. If `single` is true, it has two bytes, which are written one by one.
+#[inline(always)]
+fn write_piece<O: Output>(piece: &[u8], single: bool, output: &mut O)
+    requires ascii { IsAscii piece.now }
+    requires space { HasSpace (O.space output.old) (length piece.now) }
+    requires size { IsKernelPiece piece.now }
+    requires pair { IsTrue single → length piece.now ≡ 2 }
+    ensures { Writes O.step output.old piece.now output.new }
+{
+    if single {
+        output.write_byte(piece[0]);
+        output.write_byte(piece[1]);
+    } else {
+        output.write(piece);
+    }
+}
 
 /// Encodes bytes as digits, and decodes digits to bytes.
 ///
@@ -82,12 +99,7 @@ pub trait Kernel {
             let mut text = [0; 64];
             let piece = &mut text[..2 * bytes.len()];
             Self::fill(bytes, upper, piece);
-            if size < 2 {
-                output.write_byte(piece[0]);
-                output.write_byte(piece[1]);
-            } else {
-                output.write(piece);
-            }
+            write_piece(piece, size < 2, output);
             rest = after;
         }
     }

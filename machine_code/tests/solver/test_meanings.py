@@ -21,7 +21,7 @@ MORE = {
         .section .rodata.more; .balign 16; more: .skip 16; .ascii "0123456789abcdef" """,
     "x86_64_v3": """.intel_syntax noprefix
         vpbroadcastq ymm0, xmm1; vpbroadcastd ymm0, xmm1;
-        vpunpcklqdq ymm0, ymm1, ymm2; vpermq ymm0, ymm1, 0x8d; vpxor ymm0, ymm1, ymm2; vinserti128 ymm0, ymm1, xmm2, 1
+        vpunpckldq ymm0, ymm1, ymm2; vpunpcklqdq ymm0, ymm1, ymm2; vpermq ymm0, ymm1, 0x8d; vpxor ymm0, ymm1, ymm2; vinserti128 ymm0, ymm1, xmm2, 1
         vinserti128 ymm0, ymm1, xmm2, 0; vextracti128 xmm0, ymm1, 0; vextracti128 [rax], ymm1, 0
         vpinsrd xmm0, xmm1, eax, 2; vxorps ymm0, ymm1, ymm2; vmovaps ymm0, ymm1; vmovups ymm0, [rax]""",
     "aarch64": """

@@ -12,8 +12,14 @@
 	ldr d0, [x0]
 	movi v1.16b, #0x8f
 	sub x8, x8, #0x8
+	movi v2.16b, #0xd0
 	ld1 {v0.d}[1], [x8]
-	b 8f
+	adrp_label x8, const_hex_1_0_0_constant_1
+	ldr_label q3, x8, const_hex_1_0_0_constant_1
+	and v1.16b, v0.16b, v1.16b
+	add v0.16b, v0.16b, v2.16b
+	tbl v1.16b, {v3.16b}, v1.16b
+	b 9f
 2:
 	movi v0.16b, #0x8f
 	subs x8, x1, #0x20
@@ -45,11 +51,15 @@
 4:
 	cmp x1, #0x4
 	b.cc 7f
-	movi v0.16b, #0x30
-	movi v1.16b, #0x8f
-	ld1 {v0.s}[0], [x0], x1
-	sub x8, x0, #0x4
+	add x8, x0, x1
+	ldr s0, [x0]
+	movi v2.16b, #0x8f
+	sub x8, x8, #0x4
+	adrp_label x9, const_hex_1_0_0_constant_2
 	ld1 {v0.s}[1], [x8]
+	adrp_label x8, const_hex_1_0_0_constant_3
+	ldr_label q3, x9, const_hex_1_0_0_constant_2
+	ldr_label q1, x8, const_hex_1_0_0_constant_3
 	b 8f
 5:
 	ldp q2, q1, [x0]
@@ -70,26 +80,30 @@
 	ext v2.16b, v1.16b, v1.16b, #8
 	orr v1.8b, v1.8b, v2.8b
 	fmov x9, d1
-	cbz x9, 9f
+	cbz x9, 12f
 6:
 	mov w0, wzr
 	ret
 7:
-	cbz x1, 17f
-	cmp x1, #0x3
-	b.ne 18f
-	movi v0.16b, #0x30
-	add x8, x0, #0x1
-	movi v1.16b, #0x8f
-	ld1 {v0.h}[0], [x0]
+	cmp x1, #0x2
+	b.cc 14f
+	add x8, x0, x1
+	ldr h0, [x0]
+	movi v2.16b, #0x8f
+	sub x8, x8, #0x2
+	adrp_label x9, const_hex_1_0_0_constant_4
 	ld1 {v0.h}[1], [x8]
+	adrp_label x8, const_hex_1_0_0_constant_5
+	ldr_label q3, x9, const_hex_1_0_0_constant_4
+	ldr_label q1, x8, const_hex_1_0_0_constant_5
 8:
-	movi v2.16b, #0xd0
-	and v1.16b, v0.16b, v1.16b
 	adrp_label x8, const_hex_1_0_0_constant_1
-	ldr_label q3, x8, const_hex_1_0_0_constant_1
-	tbl v1.16b, {v3.16b}, v1.16b
-	add v0.16b, v0.16b, v2.16b
+	add v1.16b, v0.16b, v1.16b
+	and v1.16b, v1.16b, v2.16b
+	ldr_label q2, x8, const_hex_1_0_0_constant_1
+	tbl v1.16b, {v2.16b}, v1.16b
+	add v0.16b, v0.16b, v3.16b
+9:
 	uqsub v0.16b, v0.16b, v1.16b
 	movi v1.16b, #0xd8
 	and v0.16b, v0.16b, v1.16b
@@ -99,13 +113,13 @@
 	cmp x8, #0x0
 	cset w0, eq
 	ret
-9:
+12:
 	subs x9, x1, #0xa1
-	b.cc 13f
+	b.cc 15f
 	and x9, x9, #0xffffffffffffff80
 	add x10, x0, #0x80
 	add x9, x9, #0xa0
-12:
+13:
 	movi v1.16b, #0xd0
 	movi v2.16b, #0x8f
 	ldp q3, q4, [x10, #-96]
@@ -159,19 +173,32 @@
 	cbnz x11, 6b
 	sub x8, x8, #0x80
 	cmp x8, #0x80
-	b.hi 12b
+	b.hi 13b
 	sub x8, x1, x9
 	cmp x8, #0x21
-	b.cs 14f
-	b 16f
-13:
+	b.cs 16f
+	b 18f
+14:
+	cbz x1, 19f
+	ldrb w8, [x0]
+	orr w9, w8, #0x20
+	add w8, w8, w8, lsl #1
+	add w9, w9, w9, lsl #2
+	sub w8, w8, #0x90
+	sub w9, w9, #0x1e5
+	cmp w9, w8
+	csel w8, w9, w8, cc
+	cmp w8, #0x1e
+	cset w0, cc
+	ret
+15:
 	mov w9, #0x20
 	sub x8, x1, x9
 	cmp x8, #0x21
-	b.cc 16f
-14:
+	b.cc 18f
+16:
 	add x9, x0, x9
-15:
+17:
 	movi v1.16b, #0x8f
 	movi v4.16b, #0xd0
 	ldp q3, q2, [x9], #32
@@ -192,8 +219,8 @@
 	cbnz x10, 6b
 	sub x8, x8, #0x20
 	cmp x8, #0x21
-	b.cs 15b
-16:
+	b.cs 17b
+18:
 	movi v1.16b, #0x8f
 	add x8, x0, x1
 	movi v4.16b, #0xd0
@@ -209,29 +236,8 @@
 	movi v2.16b, #0xd8
 	orr v0.16b, v1.16b, v0.16b
 	b 3b
-17:
+19:
 	mov w0, #0x1
-	ret
-18:
-	add x8, x0, x1
-	ldrb w9, [x0]
-	movi v0.16b, #0x0
-	ldurb w8, [x8, #-1]
-	movi v2.16b, #0xd0
-	orr x8, x9, x8, lsl #8
-	mov w9, #0xd8d8
-	mov v0.d[0], x8
-	adrp_label x8, const_hex_1_0_0_constant_2
-	ldr_label q1, x8, const_hex_1_0_0_constant_2
-	adrp_label x8, const_hex_1_0_0_constant_1
-	ldr_label q3, x8, const_hex_1_0_0_constant_1
-	and v1.16b, v0.16b, v1.16b
-	add v0.16b, v0.16b, v2.16b
-	tbl v1.16b, {v3.16b}, v1.16b
-	uqsub v0.16b, v0.16b, v1.16b
-	umov w8, v0.h[0]
-	tst w8, w9
-	cset w0, eq
 	ret
 	end const_hex_1_0_0_check
 
@@ -242,8 +248,8 @@
 	b.ne 2f
 	ldr q1, [x0]
 	movi v0.16b, #0xf
-	adrp_label x8, const_hex_1_0_0_constant_3
-	ldr_label q3, x8, const_hex_1_0_0_constant_3
+	adrp_label x8, const_hex_1_0_0_constant_6
+	ldr_label q3, x8, const_hex_1_0_0_constant_6
 	ushr v2.16b, v1.16b, #4
 	and v0.16b, v1.16b, v0.16b
 	tbl v1.16b, {v3.16b}, v2.16b
@@ -258,10 +264,10 @@
 	ldr b0, [x0]
 	mov w8, #0x1001
 	dup v1.8h, w8
-	adrp_label x8, const_hex_1_0_0_constant_3
+	adrp_label x8, const_hex_1_0_0_constant_6
 	uxtl v0.8h, v0.8b
 	mul v0.8h, v0.8h, v1.8h
-	ldr_label q1, x8, const_hex_1_0_0_constant_3
+	ldr_label q1, x8, const_hex_1_0_0_constant_6
 	ushr v0.8h, v0.8h, #4
 	tbl v0.16b, {v1.16b}, v0.16b
 	str h0, [x2]
@@ -271,8 +277,8 @@
 	b.cs 5f
 	movi v0.16b, #0xf
 	ldr q1, [x0, x8]
-	adrp_label x9, const_hex_1_0_0_constant_3
-	ldr_label q3, x9, const_hex_1_0_0_constant_3
+	adrp_label x9, const_hex_1_0_0_constant_6
+	ldr_label q3, x9, const_hex_1_0_0_constant_6
 	add x8, x2, x8, lsl #1
 	ushr v2.16b, v1.16b, #4
 	and v1.16b, v1.16b, v0.16b
@@ -292,9 +298,9 @@
 	ldr d0, [x0]
 	mov w9, #0x1001
 	dup v1.8h, w9
-	adrp_label x9, const_hex_1_0_0_constant_3
+	adrp_label x9, const_hex_1_0_0_constant_6
 	uxtl v0.8h, v0.8b
-	ldr_label q2, x9, const_hex_1_0_0_constant_3
+	ldr_label q2, x9, const_hex_1_0_0_constant_6
 	mul v0.8h, v0.8h, v1.8h
 	ushr v0.8h, v0.8h, #4
 	tbl v0.16b, {v2.16b}, v0.16b
@@ -313,10 +319,10 @@
 	mov x10, x1
 6:
 	movi v0.16b, #0xf
-	adrp_label x11, const_hex_1_0_0_constant_3
+	adrp_label x11, const_hex_1_0_0_constant_6
 	sub x10, x10, #0x20
 	ldp q2, q4, [x9], #32
-	ldr_label q1, x11, const_hex_1_0_0_constant_3
+	ldr_label q1, x11, const_hex_1_0_0_constant_6
 	sub x11, x8, #0x20
 	cmp x10, #0x20
 	ushr v3.16b, v2.16b, #4
@@ -350,18 +356,20 @@
 8:
 	subs x8, x1, #0x4
 	b.cc 9f
-	ldr s0, [x0]
+	ldr w9, [x0]
+	fmov d0, x9
 	mov w9, #0x1001
 	dup v1.8h, w9
-	adrp_label x9, const_hex_1_0_0_constant_3
+	adrp_label x9, const_hex_1_0_0_constant_6
+	ldr_label q2, x9, const_hex_1_0_0_constant_6
 	uxtl v0.8h, v0.8b
-	ldr_label q2, x9, const_hex_1_0_0_constant_3
 	mul v0.8h, v0.8h, v1.8h
 	ushr v0.8h, v0.8h, #4
 	tbl v0.16b, {v2.16b}, v0.16b
 	str d0, [x2]
-	ldr s0, [x0, x8]
+	ldr w9, [x0, x8]
 	lsl x8, x8, #1
+	fmov d0, x9
 	uxtl v0.8h, v0.8b
 	mul v0.8h, v0.8h, v1.8h
 	ushr v0.8h, v0.8h, #4
@@ -370,19 +378,21 @@
 	ret
 9:
 	cbz x1, 7b
-	ldr h0, [x0]
+	ldrh w8, [x0]
+	fmov d0, x8
 	mov w8, #0x1001
 	dup v1.8h, w8
-	adrp_label x8, const_hex_1_0_0_constant_3
-	uxtl v0.8h, v0.8b
-	ldr_label q2, x8, const_hex_1_0_0_constant_3
+	adrp_label x8, const_hex_1_0_0_constant_6
+	ldr_label q2, x8, const_hex_1_0_0_constant_6
 	sub x8, x1, #0x2
+	uxtl v0.8h, v0.8b
 	mul v0.8h, v0.8h, v1.8h
 	ushr v0.8h, v0.8h, #4
 	tbl v0.16b, {v2.16b}, v0.16b
 	str s0, [x2]
-	ldr h0, [x0, x8]
+	ldrh w9, [x0, x8]
 	lsl x8, x8, #1
+	fmov d0, x9
 	uxtl v0.8h, v0.8b
 	mul v0.8h, v0.8h, v1.8h
 	ushr v0.8h, v0.8h, #4
@@ -398,8 +408,8 @@
 	b.ne 2f
 	ldr q1, [x0]
 	movi v0.16b, #0xf
-	adrp_label x8, const_hex_1_0_0_constant_4
-	ldr_label q3, x8, const_hex_1_0_0_constant_4
+	adrp_label x8, const_hex_1_0_0_constant_7
+	ldr_label q3, x8, const_hex_1_0_0_constant_7
 	ushr v2.16b, v1.16b, #4
 	and v0.16b, v1.16b, v0.16b
 	tbl v1.16b, {v3.16b}, v2.16b
@@ -414,10 +424,10 @@
 	ldr b0, [x0]
 	mov w8, #0x1001
 	dup v1.8h, w8
-	adrp_label x8, const_hex_1_0_0_constant_4
+	adrp_label x8, const_hex_1_0_0_constant_7
 	uxtl v0.8h, v0.8b
 	mul v0.8h, v0.8h, v1.8h
-	ldr_label q1, x8, const_hex_1_0_0_constant_4
+	ldr_label q1, x8, const_hex_1_0_0_constant_7
 	ushr v0.8h, v0.8h, #4
 	tbl v0.16b, {v1.16b}, v0.16b
 	str h0, [x2]
@@ -427,8 +437,8 @@
 	b.cs 5f
 	movi v0.16b, #0xf
 	ldr q1, [x0, x8]
-	adrp_label x9, const_hex_1_0_0_constant_4
-	ldr_label q3, x9, const_hex_1_0_0_constant_4
+	adrp_label x9, const_hex_1_0_0_constant_7
+	ldr_label q3, x9, const_hex_1_0_0_constant_7
 	add x8, x2, x8, lsl #1
 	ushr v2.16b, v1.16b, #4
 	and v1.16b, v1.16b, v0.16b
@@ -448,9 +458,9 @@
 	ldr d0, [x0]
 	mov w9, #0x1001
 	dup v1.8h, w9
-	adrp_label x9, const_hex_1_0_0_constant_4
+	adrp_label x9, const_hex_1_0_0_constant_7
 	uxtl v0.8h, v0.8b
-	ldr_label q2, x9, const_hex_1_0_0_constant_4
+	ldr_label q2, x9, const_hex_1_0_0_constant_7
 	mul v0.8h, v0.8h, v1.8h
 	ushr v0.8h, v0.8h, #4
 	tbl v0.16b, {v2.16b}, v0.16b
@@ -469,10 +479,10 @@
 	mov x10, x1
 6:
 	movi v0.16b, #0xf
-	adrp_label x11, const_hex_1_0_0_constant_4
+	adrp_label x11, const_hex_1_0_0_constant_7
 	sub x10, x10, #0x20
 	ldp q2, q4, [x9], #32
-	ldr_label q1, x11, const_hex_1_0_0_constant_4
+	ldr_label q1, x11, const_hex_1_0_0_constant_7
 	sub x11, x8, #0x20
 	cmp x10, #0x20
 	ushr v3.16b, v2.16b, #4
@@ -506,18 +516,20 @@
 8:
 	subs x8, x1, #0x4
 	b.cc 9f
-	ldr s0, [x0]
+	ldr w9, [x0]
+	fmov d0, x9
 	mov w9, #0x1001
 	dup v1.8h, w9
-	adrp_label x9, const_hex_1_0_0_constant_4
+	adrp_label x9, const_hex_1_0_0_constant_7
+	ldr_label q2, x9, const_hex_1_0_0_constant_7
 	uxtl v0.8h, v0.8b
-	ldr_label q2, x9, const_hex_1_0_0_constant_4
 	mul v0.8h, v0.8h, v1.8h
 	ushr v0.8h, v0.8h, #4
 	tbl v0.16b, {v2.16b}, v0.16b
 	str d0, [x2]
-	ldr s0, [x0, x8]
+	ldr w9, [x0, x8]
 	lsl x8, x8, #1
+	fmov d0, x9
 	uxtl v0.8h, v0.8b
 	mul v0.8h, v0.8h, v1.8h
 	ushr v0.8h, v0.8h, #4
@@ -526,19 +538,21 @@
 	ret
 9:
 	cbz x1, 7b
-	ldr h0, [x0]
+	ldrh w8, [x0]
+	fmov d0, x8
 	mov w8, #0x1001
 	dup v1.8h, w8
-	adrp_label x8, const_hex_1_0_0_constant_4
-	uxtl v0.8h, v0.8b
-	ldr_label q2, x8, const_hex_1_0_0_constant_4
+	adrp_label x8, const_hex_1_0_0_constant_7
+	ldr_label q2, x8, const_hex_1_0_0_constant_7
 	sub x8, x1, #0x2
+	uxtl v0.8h, v0.8b
 	mul v0.8h, v0.8h, v1.8h
 	ushr v0.8h, v0.8h, #4
 	tbl v0.16b, {v2.16b}, v0.16b
 	str s0, [x2]
-	ldr h0, [x0, x8]
+	ldrh w9, [x0, x8]
 	lsl x8, x8, #1
+	fmov d0, x9
 	uxtl v0.8h, v0.8b
 	mul v0.8h, v0.8h, v1.8h
 	ushr v0.8h, v0.8h, #4
@@ -552,9 +566,9 @@
 	function const_hex_1_0_0_read
 	lsl x8, x2, #1
 	cmp x2, #0x10
-	b.hi 2f
+	b.hi 3f
 	cmp x2, #0x8
-	b.cc 3f
+	b.cc 4f
 	movi v0.16b, #0x8f
 	add x8, x0, x8
 	ldr q1, [x0]
@@ -578,20 +592,21 @@
 	ext v3.16b, v2.16b, v2.16b, #8
 	orr v2.8b, v2.8b, v3.8b
 	fmov x8, d2
-	cbnz x8, 14f
+	cbnz x8, 15f
 	uzp1 v2.16b, v0.16b, v1.16b
 	uzp2 v0.16b, v0.16b, v1.16b
 	add x8, x1, x2
-	mov w0, #0x1
 	shl v1.16b, v2.16b, #4
 	orr v0.16b, v1.16b, v0.16b
 	mov d1, v0.d[1]
 	str d0, [x1]
 	stur d1, [x8, #-8]
-	ret
 2:
+	mov w0, #0x1
+	ret
+3:
 	cmp x2, #0x21
-	b.cs 4f
+	b.cs 5f
 	movi v0.16b, #0x8f
 	add x8, x0, x8
 	movi v3.16b, #0xd0
@@ -627,7 +642,7 @@
 	ext v5.16b, v4.16b, v4.16b, #8
 	orr v4.8b, v4.8b, v5.8b
 	fmov x8, d4
-	cbnz x8, 14f
+	cbnz x8, 15f
 	uzp1 v4.16b, v0.16b, v2.16b
 	uzp2 v0.16b, v0.16b, v2.16b
 	add x8, x1, x2
@@ -639,9 +654,9 @@
 	str q0, [x1]
 	stur q1, [x8, #-16]
 	ret
-3:
+4:
 	cmp x2, #0x4
-	b.cc 6f
+	b.cc 7f
 	add x8, x0, x8
 	ldr d0, [x0]
 	movi v1.16b, #0x8f
@@ -660,7 +675,7 @@
 	ext v2.16b, v1.16b, v1.16b, #8
 	orr v1.8b, v1.8b, v2.8b
 	fmov x8, d1
-	cbnz x8, 14f
+	cbnz x8, 15f
 	shl v1.16b, v0.16b, #4
 	uzp2 v0.16b, v0.16b, v0.16b
 	add x8, x1, x2
@@ -671,14 +686,14 @@
 	str s0, [x1]
 	stur s1, [x8, #-4]
 	ret
-4:
+5:
 	cmp x2, #0x41
 	adrp_label x8, const_hex_1_0_0_constant_1
-	b.cc 7f
+	b.cc 8f
 	mov x9, xzr
 	add x10, x0, #0x40
 	add x11, x1, #0x20
-5:
+6:
 	movi v0.16b, #0xd0
 	movi v1.16b, #0x8f
 	ldr_label q6, x8, const_hex_1_0_0_constant_1
@@ -738,7 +753,7 @@
 	ext v17.16b, v16.16b, v16.16b, #8
 	orr v16.8b, v16.8b, v17.8b
 	fmov x12, d16
-	cbnz x12, 14f
+	cbnz x12, 15f
 	uzp1 v16.16b, v7.16b, v6.16b
 	uzp2 v6.16b, v7.16b, v6.16b
 	sub x9, x9, #0x40
@@ -757,26 +772,30 @@
 	sli v0.16b, v4.16b, #4
 	stp q3, q6, [x11, #-32]
 	stp q0, q2, [x11], #64
-	b.hi 5b
+	b.hi 6b
 	neg x10, x9
 	sub x9, x2, x10
 	cmp x9, #0x21
-	b.cs 8f
-	b 12f
-6:
+	b.cs 9f
+	b 13f
+7:
 	cmp x2, #0x2
-	b.cc 13f
-	movi v0.16b, #0x30
-	movi v1.16b, #0x8f
-	movi v2.16b, #0xd0
-	ld1 {v0.s}[0], [x0], x8
-	sub x8, x0, #0x4
+	b.cc 14f
+	add x8, x0, x8
+	ldr s0, [x0]
+	movi v2.16b, #0x8f
+	sub x8, x8, #0x4
+	adrp_label x9, const_hex_1_0_0_constant_2
 	ld1 {v0.s}[1], [x8]
+	adrp_label x8, const_hex_1_0_0_constant_3
+	ldr_label q3, x9, const_hex_1_0_0_constant_2
+	ldr_label q1, x8, const_hex_1_0_0_constant_3
 	adrp_label x8, const_hex_1_0_0_constant_1
-	ldr_label q3, x8, const_hex_1_0_0_constant_1
-	and v1.16b, v0.16b, v1.16b
-	add v2.16b, v0.16b, v2.16b
-	tbl v1.16b, {v3.16b}, v1.16b
+	add v1.16b, v0.16b, v1.16b
+	and v1.16b, v1.16b, v2.16b
+	ldr_label q2, x8, const_hex_1_0_0_constant_1
+	tbl v1.16b, {v2.16b}, v1.16b
+	add v2.16b, v0.16b, v3.16b
 	umin v0.16b, v2.16b, v1.16b
 	movi v1.16b, #0xd8
 	sub v2.16b, v2.16b, v0.16b
@@ -784,7 +803,7 @@
 	ext v2.16b, v1.16b, v1.16b, #8
 	orr v1.8b, v1.8b, v2.8b
 	fmov x8, d1
-	cbnz x8, 14f
+	cbnz x8, 15f
 	shl v1.16b, v0.16b, #4
 	uzp2 v0.16b, v0.16b, v0.16b
 	add x8, x1, x2
@@ -795,16 +814,16 @@
 	str h0, [x1]
 	stur h1, [x8, #-2]
 	ret
-7:
+8:
 	mov x10, xzr
 	sub x9, x2, xzr
 	cmp x9, #0x21
-	b.cc 12f
-8:
+	b.cc 13f
+9:
 	add x11, x0, x10, lsl #1
 	add x10, x1, x10
 	add x11, x11, #0x20
-9:
+12:
 	movi v0.16b, #0x8f
 	ldp q2, q1, [x11, #-32]
 	ldp q4, q3, [x11], #64
@@ -838,7 +857,7 @@
 	ext v5.16b, v4.16b, v4.16b, #8
 	orr v4.8b, v4.8b, v5.8b
 	fmov x12, d4
-	cbnz x12, 14f
+	cbnz x12, 15f
 	uzp1 v4.16b, v3.16b, v2.16b
 	uzp2 v2.16b, v3.16b, v2.16b
 	sub x9, x9, #0x20
@@ -848,8 +867,8 @@
 	sli v2.16b, v4.16b, #4
 	sli v0.16b, v3.16b, #4
 	stp q0, q2, [x10], #32
-	b.hi 9b
-12:
+	b.hi 12b
+13:
 	sub x9, x2, #0x20
 	movi v0.16b, #0x8f
 	movi v3.16b, #0xd0
@@ -885,47 +904,52 @@
 	ext v5.16b, v4.16b, v4.16b, #8
 	orr v4.8b, v4.8b, v5.8b
 	fmov x8, d4
-	cbnz x8, 14f
+	cbnz x8, 15f
 	uzp1 v4.16b, v3.16b, v2.16b
 	uzp2 v2.16b, v3.16b, v2.16b
 	add x8, x1, x9
 	uzp1 v3.16b, v0.16b, v1.16b
 	uzp2 v0.16b, v0.16b, v1.16b
+	mov w0, #0x1
 	sli v2.16b, v4.16b, #4
 	sli v0.16b, v3.16b, #4
 	stp q0, q2, [x8]
-	b 15f
-13:
-	cbz x2, 15f
-	movi v0.16b, #0x0
-	ldrh w8, [x0]
-	movi v2.16b, #0xd0
-	mov w9, #0xd8d8
-	mov v0.d[0], x8
-	adrp_label x8, const_hex_1_0_0_constant_2
-	ldr_label q1, x8, const_hex_1_0_0_constant_2
-	adrp_label x8, const_hex_1_0_0_constant_1
-	ldr_label q3, x8, const_hex_1_0_0_constant_1
-	and v1.16b, v0.16b, v1.16b
-	add v2.16b, v0.16b, v2.16b
-	tbl v1.16b, {v3.16b}, v1.16b
-	umin v0.16b, v2.16b, v1.16b
-	sub v1.16b, v2.16b, v0.16b
-	umov w8, v1.h[0]
-	tst w8, w9
-	b.eq 16f
+	ret
 14:
+	cbz x2, 2b
+	add x8, x0, x8
+	ldr h0, [x0]
+	movi v2.16b, #0x8f
+	sub x8, x8, #0x2
+	adrp_label x9, const_hex_1_0_0_constant_4
+	ld1 {v0.h}[1], [x8]
+	adrp_label x8, const_hex_1_0_0_constant_5
+	ldr_label q3, x9, const_hex_1_0_0_constant_4
+	ldr_label q1, x8, const_hex_1_0_0_constant_5
+	adrp_label x8, const_hex_1_0_0_constant_1
+	add v1.16b, v0.16b, v1.16b
+	and v1.16b, v1.16b, v2.16b
+	ldr_label q2, x8, const_hex_1_0_0_constant_1
+	tbl v1.16b, {v2.16b}, v1.16b
+	add v2.16b, v0.16b, v3.16b
+	umin v0.16b, v2.16b, v1.16b
+	movi v1.16b, #0xd8
+	sub v2.16b, v2.16b, v0.16b
+	and v1.16b, v2.16b, v1.16b
+	ext v2.16b, v1.16b, v1.16b, #8
+	orr v1.8b, v1.8b, v2.8b
+	fmov x8, d1
+	cbz x8, 16f
+15:
 	mov w0, wzr
 	ret
-15:
-	mov w0, #0x1
-	ret
 16:
-	umov w8, v0.b[0]
-	umov w9, v0.b[1]
+	shl v1.16b, v0.16b, #4
+	dup v0.16b, v0.b[3]
 	mov w0, #0x1
-	orr w8, w9, w8, lsl #4
-	strb w8, [x1]
+	dup v1.16b, v1.b[2]
+	orr v0.16b, v1.16b, v0.16b
+	st1 {v0.b}[1], [x1]
 	ret
 	end const_hex_1_0_0_read
 
@@ -933,10 +957,19 @@
 	.byte 0x01, 0x0a, 0x0b, 0x0c, 0x0d, 0x0e, 0x0f, 0x08, 0x09, 0x0a, 0x00, 0x00, 0x00, 0x00, 0x00, 0x00
 
 	constant const_hex_1_0_0_constant_2, 4
-	.byte 0x8f, 0x8f, 0x00, 0x00, 0x00, 0x00, 0x00, 0x00, 0x8f, 0x8f, 0x00, 0x00, 0x00, 0x00, 0x00, 0x00
+	.byte 0xd0, 0xd0, 0xd0, 0xd0, 0xd0, 0xd0, 0xd0, 0xd0, 0x00, 0x00, 0x00, 0x00, 0x00, 0x00, 0x00, 0x00
 
 	constant const_hex_1_0_0_constant_3, 4
-	.byte 0x30, 0x31, 0x32, 0x33, 0x34, 0x35, 0x36, 0x37, 0x38, 0x39, 0x61, 0x62, 0x63, 0x64, 0x65, 0x66
+	.byte 0x00, 0x00, 0x00, 0x00, 0x00, 0x00, 0x00, 0x00, 0x30, 0x30, 0x30, 0x30, 0x30, 0x30, 0x30, 0x30
 
 	constant const_hex_1_0_0_constant_4, 4
+	.byte 0xd0, 0xd0, 0xd0, 0xd0, 0x00, 0x00, 0x00, 0x00, 0x00, 0x00, 0x00, 0x00, 0x00, 0x00, 0x00, 0x00
+
+	constant const_hex_1_0_0_constant_5, 4
+	.byte 0x00, 0x00, 0x00, 0x00, 0x30, 0x30, 0x30, 0x30, 0x30, 0x30, 0x30, 0x30, 0x30, 0x30, 0x30, 0x30
+
+	constant const_hex_1_0_0_constant_6, 4
+	.byte 0x30, 0x31, 0x32, 0x33, 0x34, 0x35, 0x36, 0x37, 0x38, 0x39, 0x61, 0x62, 0x63, 0x64, 0x65, 0x66
+
+	constant const_hex_1_0_0_constant_7, 4
 	.byte 0x30, 0x31, 0x32, 0x33, 0x34, 0x35, 0x36, 0x37, 0x38, 0x39, 0x41, 0x42, 0x43, 0x44, 0x45, 0x46

@@ -14,12 +14,7 @@
 	punpcklqdq xmm1,xmm0
 	movdqa xmm0,XMMWORD PTR [rip + const_hex_1_0_0_constant_1_v2]
 	paddb  xmm0,xmm1
-	movdqa xmm2,XMMWORD PTR [rip + const_hex_1_0_0_constant_2_v2]
-	pshufb xmm2,xmm1
-	psubusb xmm0,xmm2
-	ptest  xmm0,XMMWORD PTR [rip + const_hex_1_0_0_constant_3_v2]
-	sete   al
-	ret
+	jmp    7f
 2:
 	movdqu xmm1,XMMWORD PTR [rdi]
 	cmp    rsi,0x20
@@ -41,11 +36,13 @@
 3:
 	cmp    rsi,0x4
 	jb     6f
-	movd   xmm0,DWORD PTR [rdi]
-	pinsrd xmm0,DWORD PTR [rdi+rsi*1-0x4],0x1
-	mov    eax,0x30303030
-	pinsrd xmm0,eax,0x2
-	pinsrd xmm0,eax,0x3
+	movd   xmm0,DWORD PTR [rdi+rsi*1-0x4]
+	movd   xmm1,DWORD PTR [rdi]
+	punpckldq xmm1,xmm0
+	movq   xmm0,xmm1
+	movdqa xmm1,XMMWORD PTR [rip + const_hex_1_0_0_constant_4_v2]
+	paddb  xmm1,xmm0
+	paddb  xmm0,XMMWORD PTR [rip + const_hex_1_0_0_constant_5_v2]
 	jmp    7f
 4:
 	movdqa xmm2,XMMWORD PTR [rip + const_hex_1_0_0_constant_1_v2]
@@ -60,27 +57,19 @@
 	xor    eax,eax
 	ret
 6:
-	test   rsi,rsi
-	je     15f
-	cmp    rsi,0x3
-	jne    16f
+	cmp    rsi,0x2
+	jb     15f
 	movzx  eax,WORD PTR [rdi]
 	movd   xmm0,eax
-	pinsrw xmm0,WORD PTR [rdi+0x1],0x1
-	mov    eax,0x3030
-	pinsrw xmm0,eax,0x2
-	pinsrw xmm0,eax,0x3
-	pinsrw xmm0,eax,0x4
-	pinsrw xmm0,eax,0x5
-	pinsrw xmm0,eax,0x6
-	pinsrw xmm0,eax,0x7
-7:
-	movdqa xmm1,XMMWORD PTR [rip + const_hex_1_0_0_constant_1_v2]
+	pinsrw xmm0,WORD PTR [rdi+rsi*1-0x2],0x1
+	movdqa xmm1,XMMWORD PTR [rip + const_hex_1_0_0_constant_6_v2]
 	paddb  xmm1,xmm0
+	paddb  xmm0,XMMWORD PTR [rip + const_hex_1_0_0_constant_7_v2]
+7:
 	movdqa xmm2,XMMWORD PTR [rip + const_hex_1_0_0_constant_2_v2]
-	pshufb xmm2,xmm0
-	psubusb xmm1,xmm2
-	ptest  xmm1,XMMWORD PTR [rip + const_hex_1_0_0_constant_3_v2]
+	pshufb xmm2,xmm1
+	psubusb xmm0,xmm2
+	ptest  xmm0,XMMWORD PTR [rip + const_hex_1_0_0_constant_3_v2]
 	sete   al
 	ret
 8:
@@ -88,7 +77,7 @@
 	cmp    rsi,0x51
 	jb     12f
 	lea    rcx,[rsi-0x10]
-	.byte 0xf, 0x1f, 0x44, 0x0, 0x0  /* nop    DWORD PTR [rax+rax*1+0x0] */
+	.byte 0x66, 0x66, 0x66, 0x2e, 0xf, 0x1f, 0x84, 0x0, 0x0, 0x0, 0x0, 0x0  /* data16 data16 cs nop WORD PTR [rax+rax*1+0x0] */
 9:
 	movdqa xmm1,XMMWORD PTR [rip + const_hex_1_0_0_constant_1_v2]
 	movdqu xmm2,XMMWORD PTR [rdi+rax*1]
@@ -150,22 +139,22 @@
 	sete   al
 	ret
 15:
-	mov    al,0x1
+	test   rsi,rsi
+	je     16f
+	movzx  eax,BYTE PTR [rdi]
+	mov    ecx,eax
+	or     eax,0x20
+	lea    ecx,[rcx+rcx*2]
+	add    ecx,0xffffff70
+	lea    eax,[rax+rax*4]
+	add    eax,0xfffffe1b
+	cmp    eax,ecx
+	cmovb  ecx,eax
+	cmp    ecx,0x1e
+	setb   al
 	ret
 16:
-	movzx  eax,BYTE PTR [rdi]
-	movzx  ecx,BYTE PTR [rdi+rsi*1-0x1]
-	shl    ecx,0x8
-	or     ecx,eax
-	movd   xmm0,ecx
-	movdqa xmm1,XMMWORD PTR [rip + const_hex_1_0_0_constant_1_v2]
-	paddb  xmm1,xmm0
-	movdqa xmm2,XMMWORD PTR [rip + const_hex_1_0_0_constant_2_v2]
-	pshufb xmm2,xmm0
-	psubusb xmm1,xmm2
-	movd   eax,xmm1
-	test   eax,0xd8d8
-	sete   al
+	mov    al,0x1
 	ret
 	end const_hex_1_0_0_check_v2
 
@@ -184,7 +173,7 @@
 	por    xmm1,xmm0
 	psrlw  xmm1,0x4
 	psrlw  xmm2,0x4
-	movdqa xmm0,XMMWORD PTR [rip + const_hex_1_0_0_constant_4_v2]
+	movdqa xmm0,XMMWORD PTR [rip + const_hex_1_0_0_constant_8_v2]
 	movdqa xmm3,xmm0
 	pshufb xmm3,xmm2
 	pshufb xmm0,xmm1
@@ -201,7 +190,7 @@
 	psllw  xmm1,0xc
 	por    xmm1,xmm0
 	psrlw  xmm1,0x4
-	movdqa xmm0,XMMWORD PTR [rip + const_hex_1_0_0_constant_4_v2]
+	movdqa xmm0,XMMWORD PTR [rip + const_hex_1_0_0_constant_8_v2]
 	pshufb xmm0,xmm1
 	pextrw WORD PTR [rdx],xmm0,0x0
 	ret
@@ -218,7 +207,7 @@
 	por    xmm1,xmm0
 	psrlw  xmm1,0x4
 	psrlw  xmm2,0x4
-	movdqa xmm0,XMMWORD PTR [rip + const_hex_1_0_0_constant_4_v2]
+	movdqa xmm0,XMMWORD PTR [rip + const_hex_1_0_0_constant_8_v2]
 	movdqa xmm3,xmm0
 	pshufb xmm3,xmm2
 	movdqa xmm2,xmm0
@@ -249,7 +238,7 @@
 	psllw  xmm1,0xc
 	por    xmm1,xmm0
 	psrlw  xmm1,0x4
-	movdqa xmm0,XMMWORD PTR [rip + const_hex_1_0_0_constant_4_v2]
+	movdqa xmm0,XMMWORD PTR [rip + const_hex_1_0_0_constant_8_v2]
 	movdqa xmm2,xmm0
 	pshufb xmm2,xmm1
 	movdqu XMMWORD PTR [rdx],xmm2
@@ -276,7 +265,7 @@
 	por    xmm1,xmm0
 	psrlw  xmm1,0x4
 	psrlw  xmm2,0x4
-	movdqa xmm0,XMMWORD PTR [rip + const_hex_1_0_0_constant_4_v2]
+	movdqa xmm0,XMMWORD PTR [rip + const_hex_1_0_0_constant_8_v2]
 	movdqa xmm3,xmm0
 	pshufb xmm3,xmm2
 	movdqa xmm2,xmm0
@@ -313,7 +302,7 @@
 	psllw  xmm1,0xc
 	por    xmm1,xmm0
 	psrlw  xmm1,0x4
-	movdqa xmm0,XMMWORD PTR [rip + const_hex_1_0_0_constant_4_v2]
+	movdqa xmm0,XMMWORD PTR [rip + const_hex_1_0_0_constant_8_v2]
 	movdqa xmm2,xmm0
 	pshufb xmm2,xmm1
 	movq   QWORD PTR [rdx],xmm2
@@ -336,7 +325,7 @@
 	psllw  xmm1,0xc
 	por    xmm1,xmm0
 	psrlw  xmm1,0x4
-	movdqa xmm0,XMMWORD PTR [rip + const_hex_1_0_0_constant_4_v2]
+	movdqa xmm0,XMMWORD PTR [rip + const_hex_1_0_0_constant_8_v2]
 	movdqa xmm2,xmm0
 	pshufb xmm2,xmm1
 	movd   DWORD PTR [rdx],xmm2
@@ -367,7 +356,7 @@
 	por    xmm1,xmm0
 	psrlw  xmm1,0x4
 	psrlw  xmm2,0x4
-	movdqa xmm0,XMMWORD PTR [rip + const_hex_1_0_0_constant_5_v2]
+	movdqa xmm0,XMMWORD PTR [rip + const_hex_1_0_0_constant_9_v2]
 	movdqa xmm3,xmm0
 	pshufb xmm3,xmm2
 	pshufb xmm0,xmm1
@@ -384,7 +373,7 @@
 	psllw  xmm1,0xc
 	por    xmm1,xmm0
 	psrlw  xmm1,0x4
-	movdqa xmm0,XMMWORD PTR [rip + const_hex_1_0_0_constant_5_v2]
+	movdqa xmm0,XMMWORD PTR [rip + const_hex_1_0_0_constant_9_v2]
 	pshufb xmm0,xmm1
 	pextrw WORD PTR [rdx],xmm0,0x0
 	ret
@@ -401,7 +390,7 @@
 	por    xmm1,xmm0
 	psrlw  xmm1,0x4
 	psrlw  xmm2,0x4
-	movdqa xmm0,XMMWORD PTR [rip + const_hex_1_0_0_constant_5_v2]
+	movdqa xmm0,XMMWORD PTR [rip + const_hex_1_0_0_constant_9_v2]
 	movdqa xmm3,xmm0
 	pshufb xmm3,xmm2
 	movdqa xmm2,xmm0
@@ -432,7 +421,7 @@
 	psllw  xmm1,0xc
 	por    xmm1,xmm0
 	psrlw  xmm1,0x4
-	movdqa xmm0,XMMWORD PTR [rip + const_hex_1_0_0_constant_5_v2]
+	movdqa xmm0,XMMWORD PTR [rip + const_hex_1_0_0_constant_9_v2]
 	movdqa xmm2,xmm0
 	pshufb xmm2,xmm1
 	movdqu XMMWORD PTR [rdx],xmm2
@@ -459,7 +448,7 @@
 	por    xmm1,xmm0
 	psrlw  xmm1,0x4
 	psrlw  xmm2,0x4
-	movdqa xmm0,XMMWORD PTR [rip + const_hex_1_0_0_constant_5_v2]
+	movdqa xmm0,XMMWORD PTR [rip + const_hex_1_0_0_constant_9_v2]
 	movdqa xmm3,xmm0
 	pshufb xmm3,xmm2
 	movdqa xmm2,xmm0
@@ -496,7 +485,7 @@
 	psllw  xmm1,0xc
 	por    xmm1,xmm0
 	psrlw  xmm1,0x4
-	movdqa xmm0,XMMWORD PTR [rip + const_hex_1_0_0_constant_5_v2]
+	movdqa xmm0,XMMWORD PTR [rip + const_hex_1_0_0_constant_9_v2]
 	movdqa xmm2,xmm0
 	pshufb xmm2,xmm1
 	movq   QWORD PTR [rdx],xmm2
@@ -519,7 +508,7 @@
 	psllw  xmm1,0xc
 	por    xmm1,xmm0
 	psrlw  xmm1,0x4
-	movdqa xmm0,XMMWORD PTR [rip + const_hex_1_0_0_constant_5_v2]
+	movdqa xmm0,XMMWORD PTR [rip + const_hex_1_0_0_constant_9_v2]
 	movdqa xmm2,xmm0
 	pshufb xmm2,xmm1
 	movd   DWORD PTR [rdx],xmm2
@@ -711,18 +700,18 @@
 8:
 	cmp    rdx,0x2
 	jb     14f
+	movd   xmm0,DWORD PTR [rdi+rdx*2-0x4]
 	movd   xmm1,DWORD PTR [rdi]
-	pinsrd xmm1,DWORD PTR [rdi+rdx*2-0x4],0x1
-	mov    eax,0x30303030
-	pinsrd xmm1,eax,0x2
-	pinsrd xmm1,eax,0x3
-	movdqa xmm2,XMMWORD PTR [rip + const_hex_1_0_0_constant_1_v2]
+	punpckldq xmm1,xmm0
+	movq   xmm1,xmm1
+	movdqa xmm2,XMMWORD PTR [rip + const_hex_1_0_0_constant_4_v2]
 	paddb  xmm2,xmm1
+	paddb  xmm1,XMMWORD PTR [rip + const_hex_1_0_0_constant_5_v2]
 	movdqa xmm0,XMMWORD PTR [rip + const_hex_1_0_0_constant_2_v2]
-	pshufb xmm0,xmm1
-	pminub xmm0,xmm2
-	psubb  xmm2,xmm0
-	ptest  xmm2,XMMWORD PTR [rip + const_hex_1_0_0_constant_3_v2]
+	pshufb xmm0,xmm2
+	pminub xmm0,xmm1
+	psubb  xmm1,xmm0
+	ptest  xmm1,XMMWORD PTR [rip + const_hex_1_0_0_constant_3_v2]
 	jne    15f
 	movdqa xmm1,xmm0
 	psllw  xmm1,0xc
@@ -754,24 +743,25 @@
 	je     13b
 	movzx  ecx,WORD PTR [rdi]
 	movd   xmm1,ecx
-	movdqa xmm2,XMMWORD PTR [rip + const_hex_1_0_0_constant_1_v2]
+	pinsrw xmm1,WORD PTR [rdi+rdx*2-0x2],0x1
+	movdqa xmm2,XMMWORD PTR [rip + const_hex_1_0_0_constant_6_v2]
 	paddb  xmm2,xmm1
+	paddb  xmm1,XMMWORD PTR [rip + const_hex_1_0_0_constant_7_v2]
 	movdqa xmm0,XMMWORD PTR [rip + const_hex_1_0_0_constant_2_v2]
-	pshufb xmm0,xmm1
-	pminub xmm0,xmm2
-	psubb  xmm2,xmm0
-	movd   ecx,xmm2
-	test   ecx,0xd8d8
+	pshufb xmm0,xmm2
+	pminub xmm0,xmm1
+	psubb  xmm1,xmm0
+	ptest  xmm1,XMMWORD PTR [rip + const_hex_1_0_0_constant_3_v2]
 	je     16f
 15:
 	xor    eax,eax
 	ret
 16:
-	pextrb ecx,xmm0,0x1
-	movd   edx,xmm0
-	shl    dl,0x4
-	or     dl,cl
-	mov    BYTE PTR [rsi],dl
+	pextrw ecx,xmm0,0x1
+	mov    edx,ecx
+	shl    edx,0xc
+	add    edx,ecx
+	mov    BYTE PTR [rsi],dh
 	ret
 	end const_hex_1_0_0_read_v2
 
@@ -785,7 +775,19 @@
 	.byte 0xd8, 0xd8, 0xd8, 0xd8, 0xd8, 0xd8, 0xd8, 0xd8, 0xd8, 0xd8, 0xd8, 0xd8, 0xd8, 0xd8, 0xd8, 0xd8
 
 	constant const_hex_1_0_0_constant_4_v2, 4
-	.byte 0x30, 0x31, 0x32, 0x33, 0x34, 0x35, 0x36, 0x37, 0x38, 0x39, 0x61, 0x62, 0x63, 0x64, 0x65, 0x66
+	.byte 0x00, 0x00, 0x00, 0x00, 0x00, 0x00, 0x00, 0x00, 0x30, 0x30, 0x30, 0x30, 0x30, 0x30, 0x30, 0x30
 
 	constant const_hex_1_0_0_constant_5_v2, 4
+	.byte 0xd0, 0xd0, 0xd0, 0xd0, 0xd0, 0xd0, 0xd0, 0xd0, 0x00, 0x00, 0x00, 0x00, 0x00, 0x00, 0x00, 0x00
+
+	constant const_hex_1_0_0_constant_6_v2, 4
+	.byte 0x00, 0x00, 0x00, 0x00, 0x30, 0x30, 0x30, 0x30, 0x30, 0x30, 0x30, 0x30, 0x30, 0x30, 0x30, 0x30
+
+	constant const_hex_1_0_0_constant_7_v2, 4
+	.byte 0xd0, 0xd0, 0xd0, 0xd0, 0x00, 0x00, 0x00, 0x00, 0x00, 0x00, 0x00, 0x00, 0x00, 0x00, 0x00, 0x00
+
+	constant const_hex_1_0_0_constant_8_v2, 4
+	.byte 0x30, 0x31, 0x32, 0x33, 0x34, 0x35, 0x36, 0x37, 0x38, 0x39, 0x61, 0x62, 0x63, 0x64, 0x65, 0x66
+
+	constant const_hex_1_0_0_constant_9_v2, 4
 	.byte 0x30, 0x31, 0x32, 0x33, 0x34, 0x35, 0x36, 0x37, 0x38, 0x39, 0x41, 0x42, 0x43, 0x44, 0x45, 0x46

@@ -12,13 +12,19 @@
 	vmovq  xmm0,QWORD PTR [rdi+rsi*1-0x8]
 	vmovq  xmm1,QWORD PTR [rdi]
 	vpunpcklqdq xmm0,xmm1,xmm0
-	jmp    7f
+	vpaddb xmm1,xmm0,XMMWORD PTR [rip + const_hex_1_0_0_constant_1_v3]
+	vmovdqa xmm2,XMMWORD PTR [rip + const_hex_1_0_0_constant_2_v3]
+	vpshufb xmm0,xmm2,xmm0
+	vpsubusb xmm0,xmm1,xmm0
+	vptest xmm0,XMMWORD PTR [rip + const_hex_1_0_0_constant_3_v3]
+	sete   al
+	ret
 2:
 	cmp    rsi,0x20
 	ja     4f
 	vmovdqu xmm0,XMMWORD PTR [rdi]
 	vmovdqu xmm1,XMMWORD PTR [rdi+rsi*1-0x10]
-	vpbroadcastd xmm2,DWORD PTR [rip + const_hex_1_0_0_constant_1_v3]
+	vpbroadcastd xmm2,DWORD PTR [rip + const_hex_1_0_0_constant_4_v3]
 	vpaddb xmm3,xmm0,xmm2
 	vmovdqa xmm4,XMMWORD PTR [rip + const_hex_1_0_0_constant_2_v3]
 	vpshufb xmm0,xmm4,xmm0
@@ -33,19 +39,20 @@
 3:
 	cmp    rsi,0x4
 	jb     6f
-	vmovd  xmm0,DWORD PTR [rdi]
-	vpinsrd xmm0,xmm0,DWORD PTR [rdi+rsi*1-0x4],0x1
-	mov    eax,0x30303030
-	vpinsrd xmm0,xmm0,eax,0x2
-	vpinsrd xmm0,xmm0,eax,0x3
+	vmovd  xmm0,DWORD PTR [rdi+rsi*1-0x4]
+	vmovd  xmm1,DWORD PTR [rdi]
+	vpunpckldq xmm0,xmm1,xmm0
+	vmovq  xmm0,xmm0
+	vpaddb xmm1,xmm0,XMMWORD PTR [rip + const_hex_1_0_0_constant_5_v3]
+	vpaddb xmm0,xmm0,XMMWORD PTR [rip + const_hex_1_0_0_constant_6_v3]
 	jmp    7f
 4:
 	vmovdqu ymm1,YMMWORD PTR [rdi]
-	vpaddb ymm2,ymm1,YMMWORD PTR [rip + const_hex_1_0_0_constant_4_v3]
+	vpaddb ymm2,ymm1,YMMWORD PTR [rip + const_hex_1_0_0_constant_7_v3]
 	vbroadcasti128 ymm0,XMMWORD PTR [rip + const_hex_1_0_0_constant_2_v3]
 	vpshufb ymm1,ymm0,ymm1
 	vpsubusb ymm2,ymm2,ymm1
-	vpbroadcastq ymm1,QWORD PTR [rip + const_hex_1_0_0_constant_5_v3]
+	vpbroadcastq ymm1,QWORD PTR [rip + const_hex_1_0_0_constant_8_v3]
 	vptest ymm2,ymm1
 	je     8f
 5:
@@ -53,25 +60,17 @@
 	vzeroupper
 	ret
 6:
-	test   rsi,rsi
-	je     15f
-	cmp    rsi,0x3
-	jne    16f
+	cmp    rsi,0x2
+	jb     15f
 	movzx  eax,WORD PTR [rdi]
 	vmovd  xmm0,eax
-	vpinsrw xmm0,xmm0,WORD PTR [rdi+0x1],0x1
-	mov    eax,0x3030
-	vpinsrw xmm0,xmm0,eax,0x2
-	vpinsrw xmm0,xmm0,eax,0x3
-	vpinsrw xmm0,xmm0,eax,0x4
-	vpinsrw xmm0,xmm0,eax,0x5
-	vpinsrw xmm0,xmm0,eax,0x6
-	vpinsrw xmm0,xmm0,eax,0x7
+	vpinsrw xmm0,xmm0,WORD PTR [rdi+rsi*1-0x2],0x1
+	vpaddb xmm1,xmm0,XMMWORD PTR [rip + const_hex_1_0_0_constant_9_v3]
+	vpaddb xmm0,xmm0,XMMWORD PTR [rip + const_hex_1_0_0_constant_10_v3]
 7:
-	vpaddb xmm1,xmm0,XMMWORD PTR [rip + const_hex_1_0_0_constant_6_v3]
 	vmovdqa xmm2,XMMWORD PTR [rip + const_hex_1_0_0_constant_2_v3]
-	vpshufb xmm0,xmm2,xmm0
-	vpsubusb xmm0,xmm1,xmm0
+	vpshufb xmm1,xmm2,xmm1
+	vpsubusb xmm0,xmm0,xmm1
 	vptest xmm0,XMMWORD PTR [rip + const_hex_1_0_0_constant_3_v3]
 	sete   al
 	ret
@@ -80,9 +79,9 @@
 	cmp    rsi,0xa1
 	jb     12f
 	lea    rcx,[rsi-0x20]
-	.byte 0x66, 0x66, 0x66, 0x66, 0x2e, 0xf, 0x1f, 0x84, 0x0, 0x0, 0x0, 0x0, 0x0  /* data16 data16 data16 cs nop WORD PTR [rax+rax*1+0x0] */
+	.byte 0x66, 0xf, 0x1f, 0x44, 0x0, 0x0  /* nop    WORD PTR [rax+rax*1+0x0] */
 9:
-	vpbroadcastd ymm2,DWORD PTR [rip + const_hex_1_0_0_constant_1_v3]
+	vpbroadcastd ymm2,DWORD PTR [rip + const_hex_1_0_0_constant_4_v3]
 	vmovdqu ymm3,YMMWORD PTR [rdi+rax*1]
 	vmovdqu ymm4,YMMWORD PTR [rdi+rax*1+0x20]
 	vmovdqu ymm5,YMMWORD PTR [rdi+rax*1+0x40]
@@ -117,7 +116,7 @@
 	.byte 0xf, 0x1f, 0x44, 0x0, 0x0  /* nop    DWORD PTR [rax+rax*1+0x0] */
 13:
 	vmovdqu ymm2,YMMWORD PTR [rax]
-	vpaddb ymm3,ymm2,YMMWORD PTR [rip + const_hex_1_0_0_constant_4_v3]
+	vpaddb ymm3,ymm2,YMMWORD PTR [rip + const_hex_1_0_0_constant_7_v3]
 	vpshufb ymm2,ymm0,ymm2
 	vpsubusb ymm2,ymm3,ymm2
 	vptest ymm2,ymm1
@@ -128,7 +127,7 @@
 	jae    13b
 14:
 	vmovdqu ymm2,YMMWORD PTR [rdi+rsi*1-0x20]
-	vpaddb ymm3,ymm2,YMMWORD PTR [rip + const_hex_1_0_0_constant_4_v3]
+	vpaddb ymm3,ymm2,YMMWORD PTR [rip + const_hex_1_0_0_constant_7_v3]
 	vpshufb ymm0,ymm0,ymm2
 	vpsubusb ymm0,ymm3,ymm0
 	vptest ymm0,ymm1
@@ -136,21 +135,22 @@
 	vzeroupper
 	ret
 15:
-	mov    al,0x1
+	test   rsi,rsi
+	je     16f
+	movzx  eax,BYTE PTR [rdi]
+	mov    ecx,eax
+	or     eax,0x20
+	lea    ecx,[rcx+rcx*2]
+	add    ecx,0xffffff70
+	lea    eax,[rax+rax*4]
+	add    eax,0xfffffe1b
+	cmp    eax,ecx
+	cmovb  ecx,eax
+	cmp    ecx,0x1e
+	setb   al
 	ret
 16:
-	movzx  eax,BYTE PTR [rdi]
-	movzx  ecx,BYTE PTR [rdi+rsi*1-0x1]
-	shl    ecx,0x8
-	or     ecx,eax
-	vmovd  xmm0,ecx
-	vpaddb xmm1,xmm0,XMMWORD PTR [rip + const_hex_1_0_0_constant_6_v3]
-	vmovdqa xmm2,XMMWORD PTR [rip + const_hex_1_0_0_constant_2_v3]
-	vpshufb xmm0,xmm2,xmm0
-	vpsubusb xmm0,xmm1,xmm0
-	vmovd  eax,xmm0
-	test   eax,0xd8d8
-	sete   al
+	mov    al,0x1
 	ret
 	end const_hex_1_0_0_check_v3
 
@@ -163,7 +163,7 @@
 	vpsllw ymm1,ymm0,0xc
 	vpor   ymm0,ymm0,ymm1
 	vpsrlw ymm0,ymm0,0x4
-	vbroadcasti128 ymm1,XMMWORD PTR [rip + const_hex_1_0_0_constant_7_v3]
+	vbroadcasti128 ymm1,XMMWORD PTR [rip + const_hex_1_0_0_constant_11_v3]
 	vpshufb ymm0,ymm1,ymm0
 	vmovdqu YMMWORD PTR [rdx],ymm0
 	vzeroupper
@@ -177,7 +177,7 @@
 	vpsllw xmm1,xmm0,0xc
 	vpor   xmm0,xmm0,xmm1
 	vpsrlw xmm0,xmm0,0x4
-	vmovdqa xmm1,XMMWORD PTR [rip + const_hex_1_0_0_constant_7_v3]
+	vmovdqa xmm1,XMMWORD PTR [rip + const_hex_1_0_0_constant_11_v3]
 	vpshufb xmm0,xmm1,xmm0
 	vpextrw WORD PTR [rdx],xmm0,0x0
 	ret
@@ -188,7 +188,7 @@
 	vpsllw ymm1,ymm0,0xc
 	vpor   ymm0,ymm0,ymm1
 	vpsrlw ymm0,ymm0,0x4
-	vbroadcasti128 ymm1,XMMWORD PTR [rip + const_hex_1_0_0_constant_7_v3]
+	vbroadcasti128 ymm1,XMMWORD PTR [rip + const_hex_1_0_0_constant_11_v3]
 	vpshufb ymm0,ymm1,ymm0
 	vmovdqu YMMWORD PTR [rdx+rsi*2-0x20],ymm0
 	vpmovzxbw ymm0,XMMWORD PTR [rdi]
@@ -206,7 +206,7 @@
 	vpsllw xmm1,xmm0,0xc
 	vpor   xmm0,xmm0,xmm1
 	vpsrlw xmm0,xmm0,0x4
-	vmovdqa xmm1,XMMWORD PTR [rip + const_hex_1_0_0_constant_7_v3]
+	vmovdqa xmm1,XMMWORD PTR [rip + const_hex_1_0_0_constant_11_v3]
 	vpshufb xmm0,xmm1,xmm0
 	vmovdqu XMMWORD PTR [rdx],xmm0
 	vpmovzxbw xmm0,QWORD PTR [rdi+rsi*1-0x8]
@@ -230,7 +230,7 @@
 	vpsllw ymm1,ymm0,0xc
 	vpor   ymm0,ymm0,ymm1
 	vpsrlw ymm0,ymm0,0x4
-	vbroadcasti128 ymm1,XMMWORD PTR [rip + const_hex_1_0_0_constant_7_v3]
+	vbroadcasti128 ymm1,XMMWORD PTR [rip + const_hex_1_0_0_constant_11_v3]
 	vpshufb ymm0,ymm1,ymm0
 	vpmovzxbw ymm2,XMMWORD PTR [rdi+r8*1+0x10]
 	vmovdqu YMMWORD PTR [rdx+r8*2],ymm0
@@ -265,7 +265,7 @@
 	vpsllw xmm1,xmm0,0xc
 	vpor   xmm0,xmm0,xmm1
 	vpsrlw xmm0,xmm0,0x4
-	vmovdqa xmm1,XMMWORD PTR [rip + const_hex_1_0_0_constant_7_v3]
+	vmovdqa xmm1,XMMWORD PTR [rip + const_hex_1_0_0_constant_11_v3]
 	vpshufb xmm0,xmm1,xmm0
 	vmovq  QWORD PTR [rdx],xmm0
 	vmovd  xmm0,DWORD PTR [rdi+rsi*1-0x4]
@@ -283,7 +283,7 @@
 	vpsllw ymm1,ymm0,0xc
 	vpor   ymm0,ymm0,ymm1
 	vpsrlw ymm0,ymm0,0x4
-	vbroadcasti128 ymm1,XMMWORD PTR [rip + const_hex_1_0_0_constant_7_v3]
+	vbroadcasti128 ymm1,XMMWORD PTR [rip + const_hex_1_0_0_constant_11_v3]
 	vpshufb ymm0,ymm1,ymm0
 	vpmovzxbw ymm2,XMMWORD PTR [rdi+r8*1+0x10]
 	vmovdqu YMMWORD PTR [rdx+r8*2],ymm0
@@ -297,7 +297,7 @@
 	vpsllw ymm1,ymm0,0xc
 	vpor   ymm0,ymm0,ymm1
 	vpsrlw ymm0,ymm0,0x4
-	vbroadcasti128 ymm1,XMMWORD PTR [rip + const_hex_1_0_0_constant_7_v3]
+	vbroadcasti128 ymm1,XMMWORD PTR [rip + const_hex_1_0_0_constant_11_v3]
 	vpshufb ymm0,ymm1,ymm0
 	vpmovzxbw ymm2,XMMWORD PTR [rdi+rsi*1-0x10]
 	vmovdqu YMMWORD PTR [rdx+rsi*2-0x40],ymm0
@@ -314,12 +314,12 @@
 	je     13b
 	movzx  eax,WORD PTR [rdi]
 	vmovd  xmm0,eax
-	vmovdqa xmm1,XMMWORD PTR [rip + const_hex_1_0_0_constant_8_v3]
+	vmovdqa xmm1,XMMWORD PTR [rip + const_hex_1_0_0_constant_12_v3]
 	vpshufb xmm0,xmm0,xmm1
 	vpsllw xmm2,xmm0,0xc
 	vpor   xmm0,xmm0,xmm2
 	vpsrlw xmm0,xmm0,0x4
-	vmovdqa xmm2,XMMWORD PTR [rip + const_hex_1_0_0_constant_7_v3]
+	vmovdqa xmm2,XMMWORD PTR [rip + const_hex_1_0_0_constant_11_v3]
 	vpshufb xmm0,xmm2,xmm0
 	vmovd  DWORD PTR [rdx],xmm0
 	movzx  eax,WORD PTR [rdi+rsi*1-0x2]
@@ -342,7 +342,7 @@
 	vpsllw ymm1,ymm0,0xc
 	vpor   ymm0,ymm0,ymm1
 	vpsrlw ymm0,ymm0,0x4
-	vbroadcasti128 ymm1,XMMWORD PTR [rip + const_hex_1_0_0_constant_9_v3]
+	vbroadcasti128 ymm1,XMMWORD PTR [rip + const_hex_1_0_0_constant_13_v3]
 	vpshufb ymm0,ymm1,ymm0
 	vmovdqu YMMWORD PTR [rdx],ymm0
 	vzeroupper
@@ -356,7 +356,7 @@
 	vpsllw xmm1,xmm0,0xc
 	vpor   xmm0,xmm0,xmm1
 	vpsrlw xmm0,xmm0,0x4
-	vmovdqa xmm1,XMMWORD PTR [rip + const_hex_1_0_0_constant_9_v3]
+	vmovdqa xmm1,XMMWORD PTR [rip + const_hex_1_0_0_constant_13_v3]
 	vpshufb xmm0,xmm1,xmm0
 	vpextrw WORD PTR [rdx],xmm0,0x0
 	ret
@@ -367,7 +367,7 @@
 	vpsllw ymm1,ymm0,0xc
 	vpor   ymm0,ymm0,ymm1
 	vpsrlw ymm0,ymm0,0x4
-	vbroadcasti128 ymm1,XMMWORD PTR [rip + const_hex_1_0_0_constant_9_v3]
+	vbroadcasti128 ymm1,XMMWORD PTR [rip + const_hex_1_0_0_constant_13_v3]
 	vpshufb ymm0,ymm1,ymm0
 	vmovdqu YMMWORD PTR [rdx+rsi*2-0x20],ymm0
 	vpmovzxbw ymm0,XMMWORD PTR [rdi]
@@ -385,7 +385,7 @@
 	vpsllw xmm1,xmm0,0xc
 	vpor   xmm0,xmm0,xmm1
 	vpsrlw xmm0,xmm0,0x4
-	vmovdqa xmm1,XMMWORD PTR [rip + const_hex_1_0_0_constant_9_v3]
+	vmovdqa xmm1,XMMWORD PTR [rip + const_hex_1_0_0_constant_13_v3]
 	vpshufb xmm0,xmm1,xmm0
 	vmovdqu XMMWORD PTR [rdx],xmm0
 	vpmovzxbw xmm0,QWORD PTR [rdi+rsi*1-0x8]
@@ -409,7 +409,7 @@
 	vpsllw ymm1,ymm0,0xc
 	vpor   ymm0,ymm0,ymm1
 	vpsrlw ymm0,ymm0,0x4
-	vbroadcasti128 ymm1,XMMWORD PTR [rip + const_hex_1_0_0_constant_9_v3]
+	vbroadcasti128 ymm1,XMMWORD PTR [rip + const_hex_1_0_0_constant_13_v3]
 	vpshufb ymm0,ymm1,ymm0
 	vpmovzxbw ymm2,XMMWORD PTR [rdi+r8*1+0x10]
 	vmovdqu YMMWORD PTR [rdx+r8*2],ymm0
@@ -444,7 +444,7 @@
 	vpsllw xmm1,xmm0,0xc
 	vpor   xmm0,xmm0,xmm1
 	vpsrlw xmm0,xmm0,0x4
-	vmovdqa xmm1,XMMWORD PTR [rip + const_hex_1_0_0_constant_9_v3]
+	vmovdqa xmm1,XMMWORD PTR [rip + const_hex_1_0_0_constant_13_v3]
 	vpshufb xmm0,xmm1,xmm0
 	vmovq  QWORD PTR [rdx],xmm0
 	vmovd  xmm0,DWORD PTR [rdi+rsi*1-0x4]
@@ -462,7 +462,7 @@
 	vpsllw ymm1,ymm0,0xc
 	vpor   ymm0,ymm0,ymm1
 	vpsrlw ymm0,ymm0,0x4
-	vbroadcasti128 ymm1,XMMWORD PTR [rip + const_hex_1_0_0_constant_9_v3]
+	vbroadcasti128 ymm1,XMMWORD PTR [rip + const_hex_1_0_0_constant_13_v3]
 	vpshufb ymm0,ymm1,ymm0
 	vpmovzxbw ymm2,XMMWORD PTR [rdi+r8*1+0x10]
 	vmovdqu YMMWORD PTR [rdx+r8*2],ymm0
@@ -476,7 +476,7 @@
 	vpsllw ymm1,ymm0,0xc
 	vpor   ymm0,ymm0,ymm1
 	vpsrlw ymm0,ymm0,0x4
-	vbroadcasti128 ymm1,XMMWORD PTR [rip + const_hex_1_0_0_constant_9_v3]
+	vbroadcasti128 ymm1,XMMWORD PTR [rip + const_hex_1_0_0_constant_13_v3]
 	vpshufb ymm0,ymm1,ymm0
 	vpmovzxbw ymm2,XMMWORD PTR [rdi+rsi*1-0x10]
 	vmovdqu YMMWORD PTR [rdx+rsi*2-0x40],ymm0
@@ -493,12 +493,12 @@
 	je     13b
 	movzx  eax,WORD PTR [rdi]
 	vmovd  xmm0,eax
-	vmovdqa xmm1,XMMWORD PTR [rip + const_hex_1_0_0_constant_8_v3]
+	vmovdqa xmm1,XMMWORD PTR [rip + const_hex_1_0_0_constant_12_v3]
 	vpshufb xmm0,xmm0,xmm1
 	vpsllw xmm2,xmm0,0xc
 	vpor   xmm0,xmm0,xmm2
 	vpsrlw xmm0,xmm0,0x4
-	vmovdqa xmm2,XMMWORD PTR [rip + const_hex_1_0_0_constant_9_v3]
+	vmovdqa xmm2,XMMWORD PTR [rip + const_hex_1_0_0_constant_13_v3]
 	vpshufb xmm0,xmm2,xmm0
 	vmovd  DWORD PTR [rdx],xmm0
 	movzx  eax,WORD PTR [rdi+rsi*1-0x2]
@@ -521,7 +521,7 @@
 	jb     3f
 	vmovdqu xmm0,XMMWORD PTR [rdi]
 	vmovdqu xmm1,XMMWORD PTR [rdi+rdx*2-0x10]
-	vpbroadcastd xmm2,DWORD PTR [rip + const_hex_1_0_0_constant_1_v3]
+	vpbroadcastd xmm2,DWORD PTR [rip + const_hex_1_0_0_constant_4_v3]
 	vpaddb xmm3,xmm0,xmm2
 	vmovdqa xmm4,XMMWORD PTR [rip + const_hex_1_0_0_constant_2_v3]
 	vpshufb xmm0,xmm4,xmm0
@@ -548,7 +548,7 @@
 	jae    4f
 	vmovdqu ymm0,YMMWORD PTR [rdi]
 	vmovdqu ymm1,YMMWORD PTR [rdi+rdx*2-0x20]
-	vpbroadcastd ymm2,DWORD PTR [rip + const_hex_1_0_0_constant_1_v3]
+	vpbroadcastd ymm2,DWORD PTR [rip + const_hex_1_0_0_constant_4_v3]
 	vpaddb ymm3,ymm0,ymm2
 	vbroadcasti128 ymm4,XMMWORD PTR [rip + const_hex_1_0_0_constant_2_v3]
 	vpshufb ymm0,ymm4,ymm0
@@ -559,7 +559,7 @@
 	vpminub ymm1,ymm2,ymm1
 	vpsubb ymm2,ymm2,ymm1
 	vpor   ymm2,ymm2,ymm3
-	vpbroadcastq ymm3,QWORD PTR [rip + const_hex_1_0_0_constant_5_v3]
+	vpbroadcastq ymm3,QWORD PTR [rip + const_hex_1_0_0_constant_8_v3]
 	vptest ymm2,ymm3
 	jne    15f
 	vpsllw ymm2,ymm0,0xc
@@ -579,7 +579,7 @@
 	vmovq  xmm0,QWORD PTR [rdi+rdx*2-0x8]
 	vmovq  xmm1,QWORD PTR [rdi]
 	vpunpcklqdq xmm0,xmm1,xmm0
-	vpaddb xmm1,xmm0,XMMWORD PTR [rip + const_hex_1_0_0_constant_6_v3]
+	vpaddb xmm1,xmm0,XMMWORD PTR [rip + const_hex_1_0_0_constant_1_v3]
 	vmovdqa xmm2,XMMWORD PTR [rip + const_hex_1_0_0_constant_2_v3]
 	vpshufb xmm0,xmm2,xmm0
 	vpminub xmm0,xmm1,xmm0
@@ -588,7 +588,7 @@
 	jne    15f
 	vpsllw xmm1,xmm0,0xc
 	vpaddw xmm0,xmm0,xmm1
-	vpshufb xmm0,xmm0,XMMWORD PTR [rip + const_hex_1_0_0_constant_10_v3]
+	vpshufb xmm0,xmm0,XMMWORD PTR [rip + const_hex_1_0_0_constant_14_v3]
 	vmovd  DWORD PTR [rsi],xmm0
 	vpextrd DWORD PTR [rsi+rdx*1-0x4],xmm0,0x1
 	jmp    12f
@@ -598,7 +598,7 @@
 	jb     6f
 	mov    rcx,rdx
 5:
-	vpbroadcastd ymm3,DWORD PTR [rip + const_hex_1_0_0_constant_1_v3]
+	vpbroadcastd ymm3,DWORD PTR [rip + const_hex_1_0_0_constant_4_v3]
 	vmovdqu ymm0,YMMWORD PTR [rdi+rax*2]
 	vmovdqu ymm1,YMMWORD PTR [rdi+rax*2+0x20]
 	vmovdqu ymm4,YMMWORD PTR [rdi+rax*2+0x40]
@@ -623,7 +623,7 @@
 	vpsubb ymm5,ymm8,ymm3
 	vpor   ymm4,ymm4,ymm5
 	vpor   ymm4,ymm7,ymm4
-	vpbroadcastq ymm5,QWORD PTR [rip + const_hex_1_0_0_constant_5_v3]
+	vpbroadcastq ymm5,QWORD PTR [rip + const_hex_1_0_0_constant_8_v3]
 	vptest ymm4,ymm5
 	jne    15f
 	vpsllw ymm4,ymm0,0xc
@@ -657,7 +657,7 @@
 7:
 	vmovdqu ymm0,YMMWORD PTR [rdi+rax*2]
 	vmovdqu ymm1,YMMWORD PTR [rdi+rax*2+0x20]
-	vpbroadcastd ymm2,DWORD PTR [rip + const_hex_1_0_0_constant_1_v3]
+	vpbroadcastd ymm2,DWORD PTR [rip + const_hex_1_0_0_constant_4_v3]
 	vpaddb ymm3,ymm0,ymm2
 	vbroadcasti128 ymm4,XMMWORD PTR [rip + const_hex_1_0_0_constant_2_v3]
 	vpshufb ymm0,ymm4,ymm0
@@ -668,7 +668,7 @@
 	vpminub ymm1,ymm2,ymm1
 	vpsubb ymm2,ymm2,ymm1
 	vpor   ymm2,ymm2,ymm3
-	vpbroadcastq ymm3,QWORD PTR [rip + const_hex_1_0_0_constant_5_v3]
+	vpbroadcastq ymm3,QWORD PTR [rip + const_hex_1_0_0_constant_8_v3]
 	vptest ymm2,ymm3
 	jne    15f
 	vpsllw ymm2,ymm0,0xc
@@ -687,7 +687,7 @@
 8:
 	vmovdqu ymm0,YMMWORD PTR [rdi+rdx*2-0x40]
 	vmovdqu ymm1,YMMWORD PTR [rdi+rdx*2-0x20]
-	vpbroadcastd ymm2,DWORD PTR [rip + const_hex_1_0_0_constant_1_v3]
+	vpbroadcastd ymm2,DWORD PTR [rip + const_hex_1_0_0_constant_4_v3]
 	vpaddb ymm3,ymm0,ymm2
 	vbroadcasti128 ymm4,XMMWORD PTR [rip + const_hex_1_0_0_constant_2_v3]
 	vpshufb ymm0,ymm4,ymm0
@@ -698,7 +698,7 @@
 	vpminub ymm1,ymm2,ymm1
 	vpsubb ymm2,ymm2,ymm1
 	vpor   ymm2,ymm2,ymm3
-	vpbroadcastq ymm3,QWORD PTR [rip + const_hex_1_0_0_constant_5_v3]
+	vpbroadcastq ymm3,QWORD PTR [rip + const_hex_1_0_0_constant_8_v3]
 	vptest ymm2,ymm3
 	jne    15f
 	vpsllw ymm2,ymm0,0xc
@@ -714,21 +714,21 @@
 9:
 	cmp    rdx,0x2
 	jb     14f
-	vmovd  xmm0,DWORD PTR [rdi]
-	vpinsrd xmm0,xmm0,DWORD PTR [rdi+rdx*2-0x4],0x1
-	mov    eax,0x30303030
-	vpinsrd xmm0,xmm0,eax,0x2
-	vpinsrd xmm0,xmm0,eax,0x3
-	vpaddb xmm1,xmm0,XMMWORD PTR [rip + const_hex_1_0_0_constant_6_v3]
-	vmovdqa xmm2,XMMWORD PTR [rip + const_hex_1_0_0_constant_2_v3]
-	vpshufb xmm0,xmm2,xmm0
-	vpminub xmm0,xmm1,xmm0
-	vpsubb xmm1,xmm1,xmm0
+	vmovd  xmm0,DWORD PTR [rdi+rdx*2-0x4]
+	vmovd  xmm1,DWORD PTR [rdi]
+	vpunpckldq xmm0,xmm1,xmm0
+	vmovq  xmm0,xmm0
+	vpaddb xmm1,xmm0,XMMWORD PTR [rip + const_hex_1_0_0_constant_5_v3]
+	vpaddb xmm2,xmm0,XMMWORD PTR [rip + const_hex_1_0_0_constant_6_v3]
+	vmovdqa xmm0,XMMWORD PTR [rip + const_hex_1_0_0_constant_2_v3]
+	vpshufb xmm0,xmm0,xmm1
+	vpminub xmm0,xmm2,xmm0
+	vpsubb xmm1,xmm2,xmm0
 	vptest xmm1,XMMWORD PTR [rip + const_hex_1_0_0_constant_3_v3]
 	jne    15f
 	vpsllw xmm1,xmm0,0xc
 	vpaddw xmm0,xmm0,xmm1
-	vpshufb xmm0,xmm0,XMMWORD PTR [rip + const_hex_1_0_0_constant_11_v3]
+	vpshufb xmm0,xmm0,XMMWORD PTR [rip + const_hex_1_0_0_constant_15_v3]
 	vpextrw WORD PTR [rsi],xmm0,0x0
 	vpextrw WORD PTR [rsi+rdx*1-0x2],xmm0,0x1
 12:
@@ -742,29 +742,30 @@
 	je     13b
 	movzx  ecx,WORD PTR [rdi]
 	vmovd  xmm0,ecx
-	vpaddb xmm1,xmm0,XMMWORD PTR [rip + const_hex_1_0_0_constant_6_v3]
-	vmovdqa xmm2,XMMWORD PTR [rip + const_hex_1_0_0_constant_2_v3]
-	vpshufb xmm0,xmm2,xmm0
-	vpminub xmm0,xmm1,xmm0
-	vpsubb xmm1,xmm1,xmm0
-	vmovd  ecx,xmm1
-	test   ecx,0xd8d8
+	vpinsrw xmm0,xmm0,WORD PTR [rdi+rdx*2-0x2],0x1
+	vpaddb xmm1,xmm0,XMMWORD PTR [rip + const_hex_1_0_0_constant_9_v3]
+	vpaddb xmm2,xmm0,XMMWORD PTR [rip + const_hex_1_0_0_constant_10_v3]
+	vmovdqa xmm0,XMMWORD PTR [rip + const_hex_1_0_0_constant_2_v3]
+	vpshufb xmm0,xmm0,xmm1
+	vpminub xmm0,xmm2,xmm0
+	vpsubb xmm1,xmm2,xmm0
+	vptest xmm1,XMMWORD PTR [rip + const_hex_1_0_0_constant_3_v3]
 	je     16f
 15:
 	xor    eax,eax
 	vzeroupper
 	ret
 16:
-	vpextrb ecx,xmm0,0x1
-	vmovd  edx,xmm0
-	shl    dl,0x4
-	or     dl,cl
-	mov    BYTE PTR [rsi],dl
+	vpextrw ecx,xmm0,0x1
+	mov    edx,ecx
+	shl    edx,0xc
+	add    edx,ecx
+	mov    BYTE PTR [rsi],dh
 	ret
 	end const_hex_1_0_0_read_v3
 
-	constant const_hex_1_0_0_constant_1_v3, 2
-	.byte 0xd0, 0xd0, 0xd0, 0xd0
+	constant const_hex_1_0_0_constant_1_v3, 4
+	.byte 0xd0, 0xd0, 0xd0, 0xd0, 0xd0, 0xd0, 0xd0, 0xd0, 0xd0, 0xd0, 0xd0, 0xd0, 0xd0, 0xd0, 0xd0, 0xd0
 
 	constant const_hex_1_0_0_constant_2_v3, 4
 	.byte 0x01, 0x0a, 0x0b, 0x0c, 0x0d, 0x0e, 0x0f, 0x08, 0x09, 0x0a, 0x00, 0x00, 0x00, 0x00, 0x00, 0x00
@@ -772,27 +773,39 @@
 	constant const_hex_1_0_0_constant_3_v3, 4
 	.byte 0xd8, 0xd8, 0xd8, 0xd8, 0xd8, 0xd8, 0xd8, 0xd8, 0xd8, 0xd8, 0xd8, 0xd8, 0xd8, 0xd8, 0xd8, 0xd8
 
-	constant const_hex_1_0_0_constant_4_v3, 5
-	.byte 0xd0, 0xd0, 0xd0, 0xd0, 0xd0, 0xd0, 0xd0, 0xd0, 0xd0, 0xd0, 0xd0, 0xd0, 0xd0, 0xd0, 0xd0, 0xd0
-	.byte 0xd0, 0xd0, 0xd0, 0xd0, 0xd0, 0xd0, 0xd0, 0xd0, 0xd0, 0xd0, 0xd0, 0xd0, 0xd0, 0xd0, 0xd0, 0xd0
+	constant const_hex_1_0_0_constant_4_v3, 2
+	.byte 0xd0, 0xd0, 0xd0, 0xd0
 
-	constant const_hex_1_0_0_constant_5_v3, 3
-	.byte 0xd8, 0xd8, 0xd8, 0xd8, 0xd8, 0xd8, 0xd8, 0xd8
+	constant const_hex_1_0_0_constant_5_v3, 4
+	.byte 0x00, 0x00, 0x00, 0x00, 0x00, 0x00, 0x00, 0x00, 0x30, 0x30, 0x30, 0x30, 0x30, 0x30, 0x30, 0x30
 
 	constant const_hex_1_0_0_constant_6_v3, 4
+	.byte 0xd0, 0xd0, 0xd0, 0xd0, 0xd0, 0xd0, 0xd0, 0xd0, 0x00, 0x00, 0x00, 0x00, 0x00, 0x00, 0x00, 0x00
+
+	constant const_hex_1_0_0_constant_7_v3, 5
+	.byte 0xd0, 0xd0, 0xd0, 0xd0, 0xd0, 0xd0, 0xd0, 0xd0, 0xd0, 0xd0, 0xd0, 0xd0, 0xd0, 0xd0, 0xd0, 0xd0
 	.byte 0xd0, 0xd0, 0xd0, 0xd0, 0xd0, 0xd0, 0xd0, 0xd0, 0xd0, 0xd0, 0xd0, 0xd0, 0xd0, 0xd0, 0xd0, 0xd0
 
-	constant const_hex_1_0_0_constant_7_v3, 4
-	.byte 0x30, 0x31, 0x32, 0x33, 0x34, 0x35, 0x36, 0x37, 0x38, 0x39, 0x61, 0x62, 0x63, 0x64, 0x65, 0x66
-
-	constant const_hex_1_0_0_constant_8_v3, 4
-	.byte 0x00, 0x80, 0x01, 0x80, 0x02, 0x80, 0x03, 0x80, 0x80, 0x80, 0x80, 0x80, 0x80, 0x80, 0x80, 0x80
+	constant const_hex_1_0_0_constant_8_v3, 3
+	.byte 0xd8, 0xd8, 0xd8, 0xd8, 0xd8, 0xd8, 0xd8, 0xd8
 
 	constant const_hex_1_0_0_constant_9_v3, 4
-	.byte 0x30, 0x31, 0x32, 0x33, 0x34, 0x35, 0x36, 0x37, 0x38, 0x39, 0x41, 0x42, 0x43, 0x44, 0x45, 0x46
+	.byte 0x00, 0x00, 0x00, 0x00, 0x30, 0x30, 0x30, 0x30, 0x30, 0x30, 0x30, 0x30, 0x30, 0x30, 0x30, 0x30
 
 	constant const_hex_1_0_0_constant_10_v3, 4
-	.byte 0x01, 0x03, 0x05, 0x07, 0x09, 0x0b, 0x0d, 0x0f, 0x00, 0x00, 0x00, 0x00, 0x00, 0x00, 0x00, 0x00
+	.byte 0xd0, 0xd0, 0xd0, 0xd0, 0x00, 0x00, 0x00, 0x00, 0x00, 0x00, 0x00, 0x00, 0x00, 0x00, 0x00, 0x00
 
 	constant const_hex_1_0_0_constant_11_v3, 4
+	.byte 0x30, 0x31, 0x32, 0x33, 0x34, 0x35, 0x36, 0x37, 0x38, 0x39, 0x61, 0x62, 0x63, 0x64, 0x65, 0x66
+
+	constant const_hex_1_0_0_constant_12_v3, 4
+	.byte 0x00, 0x80, 0x01, 0x80, 0x02, 0x80, 0x03, 0x80, 0x80, 0x80, 0x80, 0x80, 0x80, 0x80, 0x80, 0x80
+
+	constant const_hex_1_0_0_constant_13_v3, 4
+	.byte 0x30, 0x31, 0x32, 0x33, 0x34, 0x35, 0x36, 0x37, 0x38, 0x39, 0x41, 0x42, 0x43, 0x44, 0x45, 0x46
+
+	constant const_hex_1_0_0_constant_14_v3, 4
+	.byte 0x01, 0x03, 0x05, 0x07, 0x09, 0x0b, 0x0d, 0x0f, 0x00, 0x00, 0x00, 0x00, 0x00, 0x00, 0x00, 0x00
+
+	constant const_hex_1_0_0_constant_15_v3, 4
 	.byte 0x01, 0x03, 0x05, 0x07, 0x00, 0x00, 0x00, 0x00, 0x00, 0x00, 0x00, 0x00, 0x00, 0x00, 0x00, 0x00

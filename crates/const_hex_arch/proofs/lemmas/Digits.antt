@@ -1,8 +1,8 @@
 -- Digits, their values, and texts of digits.
-use Rattle.std.proofs.Common.{◌≡◌, ℕ, ◌<◌, ◌≤◌, ◌-◌, [], ◌∷◌, ◌≢◌, get_or, bit_or, Option, Some, IsSome, IsNone, refl, arith, ◌+◌, ◌↔◌, List, ◌++◌, length, take, drop, take-append-drop, take_at, drop_at, slice_index_or}
+use Rattle.std.proofs.Common.{◌≡◌, ℕ, ◌<◌, ◌≢◌, get_or, bit_or, Option, Some, IsSome, IsNone, refl, arith, ◌+◌, ◌↔◌, List, ◌++◌, length, take, drop, take-append-drop, take_at, drop_at}
 use Rattle.std.proofs.lemmas.Bool.Decides.{nat_tests}
 use Rattle.std.proofs.lemmas.Nat.{le_or_l, le_or_r}
-use Rattle.std.proofs.lemmas.List.Elements.{All-append, All-take, All-drop, All-get_or, All-more, All-head, All-tail, All-cons}
+use Rattle.std.proofs.lemmas.List.Elements.{All-append, All-take, All-drop, All-get_or, All-more}
 use Rattle.const_hex_arch.specs.declared.tables.TheConstants.{HEX_DECODE_LUT}
 use Rattle.const_hex_arch.specs.{hex_value, value_or_nil, IsDigit, AllDigits}
 use Rattle.const_hex_arch.proofs.lemmas.Standard.{same_below}
@@ -61,11 +61,3 @@ digits_more u i a h n =
 -- the look-up takes each byte of digits for one
 pub digit_values : (u : List ℕ) (i : ℕ) → AllDigits u → i < length u → value_or_nil (hex_value (get_or u i 0)) ≢ 255
 digit_values u i a h = let d = All-get_or IsDigit u i 0 h a in grind (arith, nat_tests)
-
--- the first and the last of one or two bytes
-pub digits_two : (u : List ℕ) → 1 ≤ length u → length u ≤ 2
-    → AllDigits (slice_index_or u 0 0 ∷ slice_index_or u (length u - 1) 0 ∷ []) ↔ AllDigits u
-digits_two [] h k = absurd (omega arith)
-digits_two (a ∷ []) h k = (All-tail IsDigit a (a ∷ []), λ one. All-cons IsDigit a (a ∷ []) (All-head IsDigit a [] one) one)
-digits_two (a ∷ b ∷ []) h k = (λ d. d, λ d. d)
-digits_two (a ∷ b ∷ c ∷ u) h k = absurd (omega arith)

@@ -1,14 +1,14 @@
 -- Look-ups in vectors, the text of lanes, and lanes that are interleaved.
-use Rattle.std.proofs.Common.{◌≡◌, ℕ, ◌*◌, Bool, ltb, T, ◌||◌, List, [], ◌∷◌, ◌++◌, length, replicate, bit_and, sym, subst, ◌∙◌, arith, w8, Fits, length-append, zero, suc, ◌+◌, ◌/◌, ◌%◌, ◌^◌, ◌<◌, true, false, eqb, map, get_or, refl, ap, eqb→eq, bit_or, take}
+use Rattle.std.proofs.Common.{◌≡◌, ℕ, ◌*◌, Bool, ltb, T, ◌||◌, List, [], ◌∷◌, ◌++◌, length, replicate, bit_and, sym, subst, ◌∙◌, arith, w8, Fits, length-append, zero, suc, ◌+◌, ◌/◌, ◌%◌, ◌^◌, ◌<◌, true, false, eqb, map, get_or, refl, ap, eqb→eq, bit_or}
 use Rattle.std.specs.List.{AllZip, range_with_len, concat}
 use Rattle.std.proofs.lemmas.Grind.{common_steps}
-use Rattle.std.proofs.lemmas.Simd.{Each1-chunk, SwzOk, SwzOk-from_Each1, length-zip2, length-replicate, pick_l-range_with_len, Each1-get_or, SwzOk-from_below, swz_l, length-swz_l, get_or-swz_l_below}
+use Rattle.std.proofs.lemmas.Simd.{SwzOk, SwzOk-from_Each1, length-zip2, length-replicate, pick_l-range_with_len, Each1-get_or, SwzOk-from_below, swz_l, length-swz_l, get_or-swz_l_below}
 use lib.Lanes.{zip2, Each1, pick_l, number_l, digits_l}
 use mir.Val.{zeroes}
 use Rattle.std.proofs.lemmas.List.{append-nil, ext_get_or, get_or-map, length-map}
 use Rattle.const_hex_arch.proofs.lemmas.Standard.{holds_below, every_below, every_pair, same_below}
 use Rattle.const_hex_arch.specs.{hex_digit, hex_text, halves_of, AllNibbles, byte_pairs}
-use Rattle.const_hex_arch.proofs.lemmas.LaneMarks.{joined}
+use Rattle.const_hex_arch.proofs.lemmas.LaneValues.{joined}
 use Rattle.const_hex_arch.proofs.lemmas.Texts.{hex_text-append}
 
 -- ---- the positions that lanes read
@@ -90,10 +90,6 @@ pub halves_ok : (b n : ℕ) (v : List ℕ) → (length v ≡ n) × Each1 (Fits w
     → SwzOk w8 16 (2 * n) 0 (halves_of v)
 halves_ok b n v f e =
     SwzOk-from_below w8 16 b (2 * n) 0 (halves_of v) e (omega (arith, length-halves_of v, f.0)) (halves_below v f.1)
-
--- the first half of 16 lanes
-pub first_half : (v : List ℕ) → (length v ≡ 16) × Each1 (Fits w8) v → (length (take 8 v) ≡ 8) × Each1 (Fits w8) (take 8 v)
-first_half v f = (grind (arith, f.0, common_steps), Each1-chunk (Fits w8) 0 8 v f.1)
 
 -- ---- their digits
 

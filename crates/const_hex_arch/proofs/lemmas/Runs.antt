@@ -6,21 +6,13 @@ use Rattle.std.proofs.lemmas.List.Folds.{concat-append}
 use Rattle.const_hex_arch.specs.{Gathers, piece_of, HasSpace, less_space, IsKernelPiece, Writes}
 pub use Rattle.const_hex_arch.specs.Laws.{less_space-add, run_shrinks}
 
--- what is left of the space after m bytes
-pub HasSpace-less : (space : Option ℕ) (m n : ℕ) → HasSpace space (m + n) → HasSpace (less_space space m) n
-HasSpace-less space m n h = grind arith
-
--- space for n bytes is space for fewer
-pub HasSpace-fewer : (space : Option ℕ) (m n : ℕ) → m ≤ n → HasSpace space n → HasSpace space m
-HasSpace-fewer space m n h k = grind arith
-
 module _ {S : Type 0} (step : S → List ℕ → S → Type 0) (space : S → Option ℕ)
     (shrinks : (s : S) (piece : List ℕ) (t : S) → step s piece t → space t ≡ less_space (space s) (length piece)) where
   -- what was written leaves space for the rest
   pub Writes_space : (s : S) (text : List ℕ) (t : S) (n : ℕ) → Writes step s text t
       → HasSpace (space s) (length text + n) → HasSpace (space t) n
   Writes_space s text t n w h =
-      rw (run_shrinks step space shrinks s w.pieces t w.run, w.whole) (HasSpace-less (space s) (length text) n h)
+      rw (run_shrinks step space shrinks s w.pieces t w.run, w.whole) (grind (arith, h))
 
 module _ {S : Type 0} (step : S → List ℕ → S → Type 0) where
   pub run_append : (s : S) (ps : List (List ℕ)) (m : S) (qs : List (List ℕ)) (t : S) → FoldsTo step s ps m

@@ -1,15 +1,19 @@
--- Texts that are worked through in steps, and the remainder by another call.
-use Rattle.std.proofs.Common.{◌≡◌, ℕ, ◌+◌, ◌-◌, ◌*◌, ◌<◌, ◌≤◌, ◌↔◌, List, [], ◌∷◌, ◌++◌, length, take, drop, slice_index, slice_index_or, slice_set, refl, ap, ◌∙◌, arith, take-add, take-append-drop, drop-drop, length-take, length-append, Option, IsAscii}
+-- Texts that are worked through in steps, and texts of which the first and the last bytes are taken.
+use Rattle.std.proofs.Common.{◌^◌, ◌≡◌, ℕ, ◌+◌, ◌-◌, ◌*◌, ◌<◌, ◌≤◌, ◌↔◌, List, [], ◌∷◌, ◌++◌, length, take, drop, slice_index, slice_index_or, refl, ap, ◌∙◌, arith, take-add, take-append-drop, drop-drop, length-take, length-append, Option, IsAscii, Bool, false, IsTrue, sym, ◌/◌, ◌%◌, get_or, append-nil, length-drop, replicate, zero, suc}
+use Rattle.std.proofs.lemmas.Bool.{false≢true}
 use Rattle.std.proofs.lemmas.Grind.{common_steps}
-use Rattle.std.proofs.lemmas.List.{append-nil, take_at, drop_at, take_rest}
+use Rattle.std.proofs.lemmas.List.{take_at, drop_at, take_rest, take_all, take-replicate, drop-replicate}
 use Rattle.std.proofs.lemmas.List.Elements.{All-take, All-drop}
+use Rattle.std.proofs.lemmas.Str.{IsAscii-take}
 use Rattle.std.proofs.lemmas.Slice.{take-put_mid, drop-put_mid}
 use borrow.Rule.Slice.PartMut.{put_mid}
-use Rattle.const_hex_arch.specs.{IsDigit, AllDigits, Spells, Partial, HasSpace, less_space, Writes}
-use Rattle.const_hex_arch.proofs.lemmas.Runs.{HasSpace-less, one_written, Writes-append}
+use Rattle.const_hex_arch.specs.{IsDigit, hex_text, AllDigits, Spells, Partial, HasSpace, less_space, Writes, hex_digit}
+use Rattle.const_hex_arch.proofs.lemmas.LaneValues.{add8}
+use Rattle.const_hex_arch.proofs.lemmas.Runs.{Writes-append, Writes_space}
 use Rattle.const_hex_arch.proofs.lemmas.Digits.{digits_append, digits_parts}
 use Rattle.const_hex_arch.proofs.lemmas.FirstInvalid.{none_decoded, Partial-after}
-use Rattle.const_hex_arch.proofs.lemmas.Texts.{Spells-append, Spells-parts, Spells-digits}
+use Rattle.const_hex_arch.proofs.lemmas.Texts.{Spells-append, Spells-parts, Spells-digits, hex_text-append, length-hex_text, hex_text-nil, hex_text-one}
+use lib.Lanes.{zip2}
 
 pub parts : (n : ℕ) {u front back : List ℕ} → front ≡ take n u → back ≡ drop n u → front ++ back ≡ u
 parts n {u} f b = rw (f, b) (take-append-drop n u)
@@ -31,33 +35,34 @@ digits_last u i e h d = (
   λ whole. rw take_rest (All-drop IsDigit e u whole),
 )
 
--- a part of ASCII text
-pub part_ascii : (u front rest part after : List ℕ) → front ++ rest ≡ u → part ++ after ≡ rest → IsAscii u
-    → IsAscii part
-part_ascii u front rest part after e p h k =
-    let at : slice_index (front ++ (part ++ after)) (length front + k) < 128 = rw (p, e) (h (length front + k)) in
-    grind (arith, common_steps, at)
+-- ---- the text of bytes is written but for the rest of them: with it, all is, and there is space for it
+pub record IsWritten {S : Type 0} (step : S → List ℕ → S → Type 0) (space : S → Option ℕ) (up : Bool) (bytes : List ℕ)
+    (old new : S) (rest : List ℕ) : Type 0 where
+  pub onward : (t : S) → Writes step new (hex_text up rest) t → Writes step old (hex_text up bytes) t
+  pub has_space : HasSpace (space new) (2 * length rest)
+  pub ascii : IsAscii (hex_text up rest)
 
--- ---- a text is written but for the rest: with the rest it is, and there is space for the rest
-pub record IsWritten {S : Type 0} (step : S → List ℕ → S → Type 0) (space : S → Option ℕ) (text : List ℕ) (old new : S)
-    (rest : List ℕ) : Type 0 where
-  pub onward : (t : S) → Writes step new rest t → Writes step old text t
-  pub has_space : HasSpace (space new) (length rest)
-  pub ascii : IsAscii rest
+-- the parts of ASCII text
+pub first_ascii : (xs ys : List ℕ) → IsAscii (xs ++ ys) → IsAscii xs
+first_ascii xs ys h = rw take_at at (IsAscii-take (xs ++ ys) (length xs) h)
 
--- a piece that begins the rest is written
-pub piece_written : {S : Type 0} {step : S → List ℕ → S → Type 0} {space : S → Option ℕ} {text all : List ℕ}
-    {old mid new : S} (piece rest : List ℕ)
+later_ascii : (xs ys : List ℕ) → IsAscii (xs ++ ys) → IsAscii ys
+later_ascii xs ys h k =
+    let at : slice_index (xs ++ ys) (length xs + k) < 128 = h (length xs + k) in grind (arith, common_steps, at)
+
+-- the text of the first n bytes of the rest is written
+pub text_written : {S : Type 0} {step : S → List ℕ → S → Type 0} {space : S → Option ℕ} {up : Bool} {bytes u : List ℕ}
+    {old mid new : S} {front back : List ℕ} (n : ℕ)
     → ((s : S) (p : List ℕ) (t : S) → step s p t → space t ≡ less_space (space s) (length p))
-    → IsWritten step space text old mid all → piece ++ rest ≡ all → step mid piece new
-    → 1 ≤ length piece → length piece ≤ 64
-    → IsWritten step space text old new rest
-piece_written {S} {step} {space} {text} {all} {old} {mid} {new} piece rest shrinks d e h long short =
-    let needed : length all ≡ length piece + length rest = rw (← e) (length-append piece rest) in
-    let piece_is = one_written step mid piece new h (long, short) in record {
-      onward = λ t w. d.onward t (rw e at (Writes-append step mid piece new rest t piece_is w));
-      has_space = rw (shrinks mid piece new h) (HasSpace-less (space mid) (length piece) (length rest) (rw needed at d.has_space));
-      ascii = part_ascii all piece rest rest [] e (append-nil rest) d.ascii;
+    → IsWritten step space up bytes old mid u → front ≡ take n u → back ≡ drop n u → Writes step mid (hex_text up front) new
+    → IsWritten step space up bytes old new back
+text_written {S} {step} {space} {up} {bytes} {u} {old} {mid} {new} {front} {back} n shrinks d f b w =
+    let whole = parts n f b in
+    let sum : 2 * length u ≡ length (hex_text up front) + 2 * length back =
+    omega (arith, length-hex_text up front, length-append front back, ap length whole) in record {
+      onward = λ t v. d.onward t (rw (← hex_text-append, whole) at (Writes-append step mid _ new _ t w v));
+      has_space = Writes_space step space shrinks mid _ new _ w (rw sum at d.has_space);
+      ascii = later_ascii (hex_text up front) (hex_text up back) (rw (← whole, hex_text-append) at d.ascii);
     }
 
 -- two bytes
@@ -66,12 +71,6 @@ two_bytes [] h = cc h
 two_bytes (a ∷ []) h = absurd (omega (arith, h))
 two_bytes (a ∷ b ∷ []) h = refl
 two_bytes (a ∷ b ∷ c ∷ u) h = absurd (omega (arith, h))
-
--- one byte, and another in its place
-pub one_byte : (o : List ℕ) (b : ℕ) → length o ≡ 1 → slice_set o 0 b ≡ b ∷ []
-one_byte [] b h = cc h
-one_byte (a ∷ []) b h = refl
-one_byte (a ∷ c ∷ o) b h = absurd (omega (arith, h))
 
 -- ---- the first bytes of an output hold what the first pairs of a text decode to, and the rest of the
 -- output is unchanged
@@ -82,18 +81,18 @@ pub record IsDecoded (u old new : List ℕ) (i : ℕ) : Type 0 where
   pub rest : drop i new ≡ drop i old
 
 -- n bytes more, of m bytes of text
-pub decoded_step : {u old new : List ℕ} {i end : ℕ} (r : List ℕ) (n m : ℕ) → IsDecoded u old new i → end ≡ i + n
-    → end ≤ length new → m ≡ 2 * n → length r ≡ n
+pub decoded_step : {u old new : List ℕ} {i end : ℕ} (r : List ℕ) (n m : ℕ) → IsDecoded u old new i
+    → (end ≡ i + n) × (end ≤ length new) × (m ≡ 2 * n) × (length r ≡ n)
     → Spells (take m (drop (2 * i) u)) r → IsDecoded u old (put_mid i n new r) end
-decoded_step {u} {old} {new} {i} {end} r n m d e h f l s =
+decoded_step {u} {old} {new} {i} {end} r n m d sizes s =
     let q : 2 * end ≡ 2 * i + m = omega arith in
     let bytes : take end (put_mid i n new r) ≡ take i new ++ r = take-put_mid i n new r end (omega arith) d.within in
-    let past : drop end (put_mid i n new r) ≡ drop end new = drop-put_mid i n new r end (omega arith) d.within l in
+    let past : drop end (put_mid i n new r) ≡ drop end new = drop-put_mid i n new r end (omega arith) d.within (omega arith) in
     let length_kept : length (put_mid i n new r) ≡ length new = grind (arith, common_steps) in record {
       within = omega arith;
       same_length = length_kept ∙ d.same_length;
       front = rw (q, take-add (2 * i) m u, bytes) (Spells-append _ _ _ _ d.front s);
-      rest = rw (past, e, ← drop-drop n i new, d.rest, drop-drop n i old);
+      rest = rw (past, sizes.0, ← drop-drop n i new, d.rest, drop-drop n i old);
     }
 
 -- fewer bytes are decoded than there are
@@ -113,13 +112,13 @@ pub kept_step : (new r : List ℕ) (i n : ℕ) → r ≡ take n (drop i new) →
 kept_step new r i n e = rw e (ap (λ x. take i new ++ x) (take-append-drop n (drop i new)) ∙ take-append-drop i new)
 
 -- a step anywhere in the text that fails, and wrote nothing
-pub refused_step : {u old new r : List ℕ} {i : ℕ} (j n m k : ℕ) → IsDecoded u old new i → length u ≡ 2 * length old
-    → r ≡ take n (drop j new)
-    → (AllDigits (take m (drop k u)) → ⊥) → Partial old u (put_mid j n new r)
-refused_step {u} {old} {new} {r} {i} j n m k d size e none =
+pub refused_step : {u old new r : List ℕ} {i : ℕ} {b : Bool} (j n m k : ℕ) → IsDecoded u old new i
+    → length u ≡ 2 * length old → IsTrue b ↔ AllDigits (take m (drop k u)) → r ≡ take n (drop j new) → b ≡ false
+    → Partial old u (put_mid j n new r)
+refused_step {u} {old} {new} {r} {i} j n m k d size test e is_false =
     let rest = none_decoded (drop i new) (drop (2 * i) u) (λ a.
     let all = (digits_parts (2 * i) u).1 (Spells-digits _ _ d.front, a) in
-    none (All-take IsDigit m (drop k u) (All-drop IsDigit k u all))) in
+    false≢true (sym is_false ∙ test.1 (All-take IsDigit m (drop k u) (All-drop IsDigit k u all)))) in
     rw (kept_step new r j n e)
     (Partial-after old u new i (2 * i) (omega arith) (omega arith) d.same_length d.within d.front (rw (← d.rest) rest))
 
@@ -140,3 +139,139 @@ module _ {u old new : List ℕ} {i : ℕ} (r : List ℕ) (d : IsDecoded u old ne
       let behind : Partial (drop i old) (drop (2 * i) u) r = rw (take_rest new i, take_rest u (2 * i), d.rest) at p in
       rw whole (Partial-after old u (take i new ++ r) i (2 * i) refl (omega arith) all (omega arith)
       (rw (take_at (take i new) r i front) d.front) (rw (drop_at (take i new) r i front) behind))
+
+-- the text of the first k bytes, and of the others
+pub hex_text-parts : (up : Bool) (k : ℕ) (bs : List ℕ) → k ≤ length bs
+    → (take (2 * k) (hex_text up bs) ≡ hex_text up (take k bs))
+    × (drop (2 * k) (hex_text up bs) ≡ hex_text up (drop k bs))
+hex_text-parts up k bs h =
+    let long : length (hex_text up (take k bs)) ≡ 2 * k =
+    omega (arith, length-hex_text up (take k bs), length-take k bs) in
+    let whole : hex_text up bs ≡ hex_text up (take k bs) ++ hex_text up (drop k bs) =
+    rw (← hex_text-append, take-append-drop) in
+    rw whole (take_at _ _ _ long, drop_at _ _ _ long)
+
+-- ---- digits
+
+-- the first n and the last n bytes
+pub digits_pair : (n : ℕ) (u : List ℕ) → n ≤ length u → length u ≤ 2 * n
+    → AllDigits (take n u ++ drop (length u - n) u) ↔ AllDigits u
+digits_pair n u h k =
+    let start = length u - n in
+    let pair = digits_append (take n u) (drop start u) in (
+      λ d.
+          let both = pair.0 d in
+          (digits_last u n start (omega arith) both.0).0 (rw (take_rest u start) both.1),
+      λ d. pair.1 (All-take IsDigit n u d, All-drop IsDigit start u d),
+    )
+
+-- these in a step, and digits after them
+pub digits_ends : (n : ℕ) (u step : List ℕ) → n ≤ length u → length u ≤ 2 * n
+    → take (2 * n) step ≡ take n u ++ drop (length u - n) u
+    → AllDigits (drop (2 * n) step) → AllDigits step ↔ AllDigits u
+digits_ends n u step h k e rest =
+    let all = digits_parts (2 * n) step in
+    let pair = digits_pair n u h k in (λ d. pair.0 (rw e at (all.0 d).0), λ d. all.1 (rw e (pair.1 d), rest))
+
+-- the first bytes, and digits in the other lanes
+lanes_filled : (front : List ℕ) (m : ℕ) → ((k : ℕ) → get_or front k 0 < 256)
+    → zip2 add8 (front ++ replicate m 0) (replicate (length front) 0 ++ replicate m 48) ≡ front ++ replicate m 48
+lanes_filled [] zero h = refl
+lanes_filled [] (suc m) h = cc (lanes_filled [] m h)
+lanes_filled (x ∷ front) m h =
+    let small : x < 256 = h 0 in
+    let same : (x + 0) % 2 ^ 8 ≡ x = omega arith in
+    cc (same, lanes_filled front m (λ k. h (suc k)))
+
+pub ends_filled_up : (n N : ℕ) (front zeros : List ℕ) → length front ≡ n → n ≤ N → zeros ≡ take n (replicate N 0)
+    → ((k : ℕ) → get_or front k 0 < 256)
+    → zip2 add8 (front ++ drop n (replicate N 0)) (zeros ++ drop n (replicate N 48)) ≡ front ++ replicate (N - n) 48
+ends_filled_up n N front zeros long h e small =
+    rw (e, take-replicate, drop-replicate, drop-replicate, ← long) (lanes_filled front (N - length front) small)
+
+-- the first n and the last n bytes are bytes
+pub ends_small : (n : ℕ) (u : List ℕ) → n ≤ length u → ((k : ℕ) → get_or u k 0 < 256) → (k : ℕ)
+    → get_or (take n u ++ drop (length u - n) u) k 0 < 256
+ends_small n u l h k = grind (arith, common_steps, h k, h (length u - n + (k - n)))
+
+-- what the first d and the last d digits decode to, put into place
+pub spells_ends : (h d n : ℕ) (u step bytes ends : List ℕ) → d ≡ 2 * h → length u ≡ 2 * n → h ≤ n → n ≤ 2 * h
+    → take (2 * d) step ≡ take d u ++ drop (length u - d) u → Spells step bytes → ends ≡ take d bytes → length ends ≡ d
+    → Spells u (take (n - h) (take h ends) ++ drop (length ends - h) ends)
+spells_ends h d n u step bytes ends two long least most e s f k =
+    let start = length u - d in
+    let both = take d u ++ drop start u in
+    let front : take start both ≡ take start u = grind (arith, common_steps) in
+    let back : drop d both ≡ drop start u = grind (arith, common_steps) in
+    let first : take (n - h) ends ≡ take (n - h) (take h ends) = grind (arith, common_steps) in
+    let half : length ends - h ≡ h = omega arith in
+    let spelled : Spells both ends = rw (e, ← f) at (Spells-parts step bytes d (2 * d) refl s).0 in
+    rw half
+    (rw take-append-drop at (Spells-append _ _ _ _
+    (rw (front, first) at (Spells-parts both ends (n - h) start (omega arith) spelled).0)
+    (rw back at (Spells-parts both ends h d two spelled).1)))
+
+-- ---- the first digits of an output are the text of the first bytes
+pub record IsFilled (up : Bool) (u new : List ℕ) (i : ℕ) : Type 0 where
+  pub within : i ≤ length u
+  pub size : length new ≡ 2 * length u
+  pub front : take (2 * i) new ≡ hex_text up (take i u)
+
+pub none_filled : {up : Bool} {u new : List ℕ} → length new ≡ 2 * length u → IsFilled up u new 0
+none_filled {up} {u} {new} e = record { within = omega arith; size = e; front = sym (hex_text-nil up) }
+
+-- the text of n bytes more
+pub filled_step : {up : Bool} {u new : List ℕ} {i end : ℕ} (r : List ℕ) (n m : ℕ) → IsFilled up u new i → end ≡ i + n
+    → end ≤ length u → m ≡ 2 * n
+    → r ≡ hex_text up (take n (drop i u)) → IsFilled up u (put_mid (2 * i) m new r) end
+filled_step {up} {u} {new} {i} {end} r n m d e h f s =
+    grind (arith, common_steps, length-hex_text, length-take, length-drop, take-put_mid, put_mid, take-add, hex_text-append)
+
+-- the digits of one byte more
+pub filled_one : {up : Bool} {u new : List ℕ} {i end : ℕ} (r : List ℕ) (m : ℕ) → IsFilled up u new i → i < length u
+    → end ≡ i + 1 → m ≡ 2 → r ≡ hex_digit up (get_or u i 0 / 16) ∷ hex_digit up (get_or u i 0 % 16) ∷ []
+    → IsFilled up u (put_mid (2 * i) m new r) end
+filled_one {up} {u} {new} {i} r m d h e f s =
+    filled_step r 1 m d e (omega arith) f (s ∙ sym (hex_text-one up u i h))
+
+pub ruleset fills = (none_filled, filled_one, hex_text-nil)
+
+-- fewer bytes are written than there are
+pub filled_less : {up : Bool} {u new : List ℕ} {i : ℕ} (e : ℕ) → IsFilled up u new i → e ≤ i → IsFilled up u new e
+filled_less {up} {u} {new} {i} e d h = record {
+  within = omega arith;
+  size = d.size;
+  front =
+      let digits : take (2 * e) (take (2 * i) new) ≡ take (2 * e) new = grind (arith, common_steps) in
+      let bytes : take e (take i u) ≡ take e u = grind (arith, common_steps) in
+      let text = (hex_text-parts up e (take i u) (omega (arith, length-take i u))).0 in
+      rw (← digits, d.front, text, bytes);
+}
+
+-- all of the text
+pub filled_whole : {up : Bool} {u new : List ℕ} {i : ℕ} → IsFilled up u new i → length u ≤ i → new ≡ hex_text up u
+filled_whole {up} {u} {new} {i} d h = rw (← take_all (2 * i) new (omega arith), d.front, take_all i u h)
+
+-- the text of the last bytes, and then that of the first h
+pub ends_filled : (up : Bool) (h start m : ℕ) (u old first last : List ℕ) → length old ≡ 2 * length u → h ≤ length u
+    → start ≤ h → m ≡ length old - 2 * start → last ≡ hex_text up (drop start u) → first ≡ hex_text up (take h u)
+    → put_mid 0 (2 * h) (put_mid (2 * start) m old last) first ≡ hex_text up u
+ends_filled up h start m u old first last size least most e l f =
+    let begin : length (take (2 * start) old) ≡ 2 * start = omega (arith, length-take (2 * start) old) in
+    let text = (hex_text-parts up (h - start) (drop start u) (omega (arith, length-drop start u))).1 in
+    let rest : drop (h - start) (drop start u) ≡ drop h u = grind (arith, common_steps) in
+    let last_long : length last ≡ 2 * length u - 2 * start = omega (arith, ap length l, length-hex_text up (drop start u), length-drop start u) in
+    let mid : put_mid (2 * start) m old last ≡ take (2 * start) old ++ last = grind (arith, common_steps, append-nil, last_long) in
+    let sum : 2 * start + 2 * (h - start) ≡ 2 * h = omega arith in
+    let behind : drop (2 * h) (put_mid (2 * start) m old last) ≡ drop (2 * (h - start)) last =
+    rw (mid, ← sum, ← drop-drop (2 * (h - start)) (2 * start) (take (2 * start) old ++ last), drop_at _ _ _ begin) refl in
+    rw (behind, f, l, text, rest) (rw (← hex_text-append, take-append-drop) refl)
+
+-- the rest of the text
+pub filled_rest : {up : Bool} {u new : List ℕ} {i : ℕ} (r : List ℕ) → IsFilled up u new i
+    → r ≡ hex_text up (take (length u - i) (drop i u))
+    → put_mid (2 * i) (length new - 2 * i) new r ≡ hex_text up u
+filled_rest {up} {u} {new} {i} r d s =
+    filled_whole
+    (filled_step {end = length u} r (length u - i) (length new - 2 * i) d (omega arith) (omega arith) (omega arith) s)
+    (omega arith)

@@ -1,9 +1,9 @@
 -- Proofs by hand, which follow the machine's steps, for functions that return an `Option` of a
 -- vector. The borrow checker does not cover these yet.
 --
--- `LaneOptions` has what the walk cites: what is known of vectors of n lanes and of a vector beside
--- a flag, the two clauses of `decode_chunk`, and the steps of a walk. `DecodedChunk` is the walk, for
--- 16 lanes and for 32. The `Proof.antt` of each `decode_chunk` names its calls and passes them to it.
+-- Here are first the steps of walks, which other crates cite too, then what is known of vectors of n
+-- lanes and of a vector beside a flag, and last the walk of `decode_chunk`, for 16 lanes and for 32.
+-- The `Proof.antt` of each `decode_chunk` names its calls and passes them to it.
 --
 -- What breaks the walk: it names the function's locals by their numbers, and takes its steps in
 -- their order. So every edit of the body of `decode_chunk` breaks it. An edit of a function that it
@@ -13,5 +13,235 @@
 -- steps and locals to `Code/Mir.antt` in that folder. Replace the old numbers by the new ones, from
 -- the top down, and check after each. The check names the first step that no longer fits. The
 -- toolchain's guide is its `docs/WALKS.md`.
-pub mod DecodedChunk
-pub mod LaneOptions
+pub use Rattle.std.proofs.Common.{ℕ, List, [], ◌∷◌, Bool, refl, lit<, w8, IsTrue, ◌↔◌, ◌≡◌, ◌*◌, true, false, not, T, length, ap, ◌∙◌, Bor, MutBor, ◌++◌, ◌&&◌, subst, arith, IsNone, IfSome}
+pub use Rattle.std.proofs.option.Made.{Some-of, none_of}
+pub use Rattle.std.proofs.raw_atomic.Walks.{proved}
+pub use Rattle.std.specs.List.{concat}
+pub use Rattle.std.specs.Prelude.{Option, Some, None, IsOk, IfOk, Ok, Err, IfErr, MatchResult, Result}
+pub use base.Fml.{ftrue, GName, flft, fres}
+pub use base.Logic.{id⊢, emp, sep}
+pub use contract.Monad.{fact, fact_i}
+pub use contract.Running.{tables, Running}
+pub use denote.Array.{Array-Tells, Array-Lawful, array_vals}
+pub use denote.Builtin.{u8, bool, SliceRefOf, RefOf, RefMutOf, Simd, SimdOf, ArrayOf}
+pub use denote.Exit.{yes, no, left}
+pub use denote.Laws.{shows, Is, Tells, Lawful}
+pub use denote.Plain.{uint_Makes, uint_Lawful, uint_vals, bool_vals, bool_Makes, uint_Tells}
+pub use denote.RattleType.{RattleType}
+pub use denote.Signature.{Slot, plain}
+pub use denote.Simd.{Simd-Lawful, Simd-Makes, Simd-Tells}
+pub use denote.Steps.{nothing, owned, facts, peeks, heard, only}
+pub use denote.Struct.Struct.{as_fields}
+pub use denote.Triple.Call.{calls_at}
+pub use denote.Triple.Clauses.{lasts, Clauses, Ended, closing, Lasts}
+pub use denote.Triple.Spec.{triple_of, Meets}
+pub use denote.Triple.Table.{framed}
+pub use denote.Triple.Walked.{Stays, walk_of, stay_dropped, Goes-dropped, ends_at, Goes-spent_slice}
+pub use mir.Syntax.{ty_array, ty_int, ty_bool, Fn, Body, Callee, local, value_local, ty_ref, imm, mut, erased, field, deref, place, copy, int, rv_opd, addr_of, aggregate, assign, call, cond, seq, named, Ty, a_number, return as end}
+pub use mir.Val.{vbool, of_list, Val, vptr, WT, has_ty, vstruct}
+pub use prog.Model.{Model}
+pub use prog.Wp.{Closed}
+pub use seplogic.Ra.Ura.{Ura}
+pub use types.ByLocal.{alloc_all, pass_all, free_all, look_at, get, get_in, sets, sets_last, lands_as, env, look_in_at, through}
+pub use types.Kit.{‵, raw, ◌⊛◌, some, later, at_ret, ◌$◌, ◌∵◌, !, qed, done, move, keep, drop, use0, use1, split, join, pick, await, suffices, group, use2, rewrite, frame}
+pub use types.Logic.{Logic, sem}
+pub use types.Match.{live}
+pub use types.Part.{agg, whole, sub}
+pub use types.Run.{enter, of_opd, lit, fld, stop, no_more, and_then, first, branches, exec, returns, addr, hop, from}
+use Rattle.const_hex_arch.specs.{AllDigits, Spells}
+use Rattle.std.proofs.option.Option.TheLaws.{the_loose}
+use denote.Enum.Loose.{loose_lawful}
+use denote.Param.Laws.{simd_laws, of_field}
+use denote.Param.Shared.{copy_shared}
+use denote.Struct.Field.{u8-field}
+use denote.Struct.Laws.{u8-laws, u8-copy}
+use denote.Struct.Tuple.{Tuple}
+use Rattle.std.specs.contracts.option.Option as OP
+use denote.Param.{layout}
+
+-- ---- what is known of a flag
+
+pub and_true : (b : Bool) → T b → T (b && true)
+and_true true t = tt
+and_true false t = absurd t
+
+-- ---- the clauses of `decode_chunk`, from the clauses of the vector beside a flag
+
+abbrev pub NoneClause : List ℕ → Option (List ℕ) → Type 0
+NoneClause text result = IsNone result ↔ ¬ AllDigits text
+
+abbrev pub SpellsClause : List ℕ → Option (List ℕ) → Type 0
+SpellsClause text result = IfSome result (Spells text)
+
+module _ (text bytes : List ℕ) (are_digits : Bool) (digits : IsTrue are_digits ↔ AllDigits text)
+    (spells : IsTrue are_digits → Spells text bytes) where
+  pub some_is : T are_digits → NoneClause text (Some bytes) × SpellsClause text (Some bytes)
+  some_is t = grind (arith, digits, spells, t)
+
+  pub none_is : T (not are_digits) → NoneClause text None × SpellsClause text None
+  none_is t = grind (arith, digits, t)
+
+-- ---- vectors of n lanes
+
+module _ (n : ℕ) where
+  abbrev pub Lanes : RattleType
+  Lanes = Simd u8 tt n
+
+  -- a parameter of two vectors, and its machine value
+  abbrev pub Pair : {k : ℕ} → Slot k
+  Pair = ArrayOf (SimdOf (plain (λ _. u8)) (λ _. tt) n) (λ _. tt) 2
+
+  abbrev pub lanes_vals : List ℕ → List Val
+  lanes_vals = array_vals (uint_vals w8)
+
+  abbrev pub pair_vals : List (List ℕ) → List Val
+  pair_vals = array_vals lanes_vals
+
+  pub lanes_Tells : Tells Lanes (Is Lanes) lanes_vals
+  lanes_Tells = Simd-Tells u8 (uint_vals w8) (uint_Tells w8) n
+
+  -- a vector beside a flag
+  abbrev pub Flagged : RattleType
+  Flagged = Tuple (Lanes ∷ bool ∷ [])
+
+  pub flagged_is : (r : List ℕ × Bool) (v : Val) → Is Flagged r (v ∷ [])
+      → v ≡ vstruct (of_list (only (lanes_vals r.0) ∷ vbool r.1 ∷ []))
+  flagged_is r v is =
+      ap only is.1.0 ∙ λ i. vstruct (of_list (lanes_Tells r.0 is.0.0 is.1.1.0 i ++ (is.1.1.1.0 i ++ [])))
+
+  pub flagged_lanes : (r : List ℕ × Bool) (v : Val) → Is Flagged r (v ∷ []) → Is Lanes r.0 (only (lanes_vals r.0) ∷ [])
+  flagged_lanes r v is = subst (λ us. Is Lanes r.0 us) (lanes_Tells r.0 is.0.0 is.1.1.0) is.1.1.0
+
+  -- what `decode_chunk` returns
+  abbrev pub Answer : RattleType
+  Answer = OP.the_row Lanes
+
+  pub Answer-Lawful : {M : Type 1} {𝓤 : Ura M} (𝓛 : Logic 𝓤) → Lawful 𝓛 Answer
+  Answer-Lawful 𝓛 =
+      loose_lawful (OP.the_type Lanes)
+      (the_loose Lanes (simd_laws u8 (of_field u8-field u8-laws refl (copy_shared u8-field u8-copy)) n)) tt 𝓛
+
+-- ---- the walk of `decode_chunk`, for any number of lanes
+
+module _ (n : ℕ) where
+  -- what `decode_chunk` takes and returns
+  abbrev pub Chunks : Ended
+  Chunks = record {
+    signature = record { lifetimes = 0; outlives = []; params = Pair n ∷ []; result = plain (λ κs. Answer n) };
+    kept = (yes, tt);
+  }
+
+  -- what `decode_flagged` takes and returns
+  abbrev pub Flags : Ended
+  Flags = record {
+    signature = record { lifetimes = 0; outlives = []; params = Pair n ∷ []; result = plain (λ κs. Flagged n) };
+    kept = (yes, tt);
+  }
+
+  abbrev answered : Body
+  answered = seq (assign (place 0 []) (rv_opd (copy (place 6 [])))) end
+
+  -- local variables: 0 is the result, 1 the text, 2 the bytes, 3 and 5 the flag, 4 what the call returns, 6 the Option
+  abbrev code_of : Callee → Fn
+  code_of flags = record {
+    lifetimes = 0;
+    outlives = [];
+    ty_params = [];
+    givens = 0;
+    params = 1;
+    locals = local (layout (Answer n)) value_local
+        ∷ local (ty_array (ty_array (ty_int w8) n) 2) value_local
+        ∷ local (ty_array (ty_int w8) n) value_local
+        ∷ local ty_bool value_local
+        ∷ local (layout (Flagged n)) value_local
+        ∷ local ty_bool value_local
+        ∷ local (layout (Answer n)) value_local
+        ∷ [];
+    body = seq (call flags (copy (place 1 []) ∷ []) (place 4 []))
+        (seq (assign (place 2 []) (rv_opd (copy (place 4 (field 0 ∷ [])))))
+        (seq (assign (place 3 []) (rv_opd (copy (place 4 (field 1 ∷ [])))))
+        (seq (assign (place 5 []) (rv_opd (copy (place 3 []))))
+        (seq (cond (copy (place 5 [])) (assign (place 6 []) (aggregate (int w8 1 ∷ copy (place 2 []) ∷ [])))
+        (assign (place 6 []) (aggregate (int w8 0 ∷ []))))
+        answered))));
+  }
+
+  module _ {M : Type 1} (𝓤 : Ura M) (𝓛 : Logic 𝓤) (𝓜 : Model 𝓤 𝓛.H) (𝓡 : Running 𝓤 𝓛.H 𝓜) where
+    abbrev chunk : Clauses 𝓤 Chunks
+    chunk κs a = record {
+      ghost = Unit {0};
+      requires = λ g. emp 𝓤;
+      ensures = λ g r e. sep 𝓤 (fact 𝓤 (NoneClause (concat a.0) r)) (fact 𝓤 (SpellsClause (concat a.0) r));
+    }
+
+    abbrev flagged : Clauses 𝓤 Flags
+    flagged κs a = record {
+      ghost = Unit {0};
+      requires = λ g. emp 𝓤;
+      ensures = λ g r e.
+          sep 𝓤 (fact 𝓤 (IsTrue r.1 ↔ AllDigits (concat a.0))) (fact 𝓤 (IsTrue r.1 → Spells (concat a.0) r.0));
+    }
+
+    -- if the call meets its clauses, so does the function
+    pub some_or_none : (self flags : Callee)
+        → Closed 𝓤 𝓛.H (tables 𝓤 𝓛.H 𝓜 𝓡 𝓡.env).C (tables 𝓤 𝓛.H 𝓜 𝓡 𝓡.env).Λ self (code_of flags)
+        → Meets 𝓛 Flags.signature (𝓡.run (𝓡.env flags)) (closing 𝓛 Flags flagged)
+        → Meets 𝓛 Chunks.signature (𝓡.run (𝓡.env self)) (closing 𝓛 Chunks chunk)
+    some_or_none self flags unfolded met =
+        let hs : Stays Chunks.signature.params Chunks.kept = (stay_dropped _ yes, tt) in
+        let fn = code_of flags in
+        let W = walk_of 𝓛 Chunks hs chunk in let 𝓣 = tables 𝓤 𝓛.H 𝓜 𝓡 𝓡.env in
+        let V = Lanes n in
+        let lawful = Simd-Lawful 𝓛 u8 (uint_Lawful 𝓛 w8) n in
+        proved 𝓛 Chunks hs chunk 𝓜 𝓡 (Goes-dropped 𝓛 0 (Pair n) yes (λ κs x w. refl), tt)
+        self fn unfolded
+        (λ κs. (pair_vals n, tt)) (λ κs. (Array-Tells V (lanes_vals n) (lanes_Tells n) 2, tt)) (λ κs qs bounds a _ are.
+        let text = concat a.0 in
+        let G = triple_of 𝓛 Flags.signature (closing 𝓛 Flags flagged) in
+        let z : G.Ghost = ((κs, qs, bounds, a, (pair_vals n a.0, tt)), tt) in
+        let y : W.Ghost = ((κs, qs, bounds, a, (pair_vals n a.0, tt)), tt) in
+        qed 𝓛 (raw (G.pre z) ∷ []) ∵ enter ! _ _ _ _ _ $
+        alloc_all ! (λ l. pass_all ! refl ((Array-Lawful 𝓛 V lawful 2).typed a.0 _ are.0) $
+        -- the call: what it gives of r, the vector beside the flag, at the machine value v
+        calls_at ! (framed 𝓤 𝓛.H 𝓜 𝓣) G met z
+        (and_then ! (get ! refl) (no_more !)) (λ v.
+        use1 𝓛 (later (some (λ (r : List ℕ × Bool). (‵ ftrue ⊛ ‵ ((Flagged n).own_val r (v ∷ []))) ⊛
+        some (λ (ws : Unit {0} × Unit {0}). ‵ (lasts Flags κs a ws) ⊛
+        (raw (fact 𝓤 (IsTrue r.1 ↔ AllDigits text)) ⊛ raw (fact 𝓤 (IsTrue r.1 → Spells text r.0))))))) (id⊢ 𝓤 _) $
+        await ! tt $ pick !
+        (λ r. split ! $ split ! $ drop ! $ facts ! (Flagged n) _ (shows 𝓛 (Flagged n)) r (v ∷ []) (λ is.
+        pick ! (λ ws. split ! $ drop ! $ split ! $ heard ! _ (λ digits. heard ! _ (λ spells.
+        let bytes = only (lanes_vals n r.0) in
+        let held = flagged_lanes n r v is in
+        let typed = lawful.typed r.0 (bytes ∷ []) held in
+        -- the two locals, and the choice
+        lands_as ! (flagged_is n r v is) refl
+        (as_fields (ty_array (ty_int w8) n ∷ ty_bool ∷ []) (bytes ∷ vbool r.1 ∷ []) (typed.0, ((tt, tt), tt))) $
+        sets ! (of_opd ! (get_in ! (fld ! refl (stop !)) (sub ! 0 refl (whole !)))) refl typed.0 $
+        sets ! (of_opd ! (get_in ! (fld ! refl (stop !)) (sub ! 1 refl (whole !)))) refl (tt, tt) $
+        sets ! (of_opd ! (get ! refl)) refl (tt, tt) $
+        first ! $ branches ! (get ! refl)
+        (λ yes.
+        let clauses = some_is text r.0 r.1 digits spells yes in
+        sets_last ! (agg ! (and_then ! (lit ! tt) (and_then ! (get ! refl) (no_more !)))) refl
+        (and_true _ typed.0.0, (record { fits = lit< tt }, (typed.0.1, tt))) $
+        exec ! 𝓣.C 𝓣.Λ (env fn.locals l) answered (at_ret _ (W.post y)) $
+        sets ! (of_opd ! (get ! refl)) refl (and_true _ typed.0.0, (record { fits = lit< tt }, (typed.0.1, tt))) $
+        returns ! (look_at ! 0 refl) $ free_all ! refl $
+        suffices ! _ (ends_at 𝓛 Chunks hs chunk y (live 1 (of_list (bytes ∷ []))) (Some r.0) (tt, tt) (tt, tt)) $
+        use0 𝓛 (raw (fact 𝓤 (SpellsClause text (Some r.0)))) (fact_i 𝓤 _ (emp 𝓤) clauses.1) $
+        use0 𝓛 (raw (fact 𝓤 (NoneClause text (Some r.0)))) (fact_i 𝓤 _ (emp 𝓤) clauses.0) $ join ! $
+        owned ! V _ (Simd-Makes 𝓛 u8 (uint_Makes 𝓛 w8) n) r.0 _ held $
+        use1 𝓛 (‵ ((Answer n).own_val (Some r.0) (live 1 (of_list (bytes ∷ [])) ∷ []))) (Some-of 𝓛 V r.0 bytes) $
+        nothing ! $ nothing ! $ join ! $ nothing ! $ group ! 3 $ done !)
+        (λ no.
+        let clauses = none_is text r.0 r.1 digits spells no in
+        sets_last ! (agg ! (and_then ! (lit ! tt) (no_more !))) refl (tt, (record { fits = lit< tt }, tt)) $
+        exec ! 𝓣.C 𝓣.Λ (env fn.locals l) answered (at_ret _ (W.post y)) $
+        sets ! (of_opd ! (get ! refl)) refl (tt, (record { fits = lit< tt }, tt)) $
+        returns ! (look_at ! 0 refl) $ free_all ! refl $
+        suffices ! _ (ends_at 𝓛 Chunks hs chunk y (live 0 (of_list [])) None (tt, tt) (tt, tt)) $
+        use0 𝓛 (raw (fact 𝓤 (SpellsClause text None))) (fact_i 𝓤 _ (emp 𝓤) clauses.1) $
+        use0 𝓛 (raw (fact 𝓤 (NoneClause text None))) (fact_i 𝓤 _ (emp 𝓤) clauses.0) $ join ! $
+        use0 𝓛 (‵ ((Answer n).own_val None (live 0 (of_list []) ∷ []))) (none_of 𝓛 V) $
+        nothing ! $ nothing ! $ join ! $ nothing ! $ group ! 3 $ done !)))))))))

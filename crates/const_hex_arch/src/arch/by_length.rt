@@ -76,7 +76,6 @@ impl<const N: usize, V: LaneOps<N> + LaneOps<16>> Kernel for ByLength<N, V> {
     }
 
     #[inline(always)]
-    #[tactic(auto, using(crate::proofs::lemmas::FirstInvalid::digits_accepted))]
     fn decode_unchecked(input: &[u8], output: &mut [u8]) {
         if output.len() < N {
             Self::decode_all(input, output);

@@ -4,7 +4,7 @@
 
 ghost use Rattle.std.specs.Prelude.{◌≡◌, ◌*◌, ◌/◌, ◌++◌, ◌≤◌, ◌↔◌, length, map, IsTrue};
 ghost use Rattle.std.specs.List.{AllZip};
-ghost use Rattle.const_hex_arch.specs.{hex_value, hex_text, AllDigits, Spells, AllNibbles, AllUnmarked, byte_pairs, as_value, IsValueOf, IsPartOf, IsLimitOf, IsMarkOf};
+ghost use Rattle.const_hex_arch.specs.{hex_value, hex_text, AllDigits, Spells, AllNibbles, AllUnmarked, byte_pairs, as_value, IsValueOf, IsPartOf, IsLimitOf};
 
 use std::simd::prelude::*;
 
@@ -68,7 +68,7 @@ pub(crate) fn unhex<const N: usize>(v: Simd<u8, N>) -> Simd<u8, N>
 /// `min(lane - 48, limit)` for each lane. If the lane is a digit, this is its value. Otherwise it
 /// is a number by which [`marks`] rejects the lane.
 #[inline(always)]
-#[tactic(auto, using(crate::proofs::lemmas::LaneMarks::parts_are))]
+#[tactic(auto, using(crate::proofs::lemmas::LaneValues::parts_are))]
 pub(crate) fn values<const N: usize, V: LaneOps<N>>(v: Simd<u8, N>) -> Simd<u8, N>
     ensures { AllZip IsPartOf v.entry result }
 {
@@ -82,15 +82,13 @@ pub(crate) fn values<const N: usize, V: LaneOps<N>>(v: Simd<u8, N>) -> Simd<u8, 
 // stay in registers beside the values until the marks are tested, and SSE has only 16 registers.
 #[inline(always)]
 pub(crate) fn marks<const N: usize, V: LaneOps<N>>(v: Simd<u8, N>) -> Simd<u8, N>
-    ensures all { AllUnmarked result ↔ AllDigits v.entry }
-    ensures each { AllZip IsMarkOf v.entry result }
+    ensures { AllUnmarked result ↔ AllDigits v.entry }
 {
     v - Simd::splat(0x30) - values::<N, V>(v)
 }
 
 /// Whether every lane is a digit.
 #[inline(always)]
-#[tactic(auto, using(crate::proofs::lemmas::Standard::through))]
 pub(crate) fn are_digits<const N: usize, V: LaneOps<N>>(v: Simd<u8, N>) -> bool
     ensures { IsTrue result ↔ AllDigits v.entry }
 {
@@ -99,7 +97,6 @@ pub(crate) fn are_digits<const N: usize, V: LaneOps<N>>(v: Simd<u8, N>) -> bool
 
 /// Whether every lane of both vectors is a digit, by one test.
 #[inline(always)]
-#[tactic(auto, using(crate::proofs::lemmas::Standard::through))]
 pub(crate) fn are_all_digits<const N: usize, V: LaneOps<N>>(
     first: Simd<u8, N>,
     second: Simd<u8, N>,
@@ -123,7 +120,7 @@ pub(crate) fn joint_marks<const N: usize, V: LaneOps<N>>(
 /// Decodes two vectors of digits to one vector of bytes. If some lane is not a digit, the result is
 /// unspecified: test the marks before you use it.
 #[inline(always)]
-#[tactic(auto, using(crate::proofs::lemmas::LaneMarks::values_of_parts, crate::proofs::lemmas::LaneValues::merge_spells))]
+#[tactic(auto, using(crate::proofs::lemmas::LaneValues::values_of_parts, crate::proofs::lemmas::LaneValues::merge_spells))]
 pub(crate) fn decode<const N: usize, V: LaneOps<N>>(
     first: Simd<u8, N>,
     second: Simd<u8, N>,

@@ -3,7 +3,7 @@
 //! Each of these calls has a contract for every vector: [`encode_chunk`], [`check_chunk`],
 //! [`decode_chunk`], [`nibbles`] and [`unhex`].
 
-ghost use Rattle.std.specs.Prelude.{◌≡◌, ◌↔◌, [], ◌∷◌, ◌++◌, length, take, map, replicate, IsTrue, IsNone, IfSome};
+ghost use Rattle.std.specs.Prelude.{◌≡◌, ◌↔◌, [], ◌∷◌, ◌++◌, length, map, IsTrue, IsNone, IfSome};
 ghost use Rattle.std.specs.List.{AllZip, concat, range_with_len};
 ghost use Rattle.const_hex_arch.specs.{hex_digit, hex_value, hex_text, AllDigits, Spells, AllNibbles, AllUnmarked, byte_pairs, halves_of, as_value, IsValueOf, IsLimitOf};
 
@@ -31,22 +31,6 @@ pub(crate) fn digits_row(upper: bool) -> [u8; 16]
     DIGITS[usize::from(upper)]
 }
 
-/// Both bytes in the first two lanes, and zeros in the others.
-#[inline(always)]
-pub(crate) fn from_pair(first: u8, second: u8) -> u8x16
-    ensures { result ≡ first ∷ second ∷ replicate 14 0 }
-{
-    u64x2::from_array([u64::from(u16::from_le_bytes([first, second])), 0]).to_le_bytes()
-}
-
-/// Whether the first two marks have the bits 7, 6, 4 and 3 clear.
-#[inline(always)]
-pub(crate) fn is_pair_unmarked(marks: u8x16) -> bool
-    ensures { IsTrue result ↔ AllUnmarked (take 2 marks) }
-{
-    u16x8::from_le_bytes(marks & u8x16::splat(0xD8)).to_array()[0] == 0
-}
-
 /// Half of a row, in both halves of a vector.
 #[inline(always)]
 pub(crate) fn in_both_halves(lanes: [u8; 16]) -> u8x32
@@ -67,7 +51,8 @@ pub fn encode_chunk<const UPPER: bool>(v: u8x16) -> [u8x16; 2]
     ensures text { concat result ≡ hex_text UPPER v }
     ensures lanes { map length result ≡ 16 ∷ 16 ∷ [] }
 {
-    in_two(encode_lanes(v, UPPER))
+    let text = encode_lanes(v, UPPER);
+    [text.extract::<0, 16>(), text.extract::<16, 16>()]
 }
 
 /// Whether every lane is a digit.
@@ -180,15 +165,6 @@ impl LaneOps<16> for Multiplying {
     ghost sizes = { (Prim.omega arith, Prim.omega arith, Prim.omega arith) };
 }
 
-/// A vector in its halves.
-#[inline(always)]
-pub(crate) fn in_two(v: u8x32) -> [u8x16; 2]
-    ensures parts { concat result ≡ v }
-    ensures lanes { map length result ≡ 16 ∷ 16 ∷ [] }
-{
-    [v.extract::<0, 16>(), v.extract::<16, 16>()]
-}
-
 /// Two digits for each lane, in order.
 #[inline(always)]
 pub(crate) fn encode_lanes(v: u8x16, upper: bool) -> u8x32
@@ -197,20 +173,12 @@ pub(crate) fn encode_lanes(v: u8x16, upper: bool) -> u8x32
     in_both_halves(digits_row(upper)).swizzle_dyn_within::<16>(split_lanes(v))
 }
 
-/// Two digits for each of the first 8 lanes, in order.
+/// As `encode_lanes`, for 8 lanes.
 #[inline(always)]
-pub(crate) fn encode_half(v: u8x16, upper: bool) -> u8x16
-    ensures { result ≡ hex_text upper (take 8 v) }
+pub(crate) fn encode_half(v: u8x8, upper: bool) -> u8x16
+    ensures { result ≡ hex_text upper v }
 {
-    u8x16::from_array(digits_row(upper)).swizzle_dyn(split_half(first_half(v)))
-}
-
-/// The first 8 lanes.
-#[inline(always)]
-fn first_half(v: u8x16) -> u8x8
-    ensures { result ≡ take 8 v }
-{
-    v.extract::<0, 8>()
+    u8x16::from_array(digits_row(upper)).swizzle_dyn(split_half(v))
 }
 
 /// As `split_lanes`, for 8 lanes.

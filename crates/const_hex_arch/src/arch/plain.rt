@@ -36,7 +36,7 @@ impl<const PAIRS: bool> Kernel for ByteByByte<PAIRS> {
     const PIECE: usize = 1;
 
     #[inline(always)]
-    #[tactic(auto, using(std::proofs::lemmas::List::take_all, crate::proofs::lemmas::Ends::fills))]
+    #[tactic(auto, using(std::proofs::lemmas::List::take_all, crate::proofs::lemmas::Steps::fills))]
     fn fill(input: &[u8], upper: bool, output: &mut [u8]) {
         // By this length, which cannot overflow, LLVM needs no test of an index in Rust.
         let text = &mut output[..input.len().saturating_mul(2)];

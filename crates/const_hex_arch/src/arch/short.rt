@@ -7,6 +7,7 @@ ghost use Rattle.const_hex_arch.specs.{AllDigits, Spells, hex_text};
 
 use crate::arch::lanes::{self, LaneOps};
 use crate::arch::{lanes16, steps};
+use crate::tables::is_digit;
 use std::simd::prelude::*;
 
 /// Fills the output with two digits for each of at most 15 bytes.
@@ -49,7 +50,7 @@ fn fill_end<const H: usize>(bytes: &[u8], upper: bool, output: &mut [u8])
     requires output { length output.old ≡ 2 * H }
     ensures { output.new ≡ hex_text upper bytes.now }
 {
-    let text = lanes16::encode_half(Simd::from_array(load::<16>(bytes)), upper).to_array();
+    let text = lanes16::encode_half(Simd::from_slice(&load(bytes)), upper).to_array();
     output.copy_from_slice(&text[..2 * H]);
 }
 
@@ -77,34 +78,23 @@ pub(crate) fn check<V: LaneOps<16>>(text: &[u8]) -> bool
         check_ends::<8, V>(text)
     } else if text.len() >= 4 {
         check_ends::<4, V>(text)
-    } else if text.len() == 3 {
+    } else if text.len() >= 2 {
         check_ends::<2, V>(text)
-    } else if text.len() >= 1 {
-        check_two::<V>(text[0], text[text.len() - 1])
     } else {
-        true
+        text.is_empty() || is_digit(text[0])
     }
 }
 
 /// Whether every one of `H` to `2 * H` bytes is a digit: the first `H` and the last `H` are in one vector.
 #[inline(always)]
-#[tactic(auto, using(crate::proofs::lemmas::Standard::through, crate::proofs::lemmas::Ends::digits_ends))]
+#[tactic(auto, using(crate::proofs::lemmas::Standard::through, crate::proofs::lemmas::Steps::digits_ends))]
 fn check_ends<const H: usize, V: LaneOps<16>>(text: &[u8]) -> bool
     requires half { H ≤ 8 }
     requires least { H ≤ length text.now }
     requires most { length text.now ≤ 2 * H }
     ensures { IsTrue result ↔ AllDigits text.now }
 {
-    steps::check_step::<16, V>(&load_ends::<16>(text, H))
-}
-
-/// Whether both bytes are digits.
-#[inline(always)]
-fn check_two<V: LaneOps<16>>(first: u8, second: u8) -> bool
-    ensures { IsTrue result ↔ AllDigits (first ∷ second ∷ []) }
-{
-    let lanes = lanes16::from_pair(first, second);
-    lanes16::is_pair_unmarked(lanes::marks::<16, V>(lanes))
+    lanes::are_digits::<16, V>(load_ends(text, H))
 }
 
 /// Whether every one of `N` to `2 * N` bytes is a digit: one test covers the first `N` and the last `N`.
@@ -135,33 +125,13 @@ pub(crate) fn decode<V: LaneOps<16>>(text: &[u8], output: &mut [u8]) -> bool
     } else if output.len() >= 2 {
         decode_ends::<2, V>(text, output)
     } else {
-        output.is_empty() || decode_one::<V>(text, output)
+        output.is_empty() || decode_ends::<1, V>(text, output)
     }
-}
-
-/// As `decode`, for one byte.
-#[inline(always)]
-#[tactic(auto, using(crate::proofs::lemmas::LaneMarks::pair_byte, crate::proofs::lemmas::Steps::two_bytes, crate::proofs::lemmas::Steps::one_byte))]
-fn decode_one<V: LaneOps<16>>(text: &[u8], output: &mut [u8]) -> bool
-    requires text { length text.now ≡ 2 }
-    requires output { length output.old ≡ 1 }
-    ensures digits { IsTrue result ↔ AllDigits text.now }
-    ensures spells { IsTrue result → Spells text.now output.new }
-    ensures unchanged { result ≡ false → output.new ≡ output.old }
-{
-    let are_digits = check_two::<V>(text[0], text[1]);
-    if are_digits {
-        // The compiler merges this with what the check has computed.
-        let lanes = lanes16::from_pair(text[0], text[1]);
-        let values = lanes::values::<16, V>(lanes).to_array();
-        output[0] = (values[0] << 4) | values[1];
-    }
-    are_digits
 }
 
 /// As `decode`, for `H` to `2 * H` bytes: the characters of the first `H` and of the last `H` are in one vector.
 #[inline(always)]
-#[tactic(auto, using(crate::proofs::lemmas::Standard::through, crate::proofs::lemmas::Ends::digits_ends, std::proofs::lemmas::List::take_all))]
+#[tactic(auto, using(crate::proofs::lemmas::Standard::through, crate::proofs::lemmas::Steps::digits_ends, std::proofs::lemmas::List::take_all))]
 fn decode_ends<const H: usize, V: LaneOps<16>>(text: &[u8], output: &mut [u8]) -> bool
     requires half { H ≤ 4 }
     requires size { length text.now ≡ 2 * length output.old }
@@ -171,11 +141,11 @@ fn decode_ends<const H: usize, V: LaneOps<16>>(text: &[u8], output: &mut [u8]) -
     ensures spells { IsTrue result → Spells text.now output.new }
     ensures unchanged { result ≡ false → output.new ≡ output.old }
 {
-    let step = load_ends::<16>(text, 2 * H);
-    let are_digits = steps::check_step::<16, V>(&step);
+    let lanes = load_ends(text, 2 * H);
+    let are_digits = lanes::are_digits::<16, V>(lanes);
     if are_digits {
-        let lanes = Simd::from_slice(&step);
-        put_ends(&lanes::decode::<16, V>(lanes, lanes).to_array(), H, output);
+        let bytes = lanes::decode::<16, V>(lanes, lanes).to_array();
+        copy_ends(&bytes[..2 * H], H, output);
     }
     are_digits
 }
@@ -200,48 +170,49 @@ pub(crate) fn decode_pair<const N: usize, V: LaneOps<N>>(
     if are_digits {
         let first = Simd::from_slice(text);
         let last = Simd::from_slice(&text[text.len() - N..]);
-        put_ends(&lanes::decode::<N, V>(first, last).to_array(), half, output);
+        copy_ends(&lanes::decode::<N, V>(first, last).to_array(), half, output);
     }
     are_digits
 }
 
 /// Puts the bytes into an array, and zeros after them.
 #[inline(always)]
-fn load<const N: usize>(bytes: &[u8]) -> [u8; N]
-    requires { length bytes.now ≤ N }
+fn load(bytes: &[u8]) -> [u8; 8]
+    requires { length bytes.now ≤ 8 }
     ensures { take (length bytes.now) result ≡ bytes.now }
 {
-    let mut lanes = [0; N];
+    let mut lanes = [0; 8];
     lanes[..bytes.len()].copy_from_slice(bytes);
     lanes
 }
 
-/// Puts the first `count` bytes and the last `count` bytes into an array, and digits after them.
+/// Puts the first `count` bytes and the last `count` bytes into the first lanes, and digits into the others.
+// By a sum: if the digits stood in the same array, LLVM would insert each of them.
 #[inline(always)]
-fn load_ends<const N: usize>(bytes: &[u8], count: usize) -> [u8; N]
+fn load_ends<const N: usize>(bytes: &[u8], count: usize) -> Simd<u8, N>
     requires half { 2 * count ≤ N }
     requires size { count ≤ length bytes.now }
     ensures ends { take (2 * count) result
         ≡ take count bytes.now ++ drop (length bytes.now - count) bytes.now }
     ensures rest { AllDigits (drop (2 * count) result) }
 {
-    let mut step = [b'0'; N];
-    let lanes = &mut step[..];
-    lanes[..count].copy_from_slice(&bytes[..count]);
-    lanes[count..2 * count].copy_from_slice(&bytes[bytes.len() - count..]);
-    step
+    let mut ends = [0; N];
+    copy_ends(bytes, count, &mut ends[..2 * count]);
+    let mut digits = [b'0'; N];
+    digits[..2 * count].copy_from_slice(&[0; N][..2 * count]);
+    Simd::from_slice(&ends) + Simd::from_slice(&digits)
 }
 
-/// Stores the first `half` bytes at the start of the output, and the next `half` at its end.
+/// Copies the first `count` bytes to the start of the output, and the last `count` bytes to its end.
 #[inline(always)]
-fn put_ends(ends: &[u8], half: usize, output: &mut [u8])
-    requires ends { 2 * half ≤ length ends.now }
-    requires least { half ≤ length output.old }
-    requires most { length output.old ≤ 2 * half }
-    ensures { output.new ≡ take (length output.old - half) (take half ends.now)
-        ++ take half (drop half ends.now) }
+fn copy_ends(bytes: &[u8], count: usize, output: &mut [u8])
+    requires bytes { count ≤ length bytes.now }
+    requires least { count ≤ length output.old }
+    requires most { length output.old ≤ 2 * count }
+    ensures { output.new ≡ take (length output.old - count) (take count bytes.now)
+        ++ drop (length bytes.now - count) bytes.now }
 {
-    let start = output.len() - half;
-    output[..half].copy_from_slice(&ends[..half]);
-    output[start..].copy_from_slice(&ends[half..2 * half]);
+    let start = output.len() - count;
+    output[..count].copy_from_slice(&bytes[..count]);
+    output[start..].copy_from_slice(&bytes[bytes.len() - count..]);
 }

@@ -10,7 +10,6 @@ use std::simd::prelude::*;
 
 /// Fills the output with two digits for each byte of a step.
 #[inline(always)]
-#[tactic(auto, using(std::proofs::lemmas::List::take_all))]
 pub(crate) fn fill_step<const N: usize, V: LaneOps<N>>(bytes: &[u8], upper: bool, output: &mut [u8])
     requires bytes { length bytes.now ≡ N }
     requires output { length output.old ≡ 2 * N }
@@ -21,7 +20,6 @@ pub(crate) fn fill_step<const N: usize, V: LaneOps<N>>(bytes: &[u8], upper: bool
 
 /// Whether every byte of a step is a digit.
 #[inline(always)]
-#[tactic(auto, using(std::proofs::lemmas::List::take_all))]
 pub(crate) fn check_step<const N: usize, V: LaneOps<N>>(text: &[u8]) -> bool
     requires { length text.now ≡ N }
     ensures { IsTrue result ↔ AllDigits text.now }
@@ -32,7 +30,6 @@ pub(crate) fn check_step<const N: usize, V: LaneOps<N>>(text: &[u8]) -> bool
 /// As `check_step`, for the text of two steps, by one test.
 // Not by `lanes::are_all_digits`, which would make the proof of `decode_step` longer.
 #[inline(always)]
-#[tactic(auto, using(crate::proofs::lemmas::Standard::through))]
 pub(crate) fn check_two_steps<const N: usize, V: LaneOps<N>>(text: &[u8]) -> bool
     requires { length text.now ≡ 2 * N }
     ensures { IsTrue result ↔ AllDigits text.now }
@@ -106,7 +103,6 @@ pub(crate) fn decode_two_steps<const N: usize, V: LaneOps<N>>(
 /// Decodes the digits of a step.
 // The test has already computed these values for the marks. The compiler merges both computations.
 #[inline(always)]
-#[tactic(auto, using(crate::proofs::lemmas::LaneValues::in_two))]
 pub(crate) fn decode_vector<const N: usize, V: LaneOps<N>>(text: &[u8]) -> Simd<u8, N>
     requires text { length text.now ≡ 2 * N }
     requires digits { AllDigits text.now }

@@ -27,18 +27,6 @@ pub(crate) fn digits_row(upper: bool) -> [u8; 16] {
     DIGITS[usize::from(upper)]
 }
 
-/// Both bytes in the first two lanes, and zeros in the others.
-#[inline(always)]
-pub(crate) fn from_pair(first: u8, second: u8) -> u8x16 {
-    u64x2::from_array([u64::from(u16::from_le_bytes([first, second])), 0]).to_le_bytes()
-}
-
-/// Whether the first two marks have the bits 7, 6, 4 and 3 clear.
-#[inline(always)]
-pub(crate) fn is_pair_unmarked(marks: u8x16) -> bool {
-    u16x8::from_le_bytes(marks & u8x16::splat(0xD8)).to_array()[0] == 0
-}
-
 /// Half of a row, in both halves of a vector.
 #[inline(always)]
 pub(crate) fn in_both_halves(lanes: [u8; 16]) -> u8x32 {
@@ -49,7 +37,8 @@ pub(crate) fn in_both_halves(lanes: [u8; 16]) -> u8x32 {
 /// Two digits for each lane, in order: the text of the first 8 lanes, and the text of the last 8.
 #[inline(always)]
 pub fn encode_chunk<const UPPER: bool>(v: u8x16) -> [u8x16; 2] {
-    in_two(encode_lanes(v, UPPER))
+    let text = encode_lanes(v, UPPER);
+    [text.extract::<0, 16>(), text.extract::<16, 16>()]
 }
 
 /// Whether every lane is a digit.
@@ -112,28 +101,16 @@ impl LaneOps<16> for Multiplying {
     }
 }
 
-/// A vector in its halves.
-#[inline(always)]
-pub(crate) fn in_two(v: u8x32) -> [u8x16; 2] {
-    [v.extract::<0, 16>(), v.extract::<16, 16>()]
-}
-
 /// Two digits for each lane, in order.
 #[inline(always)]
 pub(crate) fn encode_lanes(v: u8x16, upper: bool) -> u8x32 {
     in_both_halves(digits_row(upper)).swizzle_dyn_within::<16>(split_lanes(v))
 }
 
-/// Two digits for each of the first 8 lanes, in order.
+/// As `encode_lanes`, for 8 lanes.
 #[inline(always)]
-pub(crate) fn encode_half(v: u8x16, upper: bool) -> u8x16 {
-    u8x16::from_array(digits_row(upper)).swizzle_dyn(split_half(first_half(v)))
-}
-
-/// The first 8 lanes.
-#[inline(always)]
-fn first_half(v: u8x16) -> u8x8 {
-    v.extract::<0, 8>()
+pub(crate) fn encode_half(v: u8x8, upper: bool) -> u8x16 {
+    u8x16::from_array(digits_row(upper)).swizzle_dyn(split_half(v))
 }
 
 /// As `split_lanes`, for 8 lanes.

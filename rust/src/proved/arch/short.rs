@@ -6,6 +6,7 @@
 use crate::std_shim::prelude::*;
 use crate::proved::arch::lanes::{self, LaneOps};
 use crate::proved::arch::{lanes16, steps};
+use crate::proved::tables::is_digit;
 use crate::std_shim::simd::prelude::*;
 
 /// Fills the output with two digits for each of at most 15 bytes.
@@ -33,7 +34,7 @@ fn fill_ends<const H: usize>(bytes: &[u8], upper: bool, output: &mut [u8]) {
 /// Fills the output with the text of `H` bytes, by one vector.
 #[inline(always)]
 fn fill_end<const H: usize>(bytes: &[u8], upper: bool, output: &mut [u8]) {
-    let text = lanes16::encode_half(Simd::from_array(load::<16>(bytes)), upper).to_array();
+    let text = lanes16::encode_half(Simd::from_slice(&load(bytes)), upper).to_array();
     output.copy_from_slice(&text[..2 * H]);
 }
 
@@ -53,26 +54,17 @@ pub(crate) fn check<V: LaneOps<16>>(text: &[u8]) -> bool {
         check_ends::<8, V>(text)
     } else if text.len() >= 4 {
         check_ends::<4, V>(text)
-    } else if text.len() == 3 {
+    } else if text.len() >= 2 {
         check_ends::<2, V>(text)
-    } else if text.len() >= 1 {
-        check_two::<V>(text[0], text[text.len() - 1])
     } else {
-        true
+        text.is_empty() || is_digit(text[0])
     }
 }
 
 /// Whether every one of `H` to `2 * H` bytes is a digit: the first `H` and the last `H` are in one vector.
 #[inline(always)]
 fn check_ends<const H: usize, V: LaneOps<16>>(text: &[u8]) -> bool {
-    steps::check_step::<16, V>(&load_ends::<16>(text, H))
-}
-
-/// Whether both bytes are digits.
-#[inline(always)]
-fn check_two<V: LaneOps<16>>(first: u8, second: u8) -> bool {
-    let lanes = lanes16::from_pair(first, second);
-    lanes16::is_pair_unmarked(lanes::marks::<16, V>(lanes))
+    lanes::are_digits::<16, V>(load_ends(text, H))
 }
 
 /// Whether every one of `N` to `2 * N` bytes is a digit: one test covers the first `N` and the last `N`.
@@ -93,31 +85,18 @@ pub(crate) fn decode<V: LaneOps<16>>(text: &[u8], output: &mut [u8]) -> bool {
     } else if output.len() >= 2 {
         decode_ends::<2, V>(text, output)
     } else {
-        output.is_empty() || decode_one::<V>(text, output)
+        output.is_empty() || decode_ends::<1, V>(text, output)
     }
-}
-
-/// As `decode`, for one byte.
-#[inline(always)]
-fn decode_one<V: LaneOps<16>>(text: &[u8], output: &mut [u8]) -> bool {
-    let are_digits = check_two::<V>(text[0], text[1]);
-    if are_digits {
-        // The compiler merges this with what the check has computed.
-        let lanes = lanes16::from_pair(text[0], text[1]);
-        let values = lanes::values::<16, V>(lanes).to_array();
-        output[0] = (values[0] << 4) | values[1];
-    }
-    are_digits
 }
 
 /// As `decode`, for `H` to `2 * H` bytes: the characters of the first `H` and of the last `H` are in one vector.
 #[inline(always)]
 fn decode_ends<const H: usize, V: LaneOps<16>>(text: &[u8], output: &mut [u8]) -> bool {
-    let step = load_ends::<16>(text, 2 * H);
-    let are_digits = steps::check_step::<16, V>(&step);
+    let lanes = load_ends(text, 2 * H);
+    let are_digits = lanes::are_digits::<16, V>(lanes);
     if are_digits {
-        let lanes = Simd::from_slice(&step);
-        put_ends(&lanes::decode::<16, V>(lanes, lanes).to_array(), H, output);
+        let bytes = lanes::decode::<16, V>(lanes, lanes).to_array();
+        copy_ends(&bytes[..2 * H], H, output);
     }
     are_digits
 }
@@ -134,33 +113,34 @@ pub(crate) fn decode_pair<const N: usize, V: LaneOps<N>>(
     if are_digits {
         let first = Simd::from_slice(text);
         let last = Simd::from_slice(&text[text.len() - N..]);
-        put_ends(&lanes::decode::<N, V>(first, last).to_array(), half, output);
+        copy_ends(&lanes::decode::<N, V>(first, last).to_array(), half, output);
     }
     are_digits
 }
 
 /// Puts the bytes into an array, and zeros after them.
 #[inline(always)]
-fn load<const N: usize>(bytes: &[u8]) -> [u8; N] {
-    let mut lanes = [0; N];
+fn load(bytes: &[u8]) -> [u8; 8] {
+    let mut lanes = [0; 8];
     lanes[..bytes.len()].copy_from_slice(bytes);
     lanes
 }
 
-/// Puts the first `count` bytes and the last `count` bytes into an array, and digits after them.
+/// Puts the first `count` bytes and the last `count` bytes into the first lanes, and digits into the others.
+// By a sum: if the digits stood in the same array, LLVM would insert each of them.
 #[inline(always)]
-fn load_ends<const N: usize>(bytes: &[u8], count: usize) -> [u8; N] {
-    let mut step = [b'0'; N];
-    let lanes = &mut step[..];
-    lanes[..count].copy_from_slice(&bytes[..count]);
-    lanes[count..2 * count].copy_from_slice(&bytes[bytes.len() - count..]);
-    step
+fn load_ends<const N: usize>(bytes: &[u8], count: usize) -> Simd<u8, N> {
+    let mut ends = [0; N];
+    copy_ends(bytes, count, &mut ends[..2 * count]);
+    let mut digits = [b'0'; N];
+    digits[..2 * count].copy_from_slice(&[0; N][..2 * count]);
+    Simd::from_slice(&ends) + Simd::from_slice(&digits)
 }
 
-/// Stores the first `half` bytes at the start of the output, and the next `half` at its end.
+/// Copies the first `count` bytes to the start of the output, and the last `count` bytes to its end.
 #[inline(always)]
-fn put_ends(ends: &[u8], half: usize, output: &mut [u8]) {
-    let start = output.len() - half;
-    output[..half].copy_from_slice(&ends[..half]);
-    output[start..].copy_from_slice(&ends[half..2 * half]);
+fn copy_ends(bytes: &[u8], count: usize, output: &mut [u8]) {
+    let start = output.len() - count;
+    output[..count].copy_from_slice(&bytes[..count]);
+    output[start..].copy_from_slice(&bytes[bytes.len() - count..]);
 }

@@ -5,7 +5,7 @@ use Rattle.std.proofs.result.Result.TheLaws.{the_row_laws as result_laws}
 use base.Fml.{Lft, Share}
 use base.Logic.{ent, ex_i}
 use base.Stored.{coded_list}
-use Rattle.const_hex_arch.proofs.lemmas.Walks.LaneOptions.{◌≡◌, ℕ, ◌*◌, Bool, List, [], ◌∷◌, length, refl, ap, ◌∙◌, Bor, MutBor, ◌↔◌, IsOk, IfOk, Ok, Err, IfErr, MatchResult, Result, proved, sep, id⊢, emp, GName, ftrue, flft, fres, Fn, Callee, local, value_local, ty_ref, ty_int, imm, mut, erased, field, deref, place, copy, addr_of, aggregate, assign, call, seq, named, w8, Val, fact, fact_i, Running, tables, Meets, ‵, raw, ◌⊛◌, some, later, ◌$◌, ◌∵◌, !, qed, done, move, drop, use0, use1, use2, split, join, pick, await, rewrite, suffices, frame, group, enter, addr, stop, fld, hop, from, no_more, and_then, returns, agg, whole, sub, alloc_all, pass_all, free_all, look_at, look_in_at, get, get_in, sets, lands_as, u8, bool, SliceRefOf, yes, no, Is, shows, bool_vals, bool_Makes, nothing, owned, heard, peeks, only, calls_at, Clauses, closing, lasts, Lasts, triple_of, Stays, stay_dropped, Goes-dropped, Goes-spent_slice, ends_at, framed, Model, Closed, Ura, Logic, sem, plain}
+use Rattle.const_hex_arch.proofs.lemmas.Walks.{◌≡◌, ℕ, ◌*◌, Bool, List, [], ◌∷◌, length, refl, ap, ◌∙◌, Bor, MutBor, ◌↔◌, IsOk, IfOk, Ok, Err, IfErr, MatchResult, Result, proved, sep, id⊢, emp, GName, ftrue, flft, fres, Fn, Callee, local, value_local, ty_ref, ty_int, imm, mut, erased, field, deref, place, copy, addr_of, aggregate, assign, call, seq, named, w8, Val, fact, fact_i, Running, tables, Meets, ‵, raw, ◌⊛◌, some, later, ◌$◌, ◌∵◌, !, qed, done, move, drop, use0, use1, use2, split, join, pick, await, rewrite, suffices, frame, group, enter, addr, stop, fld, hop, from, no_more, and_then, returns, agg, whole, sub, alloc_all, pass_all, free_all, look_at, look_in_at, get, get_in, sets, lands_as, u8, bool, SliceRefOf, yes, no, Is, shows, bool_vals, bool_Makes, nothing, owned, heard, peeks, only, calls_at, Clauses, closing, lasts, Lasts, triple_of, Stays, stay_dropped, Goes-dropped, Goes-spent_slice, ends_at, framed, Model, Closed, Ura, Logic, sem, plain}
 use mir.Syntax.{Lifetime, return as end}
 use types.Kit.{split3, fsplit, fjoin, feq_i, updating, now}
 use borrow.Rule.Slice.Handed.{sl_Share}

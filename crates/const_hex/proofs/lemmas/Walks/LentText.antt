@@ -1,6 +1,6 @@
 -- A function that fills a buffer by one call, and lends the text that this call lends in a struct.
 -- One walk serves every such function, whatever the two promise.
-use Rattle.const_hex_arch.proofs.lemmas.Walks.LaneOptions.{ℕ, length, Bool, List, [], ◌∷◌, refl, ap, T, proved, id⊢, ftrue, Ty, Fn, Callee, local, value_local, ty_ref, ty_int, imm, mut, erased, field, deref, place, copy, rv_opd, addr_of, assign, call, seq, a_number, named, w8, Val, vptr, WT, has_ty, Running, tables, Model, Closed, Ura, Logic, ‵, raw, ◌⊛◌, some, later, ◌$◌, ◌∵◌, !, qed, done, move, drop, use1, use2, split, join, pick, await, suffices, enter, of_opd, addr, fld, stop, no_more, and_then, returns, alloc_all, pass_all, free_all, look_at, get, get_in, sub, whole, through, sets, lands_as, u8, bool, RefOf, SliceRefOf, RefMutOf, yes, no, left, Is, Tells, shows, bool_vals, bool_Makes, Slot, plain, nothing, owned, peeks, only, calls_at, Clauses, Ended, closing, lasts, Lasts, Meets, triple_of, RattleType, framed, ends_at}
+use Rattle.const_hex_arch.proofs.lemmas.Walks.{ℕ, length, Bool, List, [], ◌∷◌, refl, ap, T, proved, id⊢, ftrue, Ty, Fn, Callee, local, value_local, ty_ref, ty_int, imm, mut, erased, field, deref, place, copy, rv_opd, addr_of, assign, call, seq, a_number, named, w8, Val, vptr, WT, has_ty, Running, tables, Model, Closed, Ura, Logic, ‵, raw, ◌⊛◌, some, later, ◌$◌, ◌∵◌, !, qed, done, move, drop, use1, use2, split, join, pick, await, suffices, enter, of_opd, addr, fld, stop, no_more, and_then, returns, alloc_all, pass_all, free_all, look_at, get, get_in, sub, whole, through, sets, lands_as, u8, bool, RefOf, SliceRefOf, RefMutOf, yes, no, left, Is, Tells, shows, bool_vals, bool_Makes, Slot, plain, nothing, owned, peeks, only, calls_at, Clauses, Ended, closing, lasts, Lasts, Meets, triple_of, RattleType, framed, ends_at}
 use mir.Syntax.{return as end}
 use types.Kit.{fsplit, fjoin}
 use contract.Lifetimes.{Lfts}

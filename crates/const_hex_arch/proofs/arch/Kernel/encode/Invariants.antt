@@ -1,12 +1,10 @@
 use Rattle.std.proofs.Common.{length}
-use Rattle.const_hex_arch.specs.{hex_text}
 use Rattle.const_hex_arch.proofs.lemmas.Steps.{IsWritten}
 use Rattle.const_hex_arch.proofs.arch.Kernel.encode.Given as goal
 
 abbrev pub invariant-loop-rest : goal.invariant-loop-rest
 invariant-loop-rest g l =
-    IsWritten g.O.Output.step g.O.Output.space (hex_text l.upper l.input) l.initial.output l.output
-    (hex_text l.upper l.rest)
+    IsWritten g.O.Output.step g.O.Output.space l.upper l.input l.initial.output l.output l.rest
 
 abbrev pub decreases-loop-rest : goal.decreases-loop-rest
 decreases-loop-rest g l = length l.rest

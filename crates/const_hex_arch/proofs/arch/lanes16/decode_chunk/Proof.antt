@@ -1,5 +1,5 @@
 -- `decode_chunk` makes an `Option` of what `decode_flagged` gives.
-use Rattle.const_hex_arch.proofs.lemmas.Walks.DecodedChunk.{some_or_none}
+use Rattle.const_hex_arch.proofs.lemmas.Walks.{some_or_none}
 use Rattle.const_hex_arch.specs.contracts.arch.lanes16.decode_chunk.Key.{name}
 use Rattle.const_hex_arch.specs.contracts.arch.lanes16.decode_flagged.Key.{name as flags}
 use Rattle.const_hex_arch.proofs.arch.lanes16.decode_chunk.Statement.{statement}

@@ -1,14 +1,14 @@
-use Rattle.std.proofs.Common.{map, take, refl}
+use Rattle.std.proofs.Common.{map, refl}
 use Rattle.std.specs.List.{range_with_len}
 use Rattle.const_hex_arch.specs.{hex_digit}
-use Rattle.const_hex_arch.proofs.lemmas.LaneText.{first_half, halves_ok, halves_text, row_is_table}
+use Rattle.const_hex_arch.proofs.lemmas.LaneText.{halves_ok, halves_text, row_is_table}
 use Rattle.const_hex_arch.proofs.arch.lanes16.encode_half.Goals as goal
 
 pub swizzle : goal.swizzle
-swizzle c = rw (c.split_half.ensures, c.first_half.ensures) (halves_ok 1 8 (take 8 c.args.v) (first_half c.args.v c.fits-v) refl)
+swizzle c = rw c.split_half.ensures (halves_ok 1 8 c.args.v c.fits-v refl)
 
 pub returns : goal.returns
 returns c =
     let digits = map (hex_digit c.args.upper) (range_with_len 0 16) in
-    rw (c.split_half.ensures, c.first_half.ensures, c.digits_row.ensures)
-    (halves_text c.args.upper 8 digits (take 8 c.args.v) (first_half c.args.v c.fits-v) (row_is_table c.args.upper).1)
+    rw (c.split_half.ensures, c.digits_row.ensures)
+    (halves_text c.args.upper 8 digits c.args.v c.fits-v (row_is_table c.args.upper).1)

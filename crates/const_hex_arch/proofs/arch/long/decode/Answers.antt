@@ -1,27 +1,25 @@
-use Rattle.std.proofs.Common.{◌-◌, length, refl, sym, ◌∙◌, arith}
-use Rattle.std.proofs.lemmas.Bool.{false≢true}
+use Rattle.std.proofs.Common.{◌-◌, length, refl, arith}
 use Rattle.const_hex_arch.proofs.lemmas.Steps.{decoded_step, decoded_less, refused_step, spells_rest}
 use Rattle.const_hex_arch.proofs.arch.long.decode.Goals as goal
 
 pub loop-output-preserved : goal.loop-output-preserved
 loop-output-preserved g c =
-    decoded_step _ _ _ c.loop-output.invariant (omega arith) (omega arith) (omega arith) (omega arith)
-    (c.if-not-decode_two_steps.ensures.spells refl)
+    decoded_step _ _ _ c.loop-output.invariant (omega arith) (c.if-not-decode_two_steps.ensures.spells refl)
 
 pub returns-then-not-decode_two_steps-clause-refused : goal.returns-then-not-decode_two_steps-clause-refused
-returns-then-not-decode_two_steps-clause-refused g c = λ _.
+returns-then-not-decode_two_steps-clause-refused g c =
     let is = c.if-not-decode_two_steps.ensures in
-    refused_step _ _ _ _ c.loop-output.invariant c.requires.size (is.unchanged refl) (λ d. false≢true (is.digits.1 d))
+    refused_step _ _ _ _ c.loop-output.invariant c.requires.size is.digits (is.unchanged refl)
 
 pub loop-output-2-preserved : goal.loop-output-2-preserved
 loop-output-2-preserved g c =
-    decoded_step _ _ _ c.loop-output-2.invariant (omega arith) (omega arith) (omega arith) (omega arith)
+    decoded_step _ _ _ c.loop-output-2.invariant (omega arith)
     (c.if-not-decode_step.ensures.spells refl)
 
 pub returns-then-not-decode_step-clause-refused : goal.returns-then-not-decode_step-clause-refused
-returns-then-not-decode_step-clause-refused g c = λ _.
+returns-then-not-decode_step-clause-refused g c =
     let is = c.if-not-decode_step.ensures in
-    refused_step _ _ _ _ c.loop-output-2.invariant c.requires.size (is.unchanged refl) (λ d. false≢true (is.digits.1 d))
+    refused_step _ _ _ _ c.loop-output-2.invariant c.requires.size is.digits (is.unchanged refl)
 
 pub returns-clause-spells : goal.returns-clause-spells
 returns-clause-spells g c = λ t.
@@ -32,4 +30,4 @@ returns-clause-spells g c = λ t.
 pub returns-clause-refused : goal.returns-clause-refused
 returns-clause-refused g c = λ f.
     let is = c.decode_step-2.ensures in
-    refused_step _ _ _ _ c.loop-output-2.invariant c.requires.size (is.unchanged f) (λ d. false≢true (sym f ∙ is.digits.1 d))
+    refused_step _ _ _ _ c.loop-output-2.invariant c.requires.size is.digits (is.unchanged f) f

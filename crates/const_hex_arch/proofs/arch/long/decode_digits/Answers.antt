@@ -4,8 +4,7 @@ use Rattle.const_hex_arch.proofs.arch.long.decode_digits.Goals as goal
 
 pub loop-output-preserved : goal.loop-output-preserved
 loop-output-preserved g c =
-    decoded_step _ _ _ c.loop-output.invariant (omega arith) (omega arith) (omega arith) (omega arith)
-    c.decode_digits_step.ensures
+    decoded_step _ _ _ c.loop-output.invariant (omega arith) c.decode_digits_step.ensures
 
 pub returns : goal.returns
 returns g c =

@@ -1,27 +1,26 @@
 use Rattle.std.proofs.Common.{refl, arith}
-use Rattle.std.proofs.lemmas.Bool.{false≢true}
 use Rattle.const_hex_arch.proofs.lemmas.Steps.{decoded_step, refused_step, spells_rest, refused_rest}
 use Rattle.const_hex_arch.proofs.arch.long.decode_front.Goals as goal
 
 pub loop-output-preserved : goal.loop-output-preserved
 loop-output-preserved g c =
-    decoded_step _ _ _ c.loop-output.invariant (omega arith) (omega arith) (omega arith) (omega arith)
+    decoded_step _ _ _ c.loop-output.invariant (omega arith)
     (c.if-not-decode_step.ensures.spells refl)
 
 pub returns-then-not-decode_step-clause-refused : goal.returns-then-not-decode_step-clause-refused
-returns-then-not-decode_step-clause-refused g c = λ _.
+returns-then-not-decode_step-clause-refused g c =
     let is = c.if-not-decode_step.ensures in
-    refused_step _ _ _ _ c.loop-output.invariant c.requires (is.unchanged refl) (λ d. false≢true (is.digits.1 d))
+    refused_step _ _ _ _ c.loop-output.invariant c.requires is.digits (is.unchanged refl)
 
 pub loop-output-2-preserved : goal.loop-output-2-preserved
 loop-output-2-preserved g c =
-    decoded_step _ _ _ c.loop-output-2.invariant (omega arith) (omega arith) (omega arith) (omega arith)
+    decoded_step _ _ _ c.loop-output-2.invariant (omega arith)
     (c.if-not-decode_step-2.ensures.spells refl)
 
 pub returns-then-not-decode_step-2-clause-refused : goal.returns-then-not-decode_step-2-clause-refused
-returns-then-not-decode_step-2-clause-refused g c = λ _.
+returns-then-not-decode_step-2-clause-refused g c =
     let is = c.if-not-decode_step-2.ensures in
-    refused_step _ _ _ _ c.loop-output-2.invariant c.requires (is.unchanged refl) (λ d. false≢true (is.digits.1 d))
+    refused_step _ _ _ _ c.loop-output-2.invariant c.requires is.digits (is.unchanged refl)
 
 pub returns-clause-spells : goal.returns-clause-spells
 returns-clause-spells g c = λ t.

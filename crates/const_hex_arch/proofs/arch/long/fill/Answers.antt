@@ -1,5 +1,5 @@
 use Rattle.std.proofs.Common.{◌-◌, length, arith}
-use Rattle.const_hex_arch.proofs.lemmas.Ends.{none_filled, filled_step, filled_less, filled_rest}
+use Rattle.const_hex_arch.proofs.lemmas.Steps.{none_filled, filled_step, filled_less, filled_rest}
 use Rattle.const_hex_arch.proofs.arch.long.fill.Goals as goal
 
 pub loop-at-init : goal.loop-at-init

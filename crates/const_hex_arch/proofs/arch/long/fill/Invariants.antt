@@ -1,5 +1,5 @@
 use Rattle.std.proofs.Common.{◌-◌, length}
-use Rattle.const_hex_arch.proofs.lemmas.Ends.{IsFilled}
+use Rattle.const_hex_arch.proofs.lemmas.Steps.{IsFilled}
 use Rattle.const_hex_arch.proofs.arch.long.fill.Given as goal
 
 abbrev pub invariant-loop-at : goal.invariant-loop-at

@@ -1,5 +1,5 @@
 use Rattle.std.proofs.Common.{◌≡◌, ◌-◌, length, take, drop, arith, take_all, length-drop}
-use Rattle.const_hex_arch.proofs.lemmas.Ends.{digits_pair}
+use Rattle.const_hex_arch.proofs.lemmas.Steps.{digits_pair}
 use Rattle.const_hex_arch.proofs.lemmas.Standard.{through}
 use Rattle.const_hex_arch.proofs.arch.short.check_pair.Goals as goal
 

@@ -1,6 +1,6 @@
 use Rattle.std.proofs.Common.{◌≡◌, ◌-◌, ◌*◌, ◌++◌, length, take, drop, sym, arith, take_all, length-take, length-drop, length-append}
 use Rattle.const_hex_arch.specs.{Spells}
-use Rattle.const_hex_arch.proofs.lemmas.Ends.{digits_pair, spells_ends}
+use Rattle.const_hex_arch.proofs.lemmas.Steps.{digits_pair, spells_ends}
 use Rattle.const_hex_arch.proofs.arch.short.decode_pair.Goals as goal
 
 pub returns-then-are_digits-clause-spells : goal.returns-then-are_digits-clause-spells
@@ -14,6 +14,6 @@ returns-then-are_digits-clause-spells g c = λ t.
     let spelled : Spells step c.decode.result = rw last at c.decode.ensures digits in
     let whole : take (2 * n) step ≡ step =
     take_all (2 * n) step (omega (arith, length-append (take n u) (drop start u), length-take n u, length-drop start u)) in
-    rw c.put_ends.ensures
-    (spells_ends c.args.half n (length c.args.output.now) u step _ (sym c.requires.half) c.requires.size c.requires.least
-    (omega arith) whole spelled)
+    rw c.copy_ends.ensures
+    (spells_ends c.args.half n (length c.args.output.now) u step _ c.decode.result (sym c.requires.half) c.requires.size c.requires.least
+    (omega arith) whole spelled (sym (take_all n c.decode.result (omega arith))) (omega arith))

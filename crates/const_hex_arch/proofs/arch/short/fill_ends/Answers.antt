@@ -1,5 +1,5 @@
 use Rattle.std.proofs.Common.{◌-◌, ◌*◌, length, arith}
-use Rattle.const_hex_arch.proofs.lemmas.Ends.{IsFilled, none_filled, filled_step, filled_less, filled_rest}
+use Rattle.const_hex_arch.proofs.lemmas.Steps.{IsFilled, none_filled, filled_step, filled_less, filled_rest}
 use Rattle.const_hex_arch.proofs.arch.short.fill_ends.Goals as goal
 
 pub returns : goal.returns

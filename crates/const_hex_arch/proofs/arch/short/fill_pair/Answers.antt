@@ -1,6 +1,6 @@
 use Rattle.std.proofs.Common.{◌-◌, length, refl, arith}
 use Rattle.std.proofs.lemmas.List.{take_rest}
-use Rattle.const_hex_arch.proofs.lemmas.Ends.{ends_filled}
+use Rattle.const_hex_arch.proofs.lemmas.Steps.{ends_filled}
 use Rattle.const_hex_arch.proofs.arch.short.fill_pair.Goals as goal
 
 pub returns : goal.returns

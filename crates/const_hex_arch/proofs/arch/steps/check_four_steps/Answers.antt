@@ -1,5 +1,5 @@
 use Rattle.std.proofs.Common.{arith}
-use Rattle.const_hex_arch.proofs.lemmas.LaneMarks.{joint_test}
+use Rattle.const_hex_arch.proofs.lemmas.LaneValues.{joint_test}
 use Rattle.const_hex_arch.proofs.lemmas.Standard.{through}
 use Rattle.const_hex_arch.proofs.lemmas.Steps.{parts}
 use Rattle.const_hex_arch.proofs.arch.steps.check_four_steps.Goals as goal

@@ -1,7 +1,7 @@
 use Rattle.std.proofs.Common.{refl}
 use Rattle.const_hex_arch.specs.declared.arch.lanes16.TheConstants.{LIMITS}
 use Rattle.const_hex_arch.proofs.lemmas.LaneText.{masked_ok}
-use Rattle.const_hex_arch.proofs.lemmas.LaneMarks.{limits_are}
+use Rattle.const_hex_arch.proofs.lemmas.LaneValues.{limits_are}
 use Rattle.const_hex_arch.proofs.arch.lanes16.MultiplyingLaneOps16.look_up_limits.Goals as goal
 
 pub swizzle : goal.swizzle

@@ -1,4 +1,4 @@
-use Rattle.const_hex_arch.proofs.lemmas.Ends.{IsFilled}
+use Rattle.const_hex_arch.proofs.lemmas.Steps.{IsFilled}
 use Rattle.const_hex_arch.proofs.arch.plain.ByteByByteKernel.fill.Given as goal
 
 abbrev pub invariant-loop-i : goal.invariant-loop-i

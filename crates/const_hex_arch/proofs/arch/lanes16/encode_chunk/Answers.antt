@@ -1,0 +1,6 @@
+use Rattle.std.proofs.Common.{append-nil, ◌∙◌, arith}
+use Rattle.const_hex_arch.proofs.lemmas.LaneText.{halves}
+use Rattle.const_hex_arch.proofs.arch.lanes16.encode_chunk.Goals as goal
+
+pub returns-clause-text : goal.returns-clause-text
+returns-clause-text g c = rw append-nil (halves 16 _ (omega arith)) ∙ c.encode_lanes-text.ensures

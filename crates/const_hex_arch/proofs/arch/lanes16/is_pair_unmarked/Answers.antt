@@ -1,5 +1,0 @@
-use Rattle.const_hex_arch.proofs.lemmas.LaneMarks.{is_pair_unmarked}
-use Rattle.const_hex_arch.proofs.arch.lanes16.is_pair_unmarked.Goals as goal
-
-pub returns : goal.returns
-returns c = is_pair_unmarked c.args.marks c.fits-marks
