@@ -26,7 +26,7 @@ pub use self::error::*;
 //   14  Rattle's std is the module std_shim
 //    1  Rust's errors are not copied
 //    2  a formatter has a lifetime in place of its writer's type
-//   55  all crates are one module
+//   56  all crates are one module
 //    2  an allocation never fails: without memory the program ends
 //   79  an assertion names no runtime
 //    3  an example names a kernel that each target has
@@ -37,11 +37,11 @@ pub use self::error::*;
 //   13  and panics instead of returning an error
 //    1  and the crate's decoder is cloned
 //    3  before it reads a part, or ends
-//   46  deleted: attribute
-//  405  deleted: clause
+//   38  deleted: attribute
+//  398  deleted: clause
 //   78  deleted: ghost item
 //    3  deleted: model
-//    5  deleted: output
+//    6  deleted: output
 //    1  each value may be dropped
 //    4  kernels that no target uses are left out, and callers that nothing exports
 //    1  the kernel is chosen for the processor
