@@ -1,10 +1,9 @@
 -- A search for the first byte that is not a digit.
-use Rattle.std.proofs.Common.{◌≡◌, ◌≢◌, ◌+◌, ◌-◌, ◌<◌, ◌↔◌, ℕ, List, length, take, drop, get_or, bit_or, ltb, is_some, inl, inr, refl, Err, IsTrue, arith, length-drop, get_or-drop}
-use Rattle.std.proofs.lemmas.Bool.{cases_Bool}
+use Rattle.std.proofs.Common.{◌≡◌, ◌≢◌, ◌+◌, ◌<◌, ◌↔◌, ℕ, List, length, take, get_or, bit_or, ltb, IsTrue, arith}
 use Rattle.std.proofs.lemmas.Bool.Decides.{nat_tests}
-use Rattle.const_hex.specs.Prelude.{AllDigits, IsDigit, IsEven, Reads, body_of, value_or_nil, hex_value, FromHexError, InvalidHexCharacter}
+use Rattle.const_hex.specs.Prelude.{AllDigits, IsDigit, value_or_nil, hex_value}
 use Rattle.std.proofs.lemmas.Nat.{or_lt}
-use Rattle.const_hex_arch.proofs.lemmas.Digits.{digit_small, two_digits, digits_more, no_value}
+use Rattle.const_hex_arch.proofs.lemmas.Digits.{digit_small, two_digits, digits_more}
 
 -- the look-up takes a digit for one
 pub has_value : (b : ℕ) → IsDigit b → value_or_nil (hex_value b) ≢ 255
