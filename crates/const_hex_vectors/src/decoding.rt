@@ -65,10 +65,19 @@ fn read_array<const N: usize>(line: &mut Line<'_>)
 {
     let (alloc, text, result) = (line.alloc, line.input, line.result);
     line.reads("decode_to_array", decode_to_array::<N>(text), result);
-    line.reads("const_decode_to_array", const_decode_to_array::<N>(text), result);
+    line.reads(
+        "const_decode_to_array",
+        const_decode_to_array::<N>(text),
+        result,
+    );
     line.reads("from_hex", <[u8; N]>::from_hex(alloc, text), result);
     let mut output = [0xEE; N];
-    line.fills("decode_to_slice", decode_to_slice(text, &mut output), &output, result);
+    line.fills(
+        "decode_to_slice",
+        decode_to_slice(text, &mut output),
+        &output,
+        result,
+    );
 }
 
 fn fill_by<K: Kernel>(line: &mut Line<'_>, size: usize, kernel: KernelCase) -> AllocResult<()> {

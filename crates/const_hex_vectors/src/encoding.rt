@@ -2,8 +2,8 @@
 
 use crate::line::{AllocResult, Line, show};
 use const_hex::{
-    Kernel, decode_with, display, encode_full_to_slice_with, encode_to_slice, encode_to_slice_upper,
-    encode_to_str, encode_to_str_upper, encode_with,
+    Kernel, decode_with, display, encode_full_to_slice_with, encode_to_slice,
+    encode_to_slice_upper, encode_to_str, encode_to_str_upper, encode_with,
 };
 use const_hex_tests::by_each_kernel;
 use const_hex_tests::testing::{InHex, KernelCase};
@@ -29,13 +29,24 @@ pub(crate) fn write_into(line: &mut Line<'_>, size: usize) -> AllocResult<()> {
         by_each_kernel!(write_form(line, size, form, &text)?);
     }
     let mut output = vec![in line.alloc; 0xEEu8; size]?;
-    let (lower, upper) = (in_form(line, (false, false))?, in_form(line, (false, true))?);
+    let (lower, upper) = (
+        in_form(line, (false, false))?,
+        in_form(line, (false, true))?,
+    );
     let done = encode_to_slice(line.input, &mut output);
     line.fills("encode_to_slice", done, &output, &lower);
     let done = encode_to_slice_upper(line.input, &mut output);
     line.fills("encode_to_slice_upper", done, &output, &upper);
-    line.reads("encode_to_str", encode_to_str(line.input, &mut output), &lower);
-    line.reads("encode_to_str_upper", encode_to_str_upper(line.input, &mut output), &upper);
+    line.reads(
+        "encode_to_str",
+        encode_to_str(line.input, &mut output),
+        &lower,
+    );
+    line.reads(
+        "encode_to_str_upper",
+        encode_to_str_upper(line.input, &mut output),
+        &upper,
+    );
     Ok(())
 }
 

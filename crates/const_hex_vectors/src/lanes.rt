@@ -51,6 +51,10 @@ pub(crate) fn bytes(line: &mut Line<'_>) -> AllocResult<()> {
         32 => decode_to_slice_with::<Lanes32>(line.input, &mut output),
         _ => decode_to_slice_with::<Lanes16>(line.input, &mut output),
     };
-    line.gives("decode_to_slice_with", show(line.alloc, &output), line.result);
+    line.gives(
+        "decode_to_slice_with",
+        show(line.alloc, &output),
+        line.result,
+    );
     Ok(())
 }
