@@ -160,7 +160,6 @@ VECTORS = {
     "pextrw": extract(2),
     "pextrd": extract(4),
     "pextrq": extract(8),
-    "pextrb": extract(1),
     "ptest": test_vector,
     "pmovzxbw": widen,
 }

@@ -16,6 +16,7 @@ MORE = {
         inc rax; dec ecx; cmovb rax, rcx; cmovne eax, ecx; paddb xmm0, xmm1; por xmm0, xmm1; pxor xmm0, xmm1;
         shr eax, 3; not rax; not cl; movabs rax, 0x123456789abcdef0; movsxd rax, ecx; movsxd rax, dword ptr [rcx]
         xorps xmm0, xmm1; movaps xmm0, xmm1; movups xmm0, [rax]; movups [rax], xmm0; mul rcx; mul rax
+        pinsrd xmm0, eax, 2; mov byte ptr [rax], dh
         setb al; setae al; sete al; setne al; setbe al; seta al; sets al
         lea rax, [rip + more + 16]; movdqu xmm0, [rip + more + 16]
         .section .rodata.more; .balign 16; more: .skip 16; .ascii "0123456789abcdef" """,
