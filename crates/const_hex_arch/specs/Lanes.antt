@@ -47,7 +47,3 @@ IsPartOf b n = IsValueOf b n × (IsUnmarked (((b + 208) % 256 + (256 - n)) % 256
 -- the byte less 48, but at most t, is such a part
 abbrev pub IsLimitOf : ℕ → ℕ → Type 0
 IsLimitOf b t = IsPartOf b (if nat_lt ((b + 208) % 256) t then (b + 208) % 256 else t)
-
--- z is a mark of the byte: there is none if and only if it is a digit
-abbrev pub IsMarkOf : ℕ → ℕ → Type 0
-IsMarkOf b z = IsUnmarked z ↔ IsDigit b

@@ -49,12 +49,6 @@ pub use types.Match.{live}
 pub use types.Part.{agg, whole, sub}
 pub use types.Run.{enter, of_opd, lit, fld, stop, no_more, and_then, first, branches, exec, returns, addr, hop, from}
 use Rattle.const_hex_arch.specs.{AllDigits, Spells}
-use Rattle.std.proofs.option.Option.TheLaws.{the_loose}
-use denote.Enum.Loose.{loose_lawful}
-use denote.Param.Laws.{simd_laws, of_field}
-use denote.Param.Shared.{copy_shared}
-use denote.Struct.Field.{u8-field}
-use denote.Struct.Laws.{u8-laws, u8-copy}
 use denote.Struct.Tuple.{Tuple}
 use Rattle.std.specs.contracts.option.Option as OP
 use denote.Param.{layout}
@@ -115,11 +109,6 @@ module _ (n : ℕ) where
   -- what `decode_chunk` returns
   abbrev pub Answer : RattleType
   Answer = OP.the_row Lanes
-
-  pub Answer-Lawful : {M : Type 1} {𝓤 : Ura M} (𝓛 : Logic 𝓤) → Lawful 𝓛 Answer
-  Answer-Lawful 𝓛 =
-      loose_lawful (OP.the_type Lanes)
-      (the_loose Lanes (simd_laws u8 (of_field u8-field u8-laws refl (copy_shared u8-field u8-copy)) n)) tt 𝓛
 
 -- ---- the walk of `decode_chunk`, for any number of lanes
 
