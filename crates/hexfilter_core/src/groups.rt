@@ -5,7 +5,7 @@ ghost use Rattle.hexfilter_core.specs.Dumps.{PutsInto, groups_from};
 
 use crate::mode::Groups;
 
-/// How many characters are copied at once.
+/// How many characters a short group has at most.
 const SHORT: usize = 16;
 
 /// Puts the text into the output, with a separator before each character that follows a whole group. The
@@ -30,30 +30,96 @@ pub(crate) fn put_groups(
     let mut done = 0;
     let mut end = 0;
     'groups: while done < text.len() {
+        if column == groups.size && groups.size <= SHORT && text.len() - done > SHORT {
+            let (taken, put) = put_short(groups, &text[done..], &mut output[end..]);
+            done += taken;
+            end += put;
+            continue;
+        }
         let (start, first) = separate(groups, column, output, end);
         let count = (groups.size - first).min(text.len() - done);
-        copy(&text[done..], count, &mut output[start..]);
         end = start + count;
+        output[start..end].copy_from_slice(&text[done..done + count]);
         done += count;
         column = first + count;
     }
     (end, column)
 }
 
-/// Copies the first `count` characters of the text to the front of the output. More bytes may change.
-#[inline(always)]
-fn copy(text: &[u8], count: usize, output: &mut [u8])
-    requires text { count ≤ length text.now }
-    requires space { count ≤ length output.old }
+/// Puts whole groups into the output, each after a separator, until at most `SHORT` characters are left. Returns how many
+/// were put there, and how many bytes these are with their separators.
+// In steps, which takes half of the time of a group at a time, or less.
+#[inline(never)]
+fn put_short(groups: Groups, text: &[u8], output: &mut [u8]) -> (usize, usize)
+    requires size { groups.size ≢ 0 }
+    requires short { groups.size ≤ 16 }
+    requires text { 16 < length text.now }
+    requires space { 2 * length text.now ≤ length output.old }
+    ensures some { 0 < result.0 }
+    ensures within { result.0 ≤ length text.now }
+    ensures space { result.1 ≤ 2 * result.0 }
     ensures length { length output.new ≡ length output.old }
-    ensures copied { take count output.new ≡ take count text.now }
+    ensures groups { PutsInto groups groups.size (take result.0 text.now) (take result.1 output.new) groups.size }
 {
-    // A copy of a fixed size is no call.
-    if count <= SHORT && text.len() >= SHORT && output.len() >= SHORT {
-        output[..SHORT].copy_from_slice(&text[..SHORT]);
-    } else {
-        output[..count].copy_from_slice(&text[..count]);
+    let mut done = 0;
+    let mut end = 0;
+    'steps: while text.len() - done > SHORT {
+        let (taken, put) = put_step(groups, &text[done..], &mut output[end..]);
+        done += taken;
+        end += put;
     }
+    (done, end)
+}
+
+/// As `put_short`, for one group or eight pairs.
+#[inline(always)]
+fn put_step(groups: Groups, text: &[u8], output: &mut [u8]) -> (usize, usize)
+    requires size { groups.size ≢ 0 }
+    requires short { groups.size ≤ 16 }
+    requires text { 16 < length text.now }
+    requires space { 2 * length text.now ≤ length output.old }
+    ensures some { 0 < result.0 }
+    ensures within { result.0 ≤ 16 }
+    ensures space { result.1 ≤ 2 * result.0 }
+    ensures length { length output.new ≡ length output.old }
+    ensures groups { PutsInto groups groups.size (take result.0 text.now) (take result.1 output.new) groups.size }
+{
+    if groups.size == 2 {
+        put_pairs(groups, text, output);
+        put_pairs(groups, &text[8..], &mut output[12..]);
+        return (16, 24);
+    }
+    output[0] = groups.separator;
+    output[1..SHORT + 1].copy_from_slice(&text[..SHORT]);
+    (groups.size, groups.size + 1)
+}
+
+/// Puts four pairs into the output, each after a separator. Two more bytes may change.
+#[inline(always)]
+fn put_pairs(groups: Groups, text: &[u8], output: &mut [u8])
+    requires pairs { groups.size ≡ 2 }
+    requires text { 8 ≤ length text.now }
+    requires space { 14 ≤ length output.old }
+    ensures length { length output.new ≡ length output.old }
+    ensures groups { PutsInto groups groups.size (take 8 text.now) (take 12 output.new) groups.size }
+{
+    let separator = groups.separator;
+    let first = spread(separator, text[0], text[1], text[2], text[3]);
+    let second = spread(separator, text[4], text[5], text[6], text[7]);
+    output[..8].copy_from_slice(&first);
+    output[6..14].copy_from_slice(&second);
+}
+
+/// Two pairs, each after a separator, as a word.
+#[inline(always)]
+fn spread(separator: u8, a: u8, b: u8, c: u8, d: u8) -> [u8; 8]
+    ensures { result ≡ separator ∷ a ∷ b ∷ separator ∷ c ∷ d ∷ 0 ∷ 0 ∷ [] }
+{
+    let pairs = u64::from(u32::from_le_bytes([a, b, c, d]));
+    let separators = u64::from(separator) * 0x100_0001;
+    let first = pairs % 0x1_0000 * 0x100;
+    let second = pairs / 0x1_0000 * 0x1_0000_0000;
+    (separators + first + second).to_le_bytes()
 }
 
 /// Puts a separator into the output at an index if the group is whole. Returns the index after it, and how many

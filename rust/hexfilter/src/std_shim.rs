@@ -46,3 +46,111 @@ pub mod codec {
         filled.expect("the output has the length of the text");
     }
 }
+
+pub mod simd {
+    pub mod prelude {
+        pub use super::u8x32;
+    }
+
+    /// The highest bit of each byte.
+    const HIGH: u64 = 0x8080_8080_8080_8080;
+
+    /// 32 bytes, the first as the lowest of the first word.
+    #[allow(non_camel_case_types)]
+    #[derive(Clone, Copy)]
+    pub struct u8x32([u64; 4]);
+
+    /// Whether something holds of each of 32 lanes, as the highest bit of its byte.
+    pub struct Mask([u64; 4]);
+
+    impl u8x32 {
+        /// Returns the first 32 bytes. It is proved of the caller that there are so many.
+        #[inline(always)]
+        pub fn from_slice(slice: &[u8]) -> u8x32 {
+            let mut words = [0; 4];
+            for (word, bytes) in words.iter_mut().zip(slice[..32].chunks_exact(8)) {
+                *word = u64::from_le_bytes(bytes.try_into().expect("8 bytes"));
+            }
+            u8x32(words)
+        }
+
+        /// Writes the bytes to the front of a slice. It is proved of the caller that it has space for them.
+        #[inline(always)]
+        pub fn copy_to_slice(self, slice: &mut [u8]) {
+            for (bytes, word) in slice[..32].chunks_exact_mut(8).zip(self.0) {
+                bytes.copy_from_slice(&word.to_le_bytes());
+            }
+        }
+
+        #[inline(always)]
+        pub fn splat(value: u8) -> u8x32 {
+            u8x32([u64::from_ne_bytes([value; 8]); 4])
+        }
+
+        #[inline(always)]
+        pub fn simd_lt(self, other: u8x32) -> Mask {
+            let mut less = [0; 4];
+            for (word, (x, y)) in less.iter_mut().zip(self.0.iter().zip(other.0)) {
+                // The highest bit of a byte of the difference is set unless its lower bits in x are less.
+                let lower = !(x | HIGH).wrapping_sub(y & !HIGH);
+                *word = (!x & y | !(x ^ y) & lower) & HIGH;
+            }
+            Mask(less)
+        }
+    }
+
+    impl Mask {
+        /// Returns what stands for a number with a bit for each lane, the lowest for the first. The verified source
+        /// asks that number only whether it is 0, and where its lowest bit is, so it is never made.
+        #[inline(always)]
+        pub fn to_bitmask(self) -> Mask {
+            self
+        }
+
+        /// Returns the number of lanes before the first of which it holds, or 32.
+        #[inline(always)]
+        pub fn trailing_zeros(self) -> u32 {
+            let [first, second, third, fourth] = self.0.map(u128::from);
+            match (first | second << 64, third | fourth << 64) {
+                (0, high) => 16 + high.trailing_zeros() / 8,
+                (low, _) => low.trailing_zeros() / 8,
+            }
+        }
+    }
+
+    impl PartialEq<u64> for Mask {
+        /// Whether it holds of no lane. The other is 0.
+        #[inline(always)]
+        fn eq(&self, zero: &u64) -> bool {
+            self.0.iter().fold(0, |all, word| all | word) == *zero
+        }
+    }
+}
+
+#[cfg(test)]
+mod tests {
+    use super::simd::u8x32;
+
+    /// Each pair of bytes, in each lane.
+    #[test]
+    fn lesser_lanes() {
+        for x in 0..=255 {
+            for y in 0..=255 {
+                let every = u8x32::splat(x).simd_lt(u8x32::splat(y)).to_bitmask();
+                assert_eq!(every == 0, x >= y);
+                assert_eq!(every.trailing_zeros(), if x < y { 0 } else { 32 });
+            }
+            for lane in 0..32 {
+                let mut bytes = [255; 33];
+                bytes[lane..].fill(x);
+                let block = u8x32::from_slice(&bytes);
+                let lesser = block.simd_lt(u8x32::splat(255)).to_bitmask();
+                let first = if x < 255 { lane as u32 } else { 32 };
+                assert_eq!(lesser.trailing_zeros(), first);
+                let mut copied = [0; 33];
+                block.copy_to_slice(&mut copied);
+                assert_eq!((&copied[..32], copied[32]), (&bytes[..32], 0));
+            }
+        }
+    }
+}

@@ -23,7 +23,7 @@ pub use self::error::*;
 
 // The places that each rule of rust/erase has changed:
 //
-//   14  Rattle's std is the module std_shim
+//   15  Rattle's std is the module std_shim
 //    1  Rust's errors are not copied
 //    2  a formatter has a lifetime in place of its writer's type
 //   56  all crates are one module
@@ -38,7 +38,7 @@ pub use self::error::*;
 //    1  and the crate's decoder is cloned
 //    3  before it reads a part, or ends
 //   38  deleted: attribute
-//  398  deleted: clause
+//  419  deleted: clause
 //   78  deleted: ghost item
 //    3  deleted: model
 //    6  deleted: output

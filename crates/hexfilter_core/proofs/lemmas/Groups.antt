@@ -1,6 +1,9 @@
 -- Parts of groups, and of a text that is encoded part after part.
-use Rattle.std.proofs.Common.{◌≡◌, ℕ, ◌+◌, ◌<◌, ◌≤◌, List, [], ◌∷◌, ◌++◌, length, min, take, drop, refl, sym, ap, ◌∙◌, arith, append_assoc, length-append, Bool, false, Result, take-add, length-take, length-drop, append-nil, OnErr, OnOk}
+use Rattle.std.proofs.Common.{◌≡◌, ℕ, ◌+◌, ◌-◌, ◌<◌, ◌≤◌, List, [], ◌∷◌, ◌++◌, length, min, take, drop, get_or, slice_set, refl, sym, ap, ◌∙◌, arith, append_assoc, length-append, Bool, false, Result, take-add, length-set, length-take, length-take-le, length-drop, take-take, take_all, append-nil, OnErr, OnOk}
 use Rattle.std.proofs.lemmas.Bool.Decides.{nat_tests}
+use Rattle.std.proofs.lemmas.List.{take_more_set}
+use borrow.Rule.Slice.PartMut.{put_mid}
+use Rattle.hexfilter_core.proofs.lemmas.Texts.{take_put}
 use Rattle.hexfilter_core.specs.Dumps.{Groups, PutsInto, groups_from, encoded, ended}
 use Rattle.const_hex.specs.Prelude.{full_text, hex_text, prefix_of}
 use Rattle.const_hex_arch.proofs.lemmas.Texts.{hex_text-append, hex_text-nil}
@@ -50,6 +53,49 @@ goes_on g first c text done count laid before some within h out put rest =
     ∙ ap (λ k. laid ++ (piece ++ groups_from g (c + k) rest)) size
     ∙ sym (append_assoc laid piece (groups_from g (c + count) rest))
     ∙ ap (λ l. l ++ groups_from g (c + count) rest) (sym put)
+
+-- `done` characters stand in groups, and then `count` more are put there
+pub puts_more : (g : Groups) (c d e : ℕ) (text : List ℕ) (done count : ℕ) (out new : List ℕ) (end m k : ℕ)
+    → done ≤ length text → end ≤ length out → k ≤ length new
+    → PutsInto g c (take done text) (take end out) d
+    → PutsInto g d (take count (take (length text - done) (drop done text))) (take k new) e
+    → PutsInto g c (take (done + count) text) (take (end + k) (put_mid end m out new)) e
+puts_more g c d e text done count out new end m k within started enough first more rest =
+    let piece = take count (drop done text) in
+    let next =
+    rw (take_all (length text - done) (drop done text) (omega (arith, length-drop done text))) at more rest in
+    rw (take-add done count text, take_put end m k out new started enough)
+    (ap (groups_from g c) (append_assoc (take done text) piece rest) ∙ first (piece ++ rest)
+    ∙ ap (λ l. take end out ++ l) next
+    ∙ sym (append_assoc (take end out) (take k new) (groups_from g e rest)))
+
+-- one group after a separator
+pub puts_one : (g : Groups) (text out new : List ℕ) → 0 < g.size → g.size ≤ 16 → 16 ≤ length text → 17 ≤ length out
+    → new ≡ take 16 text
+    → PutsInto g g.size (take g.size text) (take (g.size + 1) (put_mid 1 16 (slice_set out 0 g.separator) new)) g.size
+puts_one g text out new some short many space copied rest =
+    let n = g.size in
+    let s = g.separator in
+    let size : length (take n text) ≡ n = length-take-le n text (omega (arith, short, many)) in
+    let all : length new ≡ 16 = rw copied (length-take-le 16 text many) in
+    let added : n + 1 ≡ 1 + n = omega arith in
+    let end : 0 + length (take n text) ≡ n = omega (arith, size) in
+    let put = take_put 1 16 n (slice_set out 0 s) new (omega (arith, length-set out 0 s, space)) (omega (arith, all, short)) in
+    let front = take_more_set out 0 s (omega (arith, space)) in
+    let kept : take n new ≡ take n text = rw copied (take-take n 16 text short) in
+    after_group g (take n text ++ rest) some (omega (arith, size, some, length-append (take n text) rest))
+    ∙ ap (λ l. s ∷ l) (within_group g 0 (take n text) rest (omega (arith, size)))
+    ∙ ap (λ k. s ∷ (take n text ++ groups_from g k rest)) end
+    ∙ rw (added, put, front, kept) refl
+
+-- four pairs, each after a separator
+pub puts_pairs : (s : ℕ) (text rest : List ℕ) → 8 ≤ length text
+    → groups_from (record { size = 2; separator = s }) 2 (take 8 text ++ rest)
+    ≡ s ∷ get_or text 0 0 ∷ get_or text 1 0 ∷ s ∷ get_or text 2 0 ∷ get_or text 3 0 ∷ s ∷ get_or text 4 0
+    ∷ get_or text 5 0 ∷ s ∷ get_or text 6 0 ∷ get_or text 7 0 ∷ groups_from (record { size = 2; separator = s }) 2 rest
+unfolding groups_from
+puts_pairs s (a ∷ b ∷ c ∷ d ∷ e ∷ f ∷ g ∷ h ∷ text) rest many = refl
+puts_pairs s _ rest many = absurd (omega arith)
 
 pub if_ok : {T E P : Type 0} (r : Result T E) → P → OnOk r P
 if_ok r p = grind arith

@@ -5,7 +5,7 @@ use Rattle.std.proofs.Common.{◌≡◌, ◌≢◌, ℕ, ◌+◌, ◌-◌, ◌*�
 use Rattle.std.proofs.Math.Seq.{take-add, take-append-add}
 use Rattle.std.proofs.lemmas.Bool.Decides.{nat_tests}
 use Rattle.std.proofs.lemmas.List.{append-nil, length-drop, length-take, length-take-le, take-append-drop, take-append-le, take-take, take_all, take_min, take_more}
-use Rattle.std.proofs.lemmas.List.Elements.{All-from_get_or, All-head, All-tail, All-weaker}
+use Rattle.std.proofs.lemmas.List.Elements.{All-from_get_or, All-head, All-same, All-tail, All-take, All-weaker}
 use Rattle.const_hex.proofs.lemmas.Decoding.{body-longer, body-shorter, read_digits, read_front}
 use Rattle.const_hex.specs.Prelude.{HasRead, counted, waiting_digit}
 use Rattle.const_hex_arch.proofs.lemmas.Texts.{Spells-length, Spells-parts}
@@ -116,6 +116,15 @@ take_put a m k xs ys started within =
     let both = take-append-add (take a xs) (ys ++ post_of a m xs) k
     ∙ ap (λ l. take a xs ++ l) (take-append-le k ys (post_of a m xs) within) in
     rw front at both
+
+pub fewer_copied : (m n : ℕ) (xs ys : List ℕ) → n ≤ m → take m ys ≡ take m xs → take n ys ≡ take n xs
+fewer_copied m n xs ys few same = sym (take-take n m ys few) ∙ ap (take n) same ∙ take-take n m xs few
+
+pub fewer_high : (m n : ℕ) (xs : List ℕ) → n ≤ m → All (λ b. nat_lt b 33 ≡ false) (take m xs)
+    → All (λ b. nat_lt b 33 ≡ false) (take n xs)
+fewer_high m n xs few high =
+    All-same (λ b. nat_lt b 33 ≡ false) _ _ (sym (take-take n m xs few))
+    (All-take (λ b. nat_lt b 33 ≡ false) n (take m xs) high)
 
 pub part_size : (chunk : List ℕ) (done size k : ℕ) → done + size ≤ length chunk → k ≡ size
     → length (take k (drop done chunk)) ≡ size

@@ -5,6 +5,10 @@ use crate::std_shim::prelude::*;
 use crate::proved::groups::put;
 use crate::proved::mode::Reading;
 use crate::proved::place::Place;
+use crate::std_shim::simd::prelude::*;
+
+/// How many bytes are looked at together.
+const LANES: usize = 32;
 
 /// How far an input was read.
 #[derive(Clone, Copy, Debug)]
@@ -39,7 +43,7 @@ impl Scanner {
             let count = scanner.run(reading, &chunk[done..], &mut output[end..]);
             done += count;
             end += count;
-            if done == chunk.len() {
+            if count == LANES || done == chunk.len() {
                 continue;
             }
             let added = scanner.next(reading, chunk[done]);
@@ -58,31 +62,32 @@ impl Scanner {
         added
     }
 
-    /// Copies bytes of a group before the first that is whitespace or a control character. Returns how many.
+    /// Copies bytes before the next that is left out or is below 33, or fewer. Returns how many.
+    // By blocks, which takes less than half of the time of a byte at a time.
     #[inline(always)]
     fn run(&mut self, reading: Reading, chunk: &[u8], output: &mut [u8]) -> usize {
-        let size = reading.groups.size;
-        let left = if size == 0 {
-            chunk.len()
-        } else {
-            size.saturating_sub(self.column)
-        };
-        let count = copy_run(&chunk[..left.min(chunk.len())], output);
-        self.column = self.column.saturating_add(count).min(size);
+        let count = copy_block(chunk, output);
+        if reading.groups.size == 0 {
+            self.place = self.place.right(count);
+            return count;
+        }
+        let count = count.min(reading.groups.size.saturating_sub(self.column));
+        self.column = self.column.saturating_add(count);
         self.place = self.place.right(count);
         count
     }
 }
 
-/// Copies the bytes before the first that is whitespace or a control character. Returns how many.
+/// Copies bytes of the first block, if there is one, before one that is below 33. Returns how many.
 #[inline(always)]
-fn copy_run(chunk: &[u8], output: &mut [u8]) -> usize {
-    let count = chunk
-        .iter()
-        .position(|byte| *byte <= b' ')
-        .unwrap_or(chunk.len());
-    output[..count].copy_from_slice(&chunk[..count]);
-    count
+fn copy_block(chunk: &[u8], output: &mut [u8]) -> usize {
+    // The test of the first byte alone makes long runs of whitespace faster.
+    if chunk.len() < LANES || chunk[0] <= b' ' {
+        return 0;
+    }
+    let block = u8x32::from_slice(chunk);
+    block.copy_to_slice(output);
+    count_digits(block)
 }
 
 /// What a byte adds to the text, and how many characters then came since the last separator.
@@ -100,6 +105,15 @@ fn step(reading: Reading, column: usize, byte: u8) -> (Option<u8>, usize) {
     }
     let next = column.saturating_add(1).min(groups.size);
     (Some(if is_whole { 0 } else { byte }), next)
+}
+
+/// How many lanes come before the first with a space or a control character.
+fn count_digits(block: u8x32) -> usize {
+    let others = block.simd_lt(u8x32::splat(33)).to_bitmask();
+    if others == 0 {
+        return LANES;
+    }
+    others.trailing_zeros() as usize
 }
 
 /// Whether the byte is whitespace.

@@ -1,6 +1,5 @@
-use Rattle.std.proofs.Common.{◌≡◌, ◌∙◌, ◌++◌, take, drop, ap, arith}
-use Rattle.std.proofs.lemmas.List.{take_rest}
-use Rattle.hexfilter_core.proofs.lemmas.Groups.{goes_on}
+use Rattle.std.proofs.Common.{◌≡◌, ◌∙◌, ◌+◌, ◌-◌, ◌++◌, take, drop, ap, arith, take-take}
+use Rattle.hexfilter_core.proofs.lemmas.Groups.{goes_on, puts_more}
 use Rattle.hexfilter_core.proofs.lemmas.Texts.{take_put}
 use Rattle.hexfilter_core.proofs.groups.put_groups.Goals as goal
 
@@ -11,13 +10,27 @@ groups-preserved c =
     let text = c.args.text.now in
     let done = c.groups.done in
     let count = c.min-count.result in
-    let new = c.copy.new.output in
-    let copied : take count new ≡ take count (drop done text) = rw (take_rest text done) at c.copy.ensures.copied in
-    let put = take_put _ _ count _ new (omega arith) (omega (arith, c.copy.ensures.length))
+    let new = c.copy_from_slice.new.self in
+    let same : done + count - done ≡ count = omega arith in
+    let copied : take count new ≡ take count (drop done text) =
+    rw (c.copy_from_slice.ensures.after, same) (take-take count count (drop done text) (omega arith)) in
+    let put = take_put _ _ count _ new (omega arith) (omega arith)
     ∙ ap (λ l. take c.separate-start.result.0 c.separate-start.new.output ++ l) copied in record {
       within = omega arith;
       space = omega (arith, parted.within);
       column = omega (arith, parted.column);
       groups = goes_on _ _ _ text done count _ (λ rest some. laid.groups rest ∙ parted.groups rest some)
           (omega arith) (omega arith) (omega arith) _ put;
+    }
+
+pub groups-preserved-then-text-done-gt-SHORT : goal.groups-preserved-then-text-done-gt-SHORT
+groups-preserved-then-text-done-gt-SHORT c =
+    let laid = c.groups.invariant in
+    let put = c.put_short-taken.ensures in record {
+      within = omega arith;
+      space = omega arith;
+      column = omega arith;
+      groups = rw c.if-column-groups.true (puts_more c.args.groups c.args.column _ _ c.args.text.now c.groups.done _ c.groups.output
+          c.put_short-taken.new.output c.groups.end _ _ (omega arith) (omega arith) (omega arith)
+          (rw c.if-column-groups.true at laid.groups) put.groups);
     }

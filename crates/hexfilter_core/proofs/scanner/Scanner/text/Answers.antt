@@ -2,8 +2,8 @@ use Rattle.std.proofs.Common.{◌+◌, ◌-◌, ◌<◌, length, refl, arith, op
 use Rattle.hexfilter_core.proofs.lemmas.Texts.{added_byte, added_run, part_size}
 use Rattle.hexfilter_core.proofs.scanner.Scanner.text.Goals as goal
 
-pub runs-preserved-then-done-chunk : goal.runs-preserved-then-done-chunk
-runs-preserved-then-done-chunk c =
+pub runs-preserved-then-count-eq-LANES : goal.runs-preserved-then-count-eq-LANES
+runs-preserved-then-count-eq-LANES c =
     let i = c.runs.invariant in
     let ran = c.run-count.ensures in
     let chunk = c.args.chunk.now in
