@@ -18,12 +18,12 @@ fn main() {
     let mut arguments: Vec<String> = env::args().skip(1).collect();
     if arguments.first().map(String::as_str) == Some("--repeat") {
         for case in chosen(&arguments.split_off(1)) {
-            valgrind::repeat(case.size, case.prepared());
+            valgrind::repeat(case.prepared());
         }
         return;
     }
-    let sizes: Vec<usize> = chosen(&arguments).map(|case| case.size).collect();
-    let counts = valgrind::instructions(&sizes, |program| {
+    let calls = chosen(&arguments).count();
+    let counts = valgrind::instructions(calls, |program| {
         program.arg("--repeat").args(&arguments);
     });
     let cells: Vec<Cell> = chosen(&arguments).zip(counts).collect();

@@ -4,7 +4,7 @@
  */
 #include "common.h"
 
-TEST(macros) {
+static void macros(void) {
   expect(CONST_HEX_ENCODED_SIZE(3 + 1, 0) == 9 &&
              CONST_HEX_ENCODED_SIZE(20, CONST_HEX_PREFIX) == 43 &&
              CONST_HEX_ENCODED_SIZE(32, CONST_HEX_UPPER | CONST_HEX_NO_NUL) == 64,
@@ -13,7 +13,7 @@ TEST(macros) {
          0);
 }
 
-TEST(messages) {
+static void messages(void) {
   static const struct {
     struct const_hex_error error;
     const char *message;
@@ -30,20 +30,20 @@ TEST(messages) {
   };
   for (size_t row = 0; row < sizeof rows / sizeof *rows; row++) {
     for (size_t size = 0; size <= CONST_HEX_MESSAGE_SIZE; size++) {
-      struct buffer message = marked(areas.text, size, false);
-      size_t length = const_hex_error_message(&rows[row].error, message.bytes, size);
+      char *message = marked(areas.text, size);
+      size_t length = const_hex_error_message(&rows[row].error, message, size);
       size_t nul = least(size, 1);
       size_t wanted = least(strlen(rows[row].message), size - nul);
-      expect(length == wanted && memcmp(message.bytes, rows[row].message, wanted) == 0 &&
-                 memcmp(message.bytes + wanted, "", nul) == 0 &&
-                 is_rest_marked(message, wanted + nul),
+      expect(length == wanted && memcmp(message, rows[row].message, wanted) == 0 &&
+                 memcmp(message + wanted, "", nul) == 0 &&
+                 is_rest_marked(areas.text, size, wanted + nul),
              "error_message", row, size);
     }
   }
 }
 
 /* A buffer of size 0 may be NULL. */
-TEST(null_buffers) {
+static void null_buffers(void) {
   struct const_hex_error error = UNSET;
   struct const_hex_decoder decoder = {{0, 0}};
   size_t written = 99;
@@ -68,21 +68,28 @@ TEST(null_buffers) {
 
 /* Lengths that no text has, as from a failed read(): an error, before a byte is read or written. A compiler that knew
  * them would warn. */
-TEST(lengths_that_wrap) {
+static void lengths_that_wrap(void) {
   const volatile size_t most = SIZE_MAX;
-  const char *text = memset(position(areas.text, 4096, false), '1', 4096);
-  struct buffer buffer = marked(areas.decoded, 4096, false);
+  const char *text = memset(position(areas.text, 4096), '1', 4096);
+  char *bytes = marked(areas.decoded, 4096);
   for (size_t less = 0; less <= 80; less += 2) {
     struct const_hex_error exact = UNSET, decode = UNSET, check = UNSET;
     size_t written = 99;
-    expect(!const_hex_decode_exact(text, most - 1 - less, buffer.bytes, 4096, &exact) &&
+    expect(!const_hex_decode_exact(text, most - 1 - less, bytes, 4096, &exact) &&
                exact.kind == CONST_HEX_INVALID_LENGTH,
            "decode_exact", less, 0);
-    expect(!const_hex_decode(text, most - 1 - less, buffer.bytes, 4096, &written, &decode) &&
+    expect(!const_hex_decode(text, most - 1 - less, bytes, 4096, &written, &decode) &&
                decode.kind == CONST_HEX_INVALID_LENGTH && written == 0,
            "decode", less, 0);
     expect(!const_hex_check(text, most - less, &check) && check.kind == CONST_HEX_ODD_LENGTH,
            "check", less, 0);
   }
-  expect(is_rest_marked(buffer, 0), "a written buffer", 0, 0);
+  expect(is_rest_marked(areas.decoded, 4096, 0), "a written buffer", 0, 0);
+}
+
+static void test(void) {
+  macros();
+  messages();
+  null_buffers();
+  lengths_that_wrap();
 }

@@ -40,18 +40,19 @@ static bool read_once(size_t turn, char *bytes) {
 
 /* Each function returns, whatever it returns, and writes only where it may. On one processor the other thread seldom
  * runs between two calls, so the results seldom change: after so many turns, once is enough. */
-TEST(changing_text) {
-  struct buffer bytes = marked(areas.decoded, COUNT, false);
+static void test(void) {
+  char *bytes = marked(areas.decoded, COUNT);
   pthread_t writer;
   memset((char *)changing, '0', LENGTH);
+  stops = false;
   stops = pthread_create(&writer, NULL, change, NULL) != 0;
   bool last = stops;
   for (size_t turn = 0, changes = 0; !stops; turn++) {
-    bool result = read_once(turn, bytes.bytes);
+    bool result = read_once(turn, bytes);
     changes += result != last;
     last = result;
     stops = turn > 200000 && changes > (turn > 2000000 ? 0 : 10000);
   }
   expect(pthread_join(writer, NULL) == 0, "the other thread", 0, 0);
-  expect(is_rest_marked(bytes, COUNT), "a write outside", 0, 0);
+  expect(is_rest_marked(areas.decoded, COUNT, COUNT), "a write outside", 0, 0);
 }

@@ -65,11 +65,6 @@ function(test_cmake_project name prefix)
 endfunction()
 test_cmake_project(installed.cmake ${INSTALLED})
 test_cmake_project(installed.cmake_static ${INSTALLED} -DLIBRARY=const_hex::static)
-foreach(version 1.99 0.9)
-  set(name installed.cmake_version_${version})
-  test_cmake_project(${name} ${INSTALLED} -DWANTED=${version})
-  set_tests_properties(${name} PROPERTIES PASS_REGULAR_EXPRESSION "compatible with requested version")
-endforeach()
 
 # In another project, by the lines of README.md.
 file(READ ${PROJECT_SOURCE_DIR}/README.md page)

@@ -6,7 +6,7 @@ foreach(name check table)
   program(sanitized_${name} ${name}.c ${SANITIZE})
   target_sources(sanitized_${name} PRIVATE ${PORTABLE})
   target_compile_options(sanitized_${name} PRIVATE ${SANITIZE})
-  tests_of(sanitized.${name} sanitized_${name})
+  test(sanitized.${name} COMMAND sanitized_${name})
 endforeach()
 # Each compiler takes it without a warning, for a system or for none.
 foreach(row cc clang x86_64-w64-mingw32-gcc "arm-none-eabi-gcc -mcpu=cortex-m0 -ffreestanding")
@@ -52,31 +52,34 @@ endforeach()
 if(NOT CMAKE_C_COMPILER_ID STREQUAL GNU)
   return()
 endif()
-function(proof name result source machine)
+function(proof name result source machine prover)
   list(JOIN ARGN " " options)
-  test(proof.${name} NEEDS frama-c why3 cvc4 z3 COMMAND bash -ec "export WHY3CONFIG=$PWD/proof.${name}.conf
+  test(proof.${name} NEEDS frama-c why3 ${prover} COMMAND bash -ec "export WHY3CONFIG=$PWD/proof.${name}.conf
     why3 config detect > proof.${name}.txt
     frama-c -machdep ${machine} -cpp-extra-args='-I${PROJECT_SOURCE_DIR}' -wp -wp-rte -warn-unsigned-overflow \
-      -wp-model Typed+Cast -wp-prover cvc4,z3 ${options} ${source} | grep -v ' : Valid' | tee proof.${name}.txt
+      -wp-model Typed+Cast -wp-prover ${prover} ${options} ${source} | grep -v ' : Valid' | tee proof.${name}.txt
     if grep -qE 'Proved goals: +([0-9]+) / \\1$' proof.${name}.txt; then echo 'All are proved.'
     elif grep -q 'Proved goals:' proof.${name}.txt; then echo 'Some are not proved.'; fi"
     PROPERTIES TIMEOUT 1800 PASS_REGULAR_EXPRESSION "${result} proved")
 endfunction()
-# These functions take half of the time. The others are proved beside them.
+# z3 proves these functions at once, and CVC4 not at all; for the others z3 takes ten times as long.
+set(BY_Z3 value,is_prefix,prefix_length)
+# These functions take half of the time of CVC4. The others are proved beside them.
 set(SLOW prepend_shown,const_hex_error_message,const_hex_encode,read_pairs,read_chunk)
 foreach(machine gcc_x86_64 gcc_x86_32)
-  proof(${machine}.slow "All are" ${PORTABLE} ${machine} -wp-timeout 60 -wp-fct ${SLOW})
-  proof(${machine}.rest "All are" ${PORTABLE} ${machine} -wp-timeout 60 -wp-skip-fct ${SLOW})
+  proof(${machine}.z3 "All are" ${PORTABLE} ${machine} z3 -wp-timeout 60 -wp-fct ${BY_Z3})
+  proof(${machine}.slow "All are" ${PORTABLE} ${machine} cvc4 -wp-timeout 60 -wp-fct ${SLOW})
+  proof(${machine}.rest "All are" ${PORTABLE} ${machine} cvc4 -wp-timeout 60 -wp-skip-fct ${SLOW},${BY_Z3})
 endforeach()
-function(unproved function from to)
+function(unproved prover function from to)
   mutant(${function} "${from}" "${to}")
-  proof(mutant_${function} "Some are not" ${HERE}/${function}.c gcc_x86_64 -wp-fct ${function} -wp-timeout 3)
+  proof(mutant_${function} "Some are not" ${HERE}/${function}.c gcc_x86_64 ${prover} -wp-fct ${function} -wp-timeout 3)
 endfunction()
-unproved(digit "39 * is_letter" "38 * is_letter")
-unproved(value_of_byte "'f' + 1" "'g' + 1")
-unproved(is_prefix " || PUBLIC(pair == 256u * '0' + 'X')" "")
-unproved(fill "/ 16u" "% 16u")
-unproved(read_pairs "high > 15 ? position : position + 1" "position")
-unproved(advance_past "digits % 2 != waits" "digits % 2 == 1")
-unproved(const_hex_decode_exact "text_length % 2 == 1" "text_length % 2 == 2")
-unproved(write_ended "count < size - 1" "count < size")
+unproved(cvc4 digit "39 * is_letter" "38 * is_letter")
+unproved(cvc4 value_of_byte "'f' + 1" "'g' + 1")
+unproved(z3 is_prefix " || PUBLIC(pair == 256u * '0' + 'X')" "")
+unproved(cvc4 fill "/ 16u" "% 16u")
+unproved(cvc4 read_pairs "high > 15 ? position : position + 1" "position")
+unproved(cvc4 advance_past "digits % 2 != waits" "digits % 2 == 1")
+unproved(cvc4 const_hex_decode_exact "text_length % 2 == 1" "text_length % 2 == 2")
+unproved(cvc4 write_ended "count < size - 1" "count < size")

@@ -84,13 +84,13 @@ static size_t count_before(const struct line *line, size_t length) {
 /* What a function that decodes has returned and written, and the buffer for it. */
 struct output {
   bool result;
-  size_t written;
-  struct buffer buffer;
+  size_t written, size;
+  char *bytes;
   struct const_hex_error error;
 };
 
-static struct output new_output(size_t size, bool at_start) {
-  struct output output = {false, 99, marked(areas.decoded, size, at_start), UNSET};
+static struct output new_output(size_t size) {
+  struct output output = {false, 99, size, marked(areas.decoded, size), UNSET};
   return output;
 }
 
@@ -104,43 +104,42 @@ static void compare(const struct line *line, struct output output, size_t from, 
   if (wanted.kind == 0) {
     written = changed = count_before(line, to) - first;
   } else if (wanted.kind == CONST_HEX_INVALID_CHARACTER && wanted.index > from) {
-    changed = least(count_before(line, wanted.index) - first, output.buffer.size);
+    changed = least(count_before(line, wanted.index) - first, output.size);
   }
-  const char *bytes = line->error.kind == 0 ? line->result + first : output.buffer.bytes;
+  const char *bytes = line->error.kind == 0 ? line->result + first : output.bytes;
   expect(agrees(output.result, output.error, wanted) && output.written == written &&
-             memcmp(output.buffer.bytes, bytes, written) == 0 &&
-             is_rest_marked(output.buffer, changed),
+             memcmp(output.bytes, bytes, written) == 0 &&
+             is_rest_marked(areas.decoded, output.size, changed),
          what, from, to);
 }
 
-static void decode_exact(const struct line *line, const char *text, size_t size, bool at_start,
+static void decode_exact(const struct line *line, const char *text, size_t size,
                          struct const_hex_error wanted) {
-  struct output output = new_output(size, at_start);
-  output.result =
-      const_hex_decode_exact(text, line->length, output.buffer.bytes, size, &output.error);
+  struct output output = new_output(size);
+  output.result = const_hex_decode_exact(text, line->length, output.bytes, size, &output.error);
   output.written = output.result ? size : 0;
   compare(line, output, 0, line->length, wanted, "decode_exact");
 }
 
 /* Decodes the text into a buffer of this size, which has to be right or, for decode_exact, the number of bytes. */
-static void decode(const struct line *line, const char *text, size_t size, bool at_start) {
+static void decode(const struct line *line, const char *text, size_t size) {
   static const struct const_hex_error no_space = {CONST_HEX_INVALID_LENGTH, 0, 0};
   size_t length = line->length;
   size_t count = count_before(line, length);
   bool is_odd = line->error.kind == CONST_HEX_ODD_LENGTH;
-  struct output output = new_output(size, at_start);
+  struct output output = new_output(size);
   output.result =
-      const_hex_decode(text, length, output.buffer.bytes, size, &output.written, &output.error);
+      const_hex_decode(text, length, output.bytes, size, &output.written, &output.error);
   compare(line, output, 0, length, is_odd || size >= count ? line->error : no_space, "decode");
-  decode_exact(line, text, size, at_start, is_odd || size == count ? line->error : no_space);
+  decode_exact(line, text, size, is_odd || size == count ? line->error : no_space);
 }
 
 /* Decodes a chunk into a buffer of this size. */
 static void update(const struct line *line, struct const_hex_decoder *decoder, size_t from,
                    size_t to, size_t size, struct const_hex_error wanted) {
-  const char *chunk = memcpy(position(areas.text, to - from, false), line->input + from, to - from);
-  struct output output = new_output(size, false);
-  output.result = const_hex_decoder_update(decoder, chunk, to - from, output.buffer.bytes, size,
+  const char *chunk = memcpy(position(areas.text, to - from), line->input + from, to - from);
+  struct output output = new_output(size);
+  output.result = const_hex_decoder_update(decoder, chunk, to - from, output.bytes, size,
                                            &output.written, &output.error);
   compare(line, output, from, to, wanted, "decoder_update");
 }
@@ -188,14 +187,12 @@ static void read_chunks(const struct line *line) {
 static void read_text(const struct line *line) {
   size_t length = line->length;
   size_t count = count_before(line, length);
-  for (int at_start = 0; at_start < 2; at_start++) {
-    const char *text = memcpy(position(areas.text, length, at_start), line->input, length);
-    struct const_hex_error error = UNSET;
-    bool result = const_hex_check(text, length, &error);
-    expect(agrees(result, error, line->error), "check", length, 0);
-    for (size_t size = count > 0 ? count - 1 : 0; size <= count + 2; size++) {
-      decode(line, text, size, at_start);
-    }
+  const char *text = memcpy(position(areas.text, length), line->input, length);
+  struct const_hex_error error = UNSET;
+  bool result = const_hex_check(text, length, &error);
+  expect(agrees(result, error, line->error), "check", length, 0);
+  for (size_t size = count > 0 ? count - 1 : 0; size <= count + 2; size++) {
+    decode(line, text, size);
   }
   if (line->error.kind != CONST_HEX_ODD_LENGTH || const_hex_check_raw(line->input, length)) {
     read_chunks(line);
@@ -203,7 +200,7 @@ static void read_text(const struct line *line) {
 }
 
 static void read_into(const struct line *line) {
-  decode_exact(line, line->input, line->number, false, line->error);
+  decode_exact(line, line->input, line->number, line->error);
 }
 
 /* Whether each byte may stand at each index. */
@@ -234,20 +231,18 @@ static size_t add_by_flags(const struct line *line, unsigned flags, char *text) 
 /* With all flags, into buffers from one character too small to two too large. */
 static void write_text(const struct line *line) {
   static char wanted[AREA];
-  for (unsigned which = 0; which < 16; which++) {
-    unsigned flags = which % 8;
-    unsigned at_start = which / 8;
+  for (unsigned flags = 0; flags < 8; flags++) {
     size_t count = line->length;
     size_t size = add_by_flags(line, flags, wanted);
     size_t cleared = flags & CONST_HEX_NO_NUL ? 0 : 1;
-    const void *bytes = memcpy(position(areas.bytes, count, at_start), line->input, count);
+    const void *bytes = memcpy(position(areas.bytes, count), line->input, count);
     expect(const_hex_encoded_size(count, flags) == size, "encoded_size", count, flags);
     for (size_t text_size = size > 0 ? size - 1 : 0; text_size <= size + 2; text_size++) {
-      struct buffer text = marked(areas.text, text_size, at_start);
-      bool fits = const_hex_encode(bytes, count, text.bytes, text_size, flags);
+      char *text = marked(areas.text, text_size);
+      bool fits = const_hex_encode(bytes, count, text, text_size, flags);
       size_t written = fits ? size : least(cleared, text_size);
-      expect(fits == (text_size >= size) && memcmp(text.bytes, fits ? wanted : "", written) == 0 &&
-                 is_rest_marked(text, written),
+      expect(fits == (text_size >= size) && memcmp(text, fits ? wanted : "", written) == 0 &&
+                 is_rest_marked(areas.text, text_size, written),
              "encode", count, flags);
     }
   }
@@ -285,7 +280,7 @@ static bool ask(const struct line *line) {
   return false;
 }
 
-TEST(table) {
+static void test(void) {
   static struct line line;
   FILE *file = fopen(TABLE, "r");
   size_t asked = 0;

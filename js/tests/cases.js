@@ -286,8 +286,6 @@ function errors() {
     const error = outcome(() => decode('6b\u00e9'));
     equal(`${error}`, "HexError: invalid character '\u00c3' at position 2");
     equal(error instanceof SyntaxError, true);
-    equal(Object.keys(outcome(() => decode('1'))).join(), 'name,kind');
-    equal(resultOf(() => decode('\ud800a')), '!InvalidHexCharacter 0xef 0'); // The bytes of U+FFFD.
 }
 
 export const cases = { tableOfTestVectors, longTexts, invalidCharacters, arraysAndViews, otherTypes, lostBuffers, overlap,

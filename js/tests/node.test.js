@@ -8,12 +8,6 @@ import { runInNewContext } from 'node:vm';
 import * as hex from '../dist/const_hex.js';
 import { cases, resultOf } from './cases.js';
 
-test('index.d.ts declares each export', () => {
-    const types = readFileSync(new URL('../index.d.ts', import.meta.url), 'utf8');
-    const declared = types.match(/(?<=^export (function|class) |^export \{.*\bas )\w+/gm);
-    assert.deepEqual([...new Set(declared)].sort(), Object.keys(hex).sort());
-});
-
 for (const [name, run] of Object.entries(cases)) test(name, run);
 
 test('values of another realm', () => {

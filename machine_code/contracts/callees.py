@@ -90,14 +90,28 @@ def checked(state, text, count):
     return [(path, result) for path, result in ((true, 1), (false, 0)) if path]
 
 
-def first_invalid_from(state, text, count):
-    """The states after a search, with the index of the first character that is no digit, which may
-    be any, and the character; or, if all are digits, the length and 0."""
-    start = offset_in(state, "input", text)
+def read_any(state, text, count):
+    """Each of so many characters of the input may be read."""
     at_index, index = arbitrary_index(state, count)
     if at_index:
         require(is_in("input", text), "a search in what is no input")
         at_index.load(simple(text + index), 1)
+
+
+def skipped(state, text, count):
+    """The state after digits were skipped, with the index after them."""
+    read_any(state, text, count)
+    index = fresh_public(64)
+    after = state.branch(z3.ULE(index, count))
+    if after := after.with_digits(offset_in(state, "input", text), index, are_named=False):
+        yield after, index
+
+
+def first_invalid_from(state, text, count):
+    """The states after a search, with the index of the first character that is no digit, which may
+    be any, and the character; or, if all are digits, the length and 0."""
+    start = offset_in(state, "input", text)
+    read_any(state, text, count)
     if all_digits := state.with_digits(start, count):
         yield all_digits, count, byte(0)
     index = fresh_public(64)

@@ -15,7 +15,7 @@ import z3
 from contracts.functions import Function
 from contracts.names import FUNCTIONS, KERNELS, WITH_ERROR
 from execution.terms import fresh_secret, split, word
-from meanings.x86_64 import reported
+from semantics.x86_64 import reported
 from solver.questions import public, require, secret
 
 # What x86-64-v2 needs, by the x86-64 psABI, and x86-64-v3 beyond that: the leaf of `cpuid`, the
@@ -63,8 +63,7 @@ class Dispatched(Function):
     def __init__(self, function, parameters):
         self.function = function
         self.symbol = f"const_hex_{function}"
-        self.parameters = parameters.split()
-        self.arguments = [secret(f"argument_{name}", 64) for name in self.parameters]
+        self.arguments = [secret(f"argument_{name}", 64) for name in parameters.split()]
         self.imported = {end: functools.partial(self.calls, end) for end in self.ends}
 
     def cases(self, state):
@@ -99,9 +98,9 @@ class Kernel(Dispatched):
     the byte is stored."""
 
     is_called = True
-    ends = ("_v2", "_v3")
+    call_depth = 0
     requires = (reports(FEATURES_OF_V2),)
-    builds = {"_v2": 2, "_v3": 3}
+    ends = builds = {"_v2": 2, "_v3": 3}
 
     def prove_choice(self, state, end):
         number = self.builds[end]
@@ -133,13 +132,14 @@ class OfRust(Kernel):
 
 
 class OrNull(Dispatched):
-    """A function whose error may be NULL. Then the one that is called gets a local error."""
+    """A function whose last argument, the error, may be NULL. Then the one that is called gets a
+    local error."""
 
     def __init__(self, function, parameters, is_null):
         super().__init__(function, parameters)
-        self.error, self.is_null = self.parameters.index("error"), is_null
+        self.is_null = is_null
         self.name = "the error is NULL" if is_null else "the error is not NULL"
-        self.arguments[self.error] = word(0) if is_null else public("error", 64)
+        self.arguments[-1] = word(0) if is_null else public("error", 64)
         self.requires = () if is_null else (public("error", 64) != 0,)
 
     def stacks(self, state):
@@ -149,7 +149,7 @@ class OrNull(Dispatched):
         require(not state.stored, "a byte is stored")
 
     def prove_passed(self, state, index, given, wanted):
-        if index != self.error or not self.is_null:
+        if index < len(self.arguments) - 1 or not self.is_null:
             return super().prove_passed(state, index, given, wanted)
         # The local error lies in the stack, above what belongs to the call, and may be anything
         # afterwards.

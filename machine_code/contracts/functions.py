@@ -83,9 +83,9 @@ def prove_digits(state, limit, message="a character is passed that may be no dig
     state.prove(are_covered(state.body, limit, list(state.known_digits())), message)
 
 
-def prove_written(state, limit, message, first=word(0)):
+def prove_written(state, limit, message):
     """The output is written up to a limit."""
-    state.prove(are_covered(first, limit, state.writes), message)
+    state.prove(are_covered(word(0), limit, state.writes), message)
 
 
 def prove_no_gap(state):
@@ -104,7 +104,9 @@ class Function:
     """
 
     is_called = is_local = is_declassified = is_unrolled = False
-    is_in_module = True
+    is_in_module = has_result = True
+    # A function calls, by their contracts, only those with a smaller one. Kernels have 0.
+    call_depth = 3
     # Whether it may use the static byte, which is no secret then; and whether every input is valid.
     uses_static = is_any_valid = False
     is_digit = staticmethod(is_digit)
@@ -120,8 +122,7 @@ class Function:
     def starts(self, code):
         """The states at the call of the function, with any arguments."""
         state = code.processor.State()
-        regions = [part(state.WORD) if callable(part) else part for part in self.regions]
-        state.start(code, self, code.start, regions, list(self.arguments))
+        state.start(code, self)
         for condition in self.requires:
             state.assume(condition)
         nulls = [(base(name) != 0, z3.And(base(name) == 0, size == 0)) for name, size in self.empty]
@@ -140,7 +141,11 @@ class Function:
 
     def stacks(self, state):
         """How much stack it has, and how much of it is for what it calls."""
-        return state.STACK_OF_CALLED if self.is_called else state.STACK, state.STACK_OF_CALLED
+        own, called = [
+            state.STACK_OF_CALLED + depth * state.STACK_OF_CALLER
+            for depth in (self.call_depth, max(self.call_depth - 1, 0))
+        ]
+        return own if self.is_called else state.STACK, called
 
     def cases(self, state):
         """The cases of the start, such as whether the text has a prefix."""
@@ -172,13 +177,20 @@ class Function:
 
 def with_prefix_or_without(state):
     """The start where the text has a prefix, and the one where it has none."""
+    for path, body in after_prefix(state, word(0), N):
+        path.body = body
+        yield path
+
+
+def after_prefix(state, offset, length):
+    """The states where text in the input has a prefix, and where it has none, each with the index after
+    that."""
     has_prefix = z3.And(
-        z3.UGE(N, 2), is_prefix(*[state.byte_of_input(word(index)) for index in (0, 1)])
+        z3.UGE(length, 2), is_prefix(*[state.byte_of_input(offset + index) for index in (0, 1)])
     )
-    for condition, first in (has_prefix, 2), (z3.Not(has_prefix), 0):
+    for condition, index in (has_prefix, 2), (z3.Not(has_prefix), 0):
         if path := state.branch(condition):
-            path.body = word(first)
-            yield path
+            yield path, word(index)
 
 
 def prove_true_if(state, condition, message):

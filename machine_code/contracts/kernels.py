@@ -31,6 +31,7 @@ class Kernel(Function):
     is_called = True
     name = "any text"
     imported = {}
+    call_depth = 0
     # Each of the two has less than 2^63 bytes.
     requires = (z3.ULT(N, 1 << 62),)
     input_size, output_size = simple(2 * N), N
@@ -113,6 +114,28 @@ class Check(Kernel):
         return checked(state, input, n)
 
 
+class CheckOfModule(Check):
+    """The same in the module, where only a search calls it, and not for less than two characters."""
+
+    function = "check_of_module"
+    symbol = called_as = "const_hex_kernel_check_of_module"
+    requires = (*Check.requires, z3.UGE(N, 2))
+
+
+def prove_decoded(state, offset, data):
+    """Bytes at an offset are what the digits of the text decode to, which have no invalid character
+    before them. The first half of the first one may be a digit that waits."""
+    is_waiting = state.waiting is not None
+    is_first = is_waiting and state.is_valid(offset == 0)
+    state.prove(z3.Or(not is_waiting, is_first, offset != 0), "whether it is the first byte")
+    begin = state.body - is_waiting
+    prove_digits(state, simple(begin + 2 * (offset + len(data))), "written before it is known")
+    for index, number in enumerate(data):
+        high, low = [state.byte_of_input(begin + 2 * (offset + index) + more) for more in (0, 1)]
+        high = state.waiting if is_first and index == 0 else high
+        state.prove_equal(number, decoded(high, low), f"a wrong byte at {offset} + {index}")
+
+
 class Read(Kernel):
     """read(text, bytes, n): whether all 2n characters are digits. Then the bytes are what the text
     decodes to."""
@@ -120,9 +143,8 @@ class Read(Kernel):
     function = "read"
     arguments = base("input"), base("output"), N
 
-    def store(self, state, offset, data):
-        """Only what digits decode to is written that have no invalid character before them."""
-        prove_decoded(state, offset, data)
+    # Only what digits decode to is written that have no invalid character before them.
+    store = staticmethod(prove_decoded)
 
     def called(self, state, input, n, output):
         """Any byte may be written before which, and of which, all is digits. All are, if all is;
@@ -140,18 +162,4 @@ class Read(Kernel):
             yield path, result
 
 
-def prove_decoded(state, offset, data):
-    """Bytes at an offset are what the digits of the text decode to, which have no invalid character
-    before them. The first half of the first one may be a digit that waits."""
-    is_waiting = state.waiting is not None
-    is_first = is_waiting and state.is_valid(offset == 0)
-    state.prove(z3.Or(not is_waiting, is_first, offset != 0), "whether it is the first byte")
-    begin = state.body - is_waiting
-    prove_digits(state, simple(begin + 2 * (offset + len(data))), "written before it is known")
-    for index, number in enumerate(data):
-        high, low = [state.byte_of_input(begin + 2 * (offset + index) + more) for more in (0, 1)]
-        high = state.waiting if is_first and index == 0 else high
-        state.prove_equal(number, decoded(high, low), f"a wrong byte at {offset} + {index}")
-
-
-KERNELS = Fill(0), Fill(1), Check(), Read()
+KERNELS = Fill(0), Fill(1), Check(), CheckOfModule(), Read()

@@ -6,12 +6,11 @@ else. A text has less than 2^63 characters, and so have the bytes whose text fit
 size that is passed has no limit.
 """
 
-import re
 from collections import namedtuple
 
 import z3
 
-from contracts.callees import first_invalid_from
+from contracts.callees import first_invalid_from, is_in, offset_in, skipped
 from contracts.functions import (
     FAILED,
     FOUND,
@@ -20,6 +19,7 @@ from contracts.functions import (
     N,
     ODD_LENGTH,
     Function,
+    after_prefix,
     base,
     first_invalid,
     in_size_t,
@@ -38,15 +38,13 @@ from contracts.functions import (
     with_prefix_or_without,
 )
 from contracts.kernels import Check as CheckKernel, Fill, prove_decoded, prove_digits_of
-from contracts.names import HEADER, WITH_ERROR
+from contracts.names import VERSION, WITH_ERROR
 from execution.state import Region
 from execution.terms import byte, fresh_secret, joined, simple, split, word
 from solver.questions import names, public, require
 
 FLAGS, SIZE = public("flags", 32), public("size", 64)
-UPPER = 1
-PREFIX = 2
-NO_NUL = 4
+UPPER, PREFIX, NO_NUL = 1, 2, 4
 TEXT = Region("input", N)
 OUTPUT = Region("output", SIZE)
 BUFFERS = ("input", N), ("output", SIZE)
@@ -70,8 +68,7 @@ class Version(Exported):
     function, arguments = "version", ()
 
     def returns(self, state):
-        wanted = int(re.search(r"#define CONST_HEX_VERSION (\d+)", HEADER.read_text())[1])
-        state.prove(state.result(32) == wanted, f"the version is not {wanted}")
+        state.prove(state.result(32) == VERSION, f"the version is not {VERSION}")
 
 
 def needed(flags):
@@ -90,10 +87,8 @@ class EncodedSize(Exported):
     def returns(self, state):
         size = needed(FLAGS)
         is_size = z3.And(z3.ULT(FLAGS, 8), z3.ULT(size, size_max(state)))
-        state.prove(
-            state.result(64) == z3.If(is_size, z3.Extract(63, 0, size), size_max(state)),
-            "another size",
-        )
+        wanted = z3.If(is_size, z3.Extract(63, 0, size), size_max(state))
+        state.prove(state.result(64) == wanted, "another size")
 
 
 class Encode(Exported):
@@ -115,10 +110,8 @@ class Encode(Exported):
         # Where the digits begin, and where they end.
         self.begin = 2 if flags and flags & PREFIX else 0
         self.end = simple(2 * N + self.begin)
-        self.requires = (
-            z3.Implies(self.fits, z3.ULT(N, 1 << 62)),
-            *([z3.UGE(FLAGS, 8)] if flags is None else []),
-        )
+        are_known = z3.ULT(self.flags, 8) == (flags is not None)
+        self.requires = z3.Implies(self.fits, z3.ULT(N, 1 << 62)), are_known
 
     reached = Fill.reached
 
@@ -135,9 +128,8 @@ class Encode(Exported):
             return self.prove_nul(state, offset, data, self.end)
         is_inside = z3.And(z3.UGE(offset, self.begin), z3.ULE(offset + len(data), self.end))
         state.prove(is_inside, "written beside the digits")
-        prove_digits_of(
-            state, simple(offset - self.begin), data, bool(self.flags.as_long() & UPPER)
-        )
+        is_upper = bool(self.flags.as_long() & UPPER)
+        prove_digits_of(state, simple(offset - self.begin), data, is_upper)
 
     def prove_nul(self, state, offset, data, wanted):
         state.prove(z3.And(self.has_nul, offset == wanted), "another offset than that of a NUL")
@@ -159,17 +151,40 @@ class CheckRaw(CheckKernel):
 
     is_called = False
     imported = None
+    call_depth = 3
     regions = (TEXT,)
     empty = (("input", N),)
     function = "check_raw"
     symbol = "const_hex_check_raw"
 
 
-class FirstInvalid(Function):
-    """locate_invalid(text, length): the first invalid character, and its index; 0 and the length if
-    there is none."""
+class SkipHalves(Function):
+    """skip_halves(text, length): an index, before which all characters are digits."""
 
     is_called = is_local = is_declassified = True
+    call_depth = 1
+    symbol = "const_hex_body_skip_halves"
+    function = "skip_halves"
+    name = "text of at least 128 characters"
+    requires = z3.ULT(N, 1 << 63), z3.UGE(N, 128)
+    regions = (TEXT,)
+    arguments = base("input"), N
+
+    def returns(self, state):
+        index = simple(z3.ZeroExt(64 - 8 * state.WORD, state.result(8 * state.WORD)))
+        state.prove(z3.ULE(index, N), "an index beside the text")
+        prove_digits(state, index)
+
+    def called(self, state, input, n):
+        return skipped(state, input, n)
+
+
+class FirstInvalid(Function):
+    """locate_invalid(text, length): the first invalid character after the prefix, and its index; 0
+    and the length if there is none."""
+
+    is_called = is_local = is_declassified = True
+    call_depth = 2
     symbol = "const_hex_body_locate_invalid"
     function = "locate_invalid"
     name = "any text"
@@ -177,14 +192,19 @@ class FirstInvalid(Function):
     regions = (TEXT,)
     arguments = base("input"), N
 
+    def cases(self, state):
+        return with_prefix_or_without(state)
+
     def returns(self, state):
         index, character = first_invalid(state)
         state.prove(state.result(32) == z3.ZeroExt(24, character), "another character")
         state.prove(state.result(64, 1) == index, "another index")
 
     def called(self, state, input, n):
-        for path, index, character in first_invalid_from(state, input, n):
-            yield path, z3.ZeroExt(24, character), index
+        require(is_in("input", input), "a search in what is no input")
+        for start, body in after_prefix(state, offset_in(state, "input", input), n):
+            for path, index, character in first_invalid_from(start, input + body, n - body):
+                yield path, z3.ZeroExt(24, character), simple(body + index)
 
 
 class Text(Exported):
@@ -207,17 +227,19 @@ class Text(Exported):
         when it is one, what it is, and the error."""
         return [(N & 1 == 1, "an odd length", ODD_LENGTH)]
 
-    def store(self, state, offset, data):
+    def prove_no_error(self, state, message):
         for is_error, what, *_ in self.errors(state):
-            state.prove(z3.Not(is_error), f"written though it is {what}")
+            state.prove(z3.Not(is_error), message.format(what))
+
+    def store(self, state, offset, data):
+        self.prove_no_error(state, "written though it is {}")
         state.prove(z3.ULE(offset + len(data), self.count(state)), "written after the bytes")
         prove_decoded(state, offset, data)
 
     def returns(self, state):
         result = state.result()
         if state.is_valid(result == 1):
-            for is_error, what, *_ in self.errors(state):
-                state.prove(z3.Not(is_error), f"{what} is accepted")
+            self.prove_no_error(state, "{} is accepted")
             prove_digits(state, N)
             prove_unchanged(state, "error")
             return self.accepts(state)
@@ -368,8 +390,7 @@ class DecoderUpdate(Text):
             z3.UGE(N, 1), is_prefix(decoder_of(state)[1], state.byte_of_input(word(0)))
         )
         yield from with_prefix_or_without(state.branch(kinds.start))
-        # Whether a digit waits that belongs to the first byte, and where the digits of this chunk
-        # begin.
+        # Whether a digit waits, and where the digits of this chunk begin.
         for condition, is_waiting, body in (
             (z3.And(kinds.one_digit, is_rest), False, 1),
             (z3.And(kinds.one_digit, z3.Not(is_rest)), True, 0),
@@ -447,6 +468,7 @@ class DecoderFail(FirstInvalid):
     """decoder_fail(result, decoder, before, text, length), of a chunk, before which come some
     characters: the decoder moves to the invalid one, and keeps the error."""
 
+    has_result = False
     symbol = "const_hex_decoder_fail"
     function = "decoder_fail"
     name = "every decoder and chunk"
@@ -496,6 +518,7 @@ FUNCTIONS = (
     EncodedSize(),
     *[Encode(flags) for flags in (*range(8), None)],
     CheckRaw(),
+    SkipHalves(),
     FirstInvalid(),
     Check(),
     DecodeExact(),

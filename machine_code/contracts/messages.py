@@ -36,9 +36,8 @@ SHOWN = [shown(character) for character in range(256)]
 def shown_in(state):
     """The bytes that show the character, which are as many for all that a path leaves."""
     character = z3.Extract(7, 0, CHARACTER)
-    length = simple(chosen([byte(len(text)) for text in SHOWN], character))
-    count = next((count for count in range(1, 7) if state.is_valid(length == count)), None)
-    require(count, "characters that are shown by different numbers of bytes have one path")
+    lengths = chosen([byte(len(text)) for text in SHOWN], character)
+    (count,) = values(state.facts, simple(lengths), 1)
     return [
         simple(chosen([byte(text[index] if index < len(text) else 0) for text in SHOWN], character))
         for index in range(count)
@@ -109,6 +108,7 @@ class WriteEnded(Ended):
     """message_write_ended(source, length, output, size): the text is the source."""
 
     is_called = is_local = True
+    call_depth = 0
     function = "write_ended"
     name = "every source of up to 64 bytes"
     symbol = "const_hex_message_write_ended"

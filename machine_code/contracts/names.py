@@ -3,23 +3,25 @@ them: docs/check compares it with the header and the pages, and `prove` with the
 and the exports of the module."""
 
 import pathlib
+import re
 from collections import namedtuple
 
-HEADER = pathlib.Path(__file__).resolve().parents[2] / "c" / "const_hex.h"
-Function = namedtuple("Function", "parameters error_may_be_null is_constant_time is_in_module")
+HEADER = (pathlib.Path(__file__).resolve().parents[2] / "c" / "const_hex.h").read_text()
+VERSION = int(re.search(r"#define CONST_HEX_VERSION (\d+)", HEADER)[1])
+Function = namedtuple("Function", "parameters is_constant_time is_in_module")
 FUNCTIONS = {
-    "encoded_size": Function("bytes_length flags", False, True, False),
-    "encode": Function("bytes bytes_length text text_size flags", False, True, True),
-    "decode": Function("text text_length bytes bytes_size written error", True, True, False),
-    "decode_exact": Function("text text_length bytes bytes_length error", True, True, False),
+    "encoded_size": Function("bytes_length flags", True, False),
+    "encode": Function("bytes bytes_length text text_size flags", True, True),
+    "decode": Function("text text_length bytes bytes_size written error", True, False),
+    "decode_exact": Function("text text_length bytes bytes_length error", True, False),
     "decoder_update": Function(
-        "decoder text text_length bytes bytes_size written error", True, True, True
+        "decoder text text_length bytes bytes_size written error", True, True
     ),
-    "decoder_finish": Function("decoder error", True, True, True),
-    "check": Function("text text_length error", True, True, False),
-    "check_raw": Function("text text_length", False, True, False),
-    "error_message": Function("error message message_size", False, False, False),
-    "version": Function("", False, True, False),
+    "decoder_finish": Function("decoder error", True, True),
+    "check": Function("text text_length error", True, False),
+    "check_raw": Function("text text_length", True, False),
+    "error_message": Function("error message message_size", False, False),
+    "version": Function("", True, False),
 }
 # The kernels' functions, which are called with these.
 KERNELS = {
@@ -28,4 +30,5 @@ KERNELS = {
     "kernel_fill_upper": "bytes bytes_length text",
     "kernel_read": "text bytes bytes_size",
 }
-WITH_ERROR = {name for name, function in FUNCTIONS.items() if function.error_may_be_null}
+# Those whose last parameter is an error, which may be NULL.
+WITH_ERROR = {name for name in FUNCTIONS if FUNCTIONS[name].parameters.endswith(" error")}

@@ -10,16 +10,19 @@ import z3
 from execution.state import Region
 from execution.terms import word
 from reading import library
+from reading.image import AARCH64, X86_64
+from semantics import aarch64, webassembly, x86_64
 
+PROCESSORS = {X86_64: x86_64, AARCH64: aarch64, None: webassembly}
 PAGE = 4096  # Loaders keep no greater alignment.
 
 
 class Code:
     """A function of a file, by its symbol. Others are called by their contracts."""
 
-    def __init__(self, content, processors, symbol, effects, level=None):
+    def __init__(self, content, symbol, effects, level=None):
         self.object = library.read(content)
-        self.processor = processors[self.object.machine]
+        self.processor = PROCESSORS[self.object.machine]
         self.level = level or symbol.rpartition("_")[2]
         self.start = self.object.symbols[symbol]
         self.static = None
@@ -41,7 +44,7 @@ class Code:
             )
         return self.instructions.get(address)
 
-    def placed(self, address):
+    def runtime_address(self, address):
         """An address of the file, wherever that lies."""
         return self.constants.base + (address - self.object.first)
 

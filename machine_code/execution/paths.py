@@ -34,7 +34,8 @@ class Loop:
             name: entry.general[name] + step * self.rounds for name, step in invariant.steps.items()
         }
         self.unchanged, self.is_clean = list(invariant.unchanged), bool(invariant.is_clean)
-        self.read, self.written = invariant.read(self.rounds), invariant.written(self.rounds)
+        self.read = invariant.at(invariant.read, self.rounds)
+        self.written = invariant.at(invariant.written, self.rounds)
 
     def prove_invariant(self, state, k):
         """Proves that all that is assumed at the header holds in a state that has come there after
@@ -48,11 +49,8 @@ class Loop:
         for name, wanted in self.general.items():
             state.prove(state.general[name] == after(wanted), f"loop invariant: {name}")
         for number in self.unchanged:
-            same = all(
-                state.is_valid(a == b)
-                for a, b in zip(state.vectors[number], self.entry.vectors[number])
-            )
-            require(same, f"loop invariant: vector {number}")
+            for a, b in zip(state.vectors[number], self.entry.vectors[number]):
+                state.prove(a == b, f"loop invariant: vector {number}")
         require(
             all(
                 key in state.cells and state.cells[key].eq(value)
@@ -106,14 +104,13 @@ def step(code, state):
     try:
         to = code.processor.HANDLERS[instruction.mnemonic](state, *instruction.operands)
     except TypeError as error:
-        # More operands than its meaning has, or fewer, or another kind of one.
+        # More operands than its semantics have, or fewer, or another kind of one.
         raise Rejected(f"unsupported operands: {error}") from None
     state.drop_below()
     if isinstance(to, Branch):
         return [*branches(state, to)]
     if isinstance(to, list):
-        paths = [state.branch(condition, target) for condition, target in to]
-        return [path for path in paths if path]
+        return [*filter(None, (state.branch(condition, target) for condition, target in to))]
     if z3.is_expr(to):
         return returned(state, to)
     state.address = state.next if to is None else to

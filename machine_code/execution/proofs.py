@@ -17,13 +17,11 @@ from contracts.messages import MESSAGES
 from execution.code import Code
 from execution.paths import run
 from hints.loops import infer_invariant, loop_headers
-from meanings import aarch64, webassembly, x86_64
 from reading import library
-from reading.image import AARCH64, X86_64
+from reading.image import X86_64
 from solver import cvc5, questions
 from solver.questions import Rejected
 
-PROCESSORS = {X86_64: x86_64, AARCH64: aarch64, None: webassembly}
 SAMPLE = 100  # so many questions of each function go to the second solver, too
 MAX_LINE = 300  # characters of a line of output
 CONTRACTS = (*FUNCTIONS, *MESSAGES, *KERNELS, *dispatch.OR_NULL, *dispatch.CHOICES)
@@ -65,20 +63,22 @@ def functions_of(content):
 
 
 def effects_of(symbol, contract):
-    """What functions do that are called by their contracts. Each of these calls fewer so, or two
-    might be proved by each other's: functions of the header, local ones, those that choose a
+    """What functions do that are called by their contracts. Each of these has a lower call_depth, or
+    two might be proved by each other's: functions of the header, local ones, those that choose a
     kernel, and kernels."""
     if contract.imported is not None:
         return {symbol + end: effect for end, effect in contract.imported.items()}
     return callees.effects(
-        other for other in CONTRACTS if other in KERNELS or other.is_local and not contract.is_local
+        other
+        for other in CONTRACTS
+        if other in KERNELS or other.is_local and other.call_depth < contract.call_depth
     )
 
 
 def prove(content, symbol, contract, which=slice(None)):
     """Proves a function of a file, from all starts or from some. Returns how many paths have
     ended."""
-    code = Code(content, PROCESSORS, symbol, effects_of(symbol, contract), contract.level)
+    code = Code(content, symbol, effects_of(symbol, contract), contract.level)
     starts = contract.starts(code)
     return run(
         code,

@@ -3,12 +3,11 @@
 Memory is regions at unknown bases: the input, the output, objects such as the stack or an error,
 and the file with its constants. An address is a term of 64 bits; an access has to lie inside of one
 region, whatever the bases are. The bytes of objects are kept by their offsets, those of the input
-have names, and the output is never read. If `_place` or `load` were wrong, an access outside of a
+have names, and the output is never read. If `_locate` or `load` were wrong, an access outside of a
 buffer or a wrong byte could be accepted.
 """
 
 import itertools
-from dataclasses import dataclass, field
 
 import z3
 
@@ -16,7 +15,6 @@ from execution.terms import byte, chosen, fresh_public, fresh_secret, joined, si
 from solver import quotient_by_ten
 from solver.questions import (
     Rejected,
-    conjuncts,
     facts_of,
     is_unsatisfiable,
     is_public,
@@ -50,84 +48,67 @@ STATIC = Region("static", word(1))  # which lasts from call to call
 MAX_VALUES = 64  # of the offset of a constant, or of a jump
 
 
-@dataclass
 class State:
     """What is known at an instruction. A processor adds its registers, which of them have the stack
-    pointer, arguments and the result, and which of them are callee-saved: see `meanings`."""
+    pointer, arguments and the result, and which of them are callee-saved: see `semantics`."""
 
     # How many of the lowest bytes of a vector are callee-saved, and the bytes of an address.
     CALLEE_SAVED_VECTORS, WORD = {}, 8
 
-    code: object = None
-    contract: object = None
-    address: int = 0  # of the instruction
-    # Conditions that hold, and in how many steps they may be from what is asked, if that has a
-    # limit.
-    facts: list = field(default_factory=list)
-    near: int = None
-    # Registers, and whether the upper halves of vectors are clear, where `vzeroupper` has to clear
-    # them.
-    general: dict = field(default_factory=dict)
-    vectors: dict = field(default_factory=dict)
-    flags: dict = None
-    is_clean: bool = True
-    # Memory by names, the bytes of objects by names and offsets, and those of the input by the
-    # terms of their offsets.
-    regions: dict = field(default_factory=dict)
-    cells: dict = field(default_factory=dict)
-    input: dict = field(default_factory=dict)
-    entry: object = None  # the state at the call
-    # Offset and count of what was read of the input and written to the output, and whether reads
-    # are of digits, by these terms themselves: two keys are the same only if their terms are.
-    reads: list = field(default_factory=list)
-    writes: list = field(default_factory=list)
-    digits: dict = field(default_factory=dict)
-    # What was loaded from the static byte, and what was stored there.
-    loaded: list = field(default_factory=list)
-    stored: list = field(default_factory=list)
+    near = None  # in how many steps facts may be from what is asked, if that has a limit
+    # Whether the upper halves of vectors are clear, where `vzeroupper` has to clear them.
+    flags, is_clean = None, True
     # Where the digits of the input begin, and the digit that waits before them, if there is one.
-    body: object = word(0)
-    waiting: object = None
-    calls: dict = field(default_factory=dict)  # where they return to
-    tenths: dict = field(
-        default_factory=dict
-    )  # the parts of products that have a tenth, by their factors
-    # The loops that were entered, the last one, if nothing was called since by its contract, and
-    # the instructions since its header.
-    loops: dict = field(default_factory=dict)
-    loop: object = None
-    steps: int = 0
+    body, waiting = word(0), None
+    # The last loop that was entered, if nothing was called since by its contract, and the
+    # instructions since its header.
+    loop, steps = None, 0
     # Whether time may depend on secrets: the input is surely invalid.
-    is_declassified: bool = False
+    is_declassified = False
 
-    def start(self, code, contract, address, regions, arguments):
+    def __init__(self):
+        self.facts = []  # conditions that hold
+        self.general, self.vectors = {}, {}  # registers
+        # Memory by names, the bytes of objects by names and offsets, and those of the input by the
+        # terms of their offsets.
+        self.regions, self.cells, self.input = {}, {}, {}
+        # Offset and count of what was read of the input and written to the output, and whether
+        # reads are of digits, by these terms themselves: two keys are the same only if their terms
+        # are.
+        self.reads, self.writes, self.digits = [], [], {}
+        # What was loaded from the static byte, and what was stored there.
+        self.loaded, self.stored = [], []
+        self.calls = {}  # where they return to
+        self.loops = {}  # that were entered, by the addresses of their headers
+
+    def start(self, code, contract):
         """Before the first instruction of a function, nothing is known of registers but the
         arguments. A function that others call by its contract has less of the stack."""
         self.code = code
         self.contract = contract
-        self.address = address
+        self.address = code.start  # of the instruction
         self.near = contract.near
         self.is_declassified = contract.is_declassified
         self.STACK, self.STACK_OF_CALLED = contract.stacks(self)
-        on_stack = arguments[len(self.ARGUMENTS) :]
+        on_stack = contract.arguments[len(self.ARGUMENTS) :]
         stack = Region("stack", word(self.STACK + self.RETURN + 8 * len(on_stack)), 16)
-        regions = [*regions, stack, code.constants]
-        self.regions = {region.name: region for region in regions}
-        for region in regions:
+        given = [part(self.WORD) if callable(part) else part for part in contract.regions]
+        self.regions = {region.name: region for region in (*given, stack, code.constants)}
+        for region in self.regions.values():
             self.assume(region.base & region.align - 1 == 0)
         self.general = {name: secret(name, 64) for name in self.GENERAL}
-        self.general |= dict(zip(self.ARGUMENTS, arguments))
+        self.general |= dict(zip(self.ARGUMENTS, contract.arguments))
         for number in range(self.VECTORS):
             self.vectors[number] = [secret(f"v{number}_{index}", 8) for index in range(self.WIDTH)]
-        for region in regions:
-            if region.is_object and region is not stack:
+        for region in given:
+            if region.is_object:
                 size = region.size.as_long()
                 data = [secret(f"{region.name}_{offset}", 8) for offset in range(size)]
                 self.put_cells(region.name, 0, data)
         for index, argument in enumerate(on_stack):
             self.put_cells("stack", self.STACK + self.RETURN + 8 * index, split(argument))
         self.enter()
-        self.entry = self.copy()
+        self.entry = self.copy()  # the state at the call
 
     def copy(self):
         other = object.__new__(type(self))
@@ -150,8 +131,10 @@ class State:
     def branch(self, condition, address=None):
         """This state where a condition holds, perhaps at another address, or None if it can't
         hold."""
-        if self.is_valid(z3.Not(condition)):
-            return None
+        return None if self.is_valid(z3.Not(condition)) else self.assuming(condition, address)
+
+    def assuming(self, condition, address=None):
+        """This state where a condition holds, perhaps at another address."""
         other = self.copy()
         other.assume(condition)
         other.address = self.address if address is None else address
@@ -163,8 +146,8 @@ class State:
 
     def if_then_else(self, condition, one, other, is_asked=False):
         """The first of two terms where a condition holds, else the second; that one alone, if it is
-        asked and known."""
-        if is_asked or is_public(condition):
+        asked and known, or time may depend on it."""
+        if is_asked or self.is_declassified or is_public(condition):
             for term, path in (one, condition), (other, z3.Not(condition)):
                 if self.is_valid(path):
                     return term
@@ -176,20 +159,18 @@ class State:
             return None
         facts = self.facts + self.input_is_valid()
         goals = (True, condition), (False, z3.Not(condition))
-        for truth, goal in sorted(goals, key=lambda pair: -len(conjuncts(pair[1]))):
+        for truth, goal in goals:
             if is_valid(facts, goal):
                 return truth
         raise Rejected("a branch depends on bytes that are secret")
 
     # Products
     def _parts(self, number):
-        """A tenth of a number, and the bits below it in a product. What is known of them is assumed
-        once."""
-        number = simple(number)
-        if number.get_id() not in self.tenths:
-            *self.tenths[number.get_id()], known = quotient_by_ten.parts(number)
-            self.assume(known)
-        return self.tenths[number.get_id()]
+        """A tenth of a number, and the bits below it in a product. What is known of them is
+        assumed."""
+        *parts, known = quotient_by_ten.parts(simple(number))
+        self.assume(known)
+        return parts
 
     def tenth(self, number):
         """A tenth of a number of 64 bits, rounded down."""
@@ -211,20 +192,15 @@ class State:
         terms = [self.general[name] * scale for name, scale in o.terms]
         return simple(sum(terms, word(o.offset)))
 
-    def _place(self, address, count, aligned):
+    def _locate(self, address, count, aligned):
         """The region of an access, and its offset."""
         address = simple(address)
         is_allowed = self.is_declassified or is_public(address)
         require(is_allowed, "an address depends on bytes that are secret, or on what is unknown")
-        regions = [
-            region
-            for region in self.regions.values()
-            if region.base.decl().name() in names(address)
-        ]
-        require(
-            len(regions) == 1, f"an address in {[region.name for region in regions]}: {address}"
-        )
-        region, offset = regions[0], simple(address - regions[0].base)
+        bases = [name for name in self.regions if name in names(address)]
+        require(len(bases) == 1, f"an address in {bases}: {address}")
+        region = self.regions[bases[0]]
+        offset = simple(address - region.base)
         self.prove(
             z3.And(z3.UGE(region.size, count), z3.ULE(offset, region.size - count)),
             f"an access may lie outside of {region.name}: {offset}",
@@ -240,7 +216,7 @@ class State:
         return STATIC if is_static else region, offset
 
     def load(self, address, count, aligned=False):
-        region, offset = self._place(address, count, aligned)
+        region, offset = self._locate(address, count, aligned)
         if region.data is not None:
             return self._constants(region, offset, count)
         if region.name == "input":
@@ -248,8 +224,8 @@ class State:
             return [self.byte_of_input(offset + index) for index in range(count)]
         if region.name == "static":
             # Another thread may have written it since it was read before.
-            self.loaded += [fresh_public(8) for _ in range(count)]
-            return self.loaded[-count:]
+            self.loaded.append(fresh_public(8))
+            return self.loaded[-1:]
         require(region.is_object, f"{region.name} is read")
         first = self._offset_in(region, offset)
         known = [self.cells.get((region.name, first + index)) for index in range(count)]
@@ -285,16 +261,15 @@ class State:
         )
         if address.decl().name() in self.contract.passed:
             return address
-        base = self.code.constants.base
-        require(base.decl().name() in names(address), "a jump target that is not known")
-        offset = simple(address - base)
+        require("constants" in names(address), "a jump target that is not known")
+        offset = simple(address - self.code.constants.base)
         return [
             (offset == value, self.code.object.first + value)
             for value in values(self.facts, offset, MAX_VALUES)
         ]
 
     def store(self, address, data, aligned=False):
-        region, offset = self._place(address, len(data), aligned)
+        region, offset = self._locate(address, len(data), aligned)
         require(region.is_writable, f"{region.name} is written")
         if region.is_object:
             self.put_cells(region.name, self._offset_in(region, offset), data)
@@ -383,14 +358,11 @@ class State:
         other.digits[offset, count] = True
         for index, character in self.input.values():
             is_inside = z3.ULT(index - offset, count)
-            if other and self.is_known(character, False):
+            if not other:
+                return None
+            if self.is_known(character, False):
                 other = other.branch(z3.Not(is_inside))
-            elif (
-                are_named
-                and other
-                and not self.is_known(character, True)
-                and other.is_valid(is_inside)
-            ):
+            elif are_named and not self.is_known(character, True) and other.is_valid(is_inside):
                 other = other.branch(self.contract.is_digit(character))
         return other
 
@@ -448,9 +420,9 @@ class State:
 
     def havoc_registers(self):
         """A function that was called has changed all registers that it need not keep."""
-        kept = (*self.CALLEE_SAVED, self.TOP)
+        preserved = (*self.CALLEE_SAVED, self.TOP)
         self.general = {
-            name: value if name in kept else fresh_secret(64)
+            name: value if name in preserved else fresh_secret(64)
             for name, value in self.general.items()
         }
         for number, data in self.vectors.items():

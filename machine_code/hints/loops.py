@@ -6,14 +6,14 @@ loop header say what holds of the registers then. All of it is proved where it i
 (execution/paths.py), so a wrong invariant is rejected.
 """
 
+import collections
 import re
 
 import z3
 
 from execution import paths
 from execution.terms import fresh_public, simple, word
-from meanings.webassembly_blocks import ENDS, Operands
-from reading.module import SPACE
+from semantics.webassembly_blocks import ENDS, Operands
 from solver.questions import Rejected, is_public, names
 
 # Instructions that jump to the address that they name, and those that never fall through; on each
@@ -25,9 +25,7 @@ NEVER_FALLS_THROUGH = ("jmp", "b", "ret", *ENDS)
 def successors(i):
     """The addresses of the instructions that may run after an instruction."""
     if isinstance(i.operands, Operands):
-        targets = i.operands.targets + [
-            SPACE * (number + 1) for number in i.operands.numbers if i.mnemonic == "call"
-        ]
+        targets = i.operands.targets
     else:
         targets = [
             o.value for o in i.operands[-1:] if JUMP.match(i.mnemonic) and o.kind == "number"
@@ -52,22 +50,22 @@ def loop_headers(code, start):
 
 def reaching(code, target):
     """The instructions that reach an address, if no call has to return before."""
-    predecessors = {}
+    predecessors = collections.defaultdict(list)
     for i in code.instructions.values():
         for to in successors(i) if i.mnemonic in code.processor.HANDLERS else ():
-            predecessors.setdefault(to, []).append(i.address)
+            predecessors[to].append(i.address)
     found = set()
     work = [target]
     while work:
-        new = {*predecessors.get(work.pop(), ())} - found
+        new = {*predecessors[work.pop()]} - found
         found |= new
         work += new
     return found
 
 
 class Invariant:
-    """By k, which is how many rounds are done: registers, guards, and how much was read and
-    written.
+    """By k, which is how many rounds are done: registers, guards, and how much is read and written
+    then.
 
     `added` has what a register is more than where the loop was entered, when the round began that
     `end` came from.
@@ -86,7 +84,7 @@ class Invariant:
         self.steps = {name: step for name, step in steps.items() if step is not None}
         self.unchanged = [number for number in entry.vectors if is_same(number)]
         self.is_clean = entry.is_clean and end.is_clean
-        self.first_read, self.first_written = _least(end.reads), _least(end.writes)
+        self.read, self.written = _least(end.reads), _least(end.writes)
         unknown = {added[name].decl().name() for name in added if name not in self.steps}
         moving = {added[name].decl().name() for name, step in self.steps.items() if step}
         facts = [
@@ -95,7 +93,7 @@ class Invariant:
             if fact.names & moving and not fact.names & unknown
         ]
         # What the branches say of the registers where the round ends, and so held where it began.
-        self.facts = [fact for fact in facts if entry.is_valid(self._at(fact, word(-1)))]
+        self.facts = [fact for fact in facts if entry.is_valid(self.at(fact, word(-1)))]
         rest = {
             name: end.general[name] == value
             for name, value in entry.general.items()
@@ -108,11 +106,11 @@ class Invariant:
         """Finds registers that a round changes only if it is the last one."""
         state, k = entry.copy(), fresh_public(64)
         guards = [z3.ULE(k, self.bound(entry)), *self.guards(k)]
-        for fact in [*guards, *[self._at(fact.term, k) for fact in facts]]:
+        for fact in [*guards, *[self.at(fact.term, k) for fact in facts]]:
             state.assume(fact)
-        self.steps |= {name: 0 for name, same in rest.items() if state.is_valid(self._at(same, k))}
+        self.steps |= {name: 0 for name, same in rest.items() if state.is_valid(self.at(same, k))}
 
-    def _at(self, term, k):
+    def at(self, term, k):
         """A term of the registers after so many rounds."""
         return simple(
             z3.substitute(
@@ -121,13 +119,7 @@ class Invariant:
         )
 
     def guards(self, k):
-        return [self._at(fact, k - 1) for fact in self.facts]
-
-    def read(self, k):
-        return self._at(self.first_read, k)
-
-    def written(self, k):
-        return self._at(self.first_written, k)
+        return [self.at(fact, k - 1) for fact in self.facts]
 
     def bound(self, entry):
         """How many rounds a register allows that counts down from more than 0, or a comparison of
@@ -139,7 +131,7 @@ class Invariant:
             if step < 0 and is_guarded and not z3.is_true(simple(begin <= 0)):
                 return simple(z3.UDiv(begin, word(-step)))
         for one, other in [pair for fact in self.facts for pair in _compared(fact)]:
-            first, second = [simple(self._at(one - other, word(k))) for k in (-1, 0)]
+            first, second = [self.at(one - other, word(k)) for k in (-1, 0)]
             step = simple(second - first)
             if z3.is_bv_value(step) and step.as_long():
                 step = step.as_signed_long()
@@ -191,10 +183,7 @@ class Directed(Unproved):
     """One of which is known which path it takes: a branch takes both."""
 
     def branch(self, condition, address=None):
-        other = self.copy()
-        other.assume(condition)
-        other.address = self.address if address is None else address
-        return other
+        return self.assuming(condition, address)
 
 
 def _at_header(entry, kind, added):

@@ -8,10 +8,11 @@ of its text and has nothing to say.
 
 import collections
 import os
-import pathlib
 import re
 import subprocess
 import tempfile
+
+from elftools.elf.elffile import ELFFile
 
 from reading.image import AARCH64, X86_64
 
@@ -19,11 +20,10 @@ from reading.image import AARCH64, X86_64
 Instruction = collections.namedtuple(
     "Instruction", "address size mnemonic operands text rejected", defaults=[None]
 )
-# By the processor: what prints its instructions, what begins a comment there, and what copies from
-# an object.
-COMMANDS = {
-    X86_64: (["objdump", "-m", "i386:x86-64", "-M", "intel", "-w"], "[#<]", "objcopy"),
-    AARCH64: (["aarch64-linux-gnu-objdump", "-m", "aarch64"], "//|<", "aarch64-linux-gnu-objcopy"),
+# By the processor: what prints its instructions, and what begins a comment there.
+DISASSEMBLERS = {
+    X86_64: (["objdump", "-m", "i386:x86-64", "-M", "intel", "-w"], "[#<]"),
+    AARCH64: (["aarch64-linux-gnu-objdump", "-m", "aarch64"], "//|<"),
 }
 LINE = re.compile(r"^\s*([0-9a-f]+):\t((?:(?:[0-9a-f]{2})+ )+)\s*\t(.*)$")
 # Each text is assembled in a slot of its own, which has more bytes than an instruction, and these
@@ -45,7 +45,7 @@ def read(part, processor, operands, command, text_of, is_same):
     Those that the assembler makes otherwise have a reason why they are rejected: `text_of` gives
     what is assembled for one, and `is_same` says of one whose bytes differ that they are right."""
     (first, content), instructions = part, printed(part, processor, operands)
-    made, messages = _assembled(processor, command, [text_of(i) for i in instructions.values()])
+    made, messages = _assembled(command, map(text_of, instructions.values()))
     for number, (address, i) in enumerate(instructions.items()):
         old, new = content[address - first :][: i.size], made[SLOT * number :][:SLOT]
         if (messages[number] or new != old.ljust(SLOT, FILL)) and not is_same(i, old, new):
@@ -59,7 +59,7 @@ def read(part, processor, operands, command, text_of, is_same):
 def printed(part, processor, operands=lambda text: ()):
     """The instructions of some code, by address, as `objdump` prints them."""
     first, content = part
-    command, comment, _ = COMMANDS[processor]
+    command, comment = DISASSEMBLERS[processor]
     with tempfile.NamedTemporaryFile() as file:
         file.write(content)
         file.flush()
@@ -80,32 +80,21 @@ def printed(part, processor, operands=lambda text: ()):
     return instructions
 
 
-def _assembled(processor, command, texts):
+def _assembled(command, texts):
     """The slots with what the assembler makes of each text, and what it says of each."""
     lines = [
         f".org {SLOT * number}, {FILL[0]}; {text}\n" for number, text in enumerate([*texts, ""])
     ]
-    with tempfile.TemporaryDirectory() as folder:
+    english = os.environ | {"LC_ALL": "C"}
+    with tempfile.NamedTemporaryFile() as file:
         # With -Z there is an object in spite of errors.
-        file = pathlib.Path(folder, "again.o")
-        command = [
-            *command,
-            "-Z",
-            "-o",
-            f"{folder}/again.o",
-            "-",
-        ]
-        english = os.environ | {"LC_ALL": "C"}
+        command = [*command, "-Z", "-o", file.name, "-"]
         run = subprocess.run(
             command, input="".join(lines), capture_output=True, text=True, env=english
         )
-        if not file.exists():
+        if not file.read():
             raise OSError(f"{command[0]} fails: {run.stderr}")
-        subprocess.run(
-            [COMMANDS[processor][2], "-O", "binary", "-j", ".text", file, f"{folder}/text"],
-            check=True,
-        )
-        made = pathlib.Path(folder, "text").read_bytes()
+        made = ELFFile(file).get_section_by_name(".text").data()
     messages = collections.defaultdict(list)
     for line, words in MESSAGE.findall(run.stderr):
         messages[int(line) - 1].append(words)

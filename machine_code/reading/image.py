@@ -7,7 +7,7 @@ code.
 """
 
 import re
-from typing import NamedTuple
+from collections import namedtuple
 
 from contracts.names import FUNCTIONS
 
@@ -22,15 +22,8 @@ HEADER = {PREFIX + name for name in FUNCTIONS}
 CHOICE = re.compile(rf"{PREFIX}(kernel|\d+_\d+_\d+)_choice")
 
 
-class Part(NamedTuple):
-    """A segment or a section. It has zeros after its bytes in the file, up to its size in
-    memory."""
-
-    address: int
-    size: int
-    content: bytes
-    is_writable: bool
-    is_executable: bool
+# A segment or a section. It has zeros after its bytes in the file, up to its size in memory.
+Part = namedtuple("Part", "address size content is_writable is_executable")
 
 
 class Image:

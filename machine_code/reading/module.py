@@ -9,11 +9,12 @@ import subprocess
 from collections import namedtuple
 
 SIZES, SPACE = {"i32": 4, "i64": 8, "v128": 16}, 1 << 32
-# Local functions have no names. These are known by the sizes of their parameters and, after None,
-# of their results.
+# Functions that are not exported have no names. These are known by the sizes of their parameters and,
+# after None, of their results; and two of the same sizes by their order.
 LOCAL = {
-    (4, 4, 4, 4, 4, None): "const_hex_decoder_fail",
-    (4, 4, 4, None, 4): "const_hex_kernel_read",
+    (4, 4, 4, 4, 4, None): ["const_hex_decoder_fail"],
+    (4, 4, 4, None, 4): ["const_hex_kernel_read"],
+    (4, 4, None, 4): ["const_hex_body_skip_halves", "const_hex_kernel_check_of_module"],
 }
 # What a module may have beside functions, data, globals and exports.
 OTHERS = (")", "(module", "(type", "(memory (;0;) 1 1)")
@@ -43,19 +44,10 @@ class Module:
     def read(self, offset, count):
         return self.data[0].content[offset : offset + count]
 
-    def is_choice(self, address):
-        return False
-
     def code_at(self, address):
         """The function with an address."""
-        return next(
-            (
-                function
-                for function in self.functions
-                if function.address == address // SPACE * SPACE
-            ),
-            None,
-        )
+        first = address // SPACE * SPACE
+        return next((each for each in self.functions if each.address == first), None)
 
     def name_at(self, address):
         return f"function {address // SPACE - 1}+{address % SPACE:#x}"
@@ -70,15 +62,20 @@ def read(data):
     # Each part begins in a line with two spaces, and the instructions of a function follow.
     for part in re.split(r"\n  (?=\()", made.stdout.decode().rstrip().removesuffix(")")):
         _add(module, part if part.startswith("(data") else re.sub(r" *;;.*", "", part))
+    exported = set(module.symbols.values())
+    for sizes, names in LOCAL.items():
+        addresses = [
+            function.address
+            for function in module.functions
+            if (*function.parameters, None, *function.results) == sizes
+        ]
+        module.symbols |= zip(names, [each for each in addresses if each not in exported])
     return module
 
 
 def _add(module, part):
     if part.startswith("(func"):
-        function = _function(len(module.functions), part)
-        module.functions.append(function)
-        if name := LOCAL.get((*function.parameters, None, *function.results)):
-            module.symbols[name] = function.address
+        module.functions.append(_function(len(module.functions), part))
     elif fields := re.fullmatch(
         r'\(data \(;\d+;\) \(i32\.const (\d+)\) "((\\[0-9a-f]{2}|[^\\])*)"\)', part
     ):

@@ -23,12 +23,7 @@ def read(data):
     file = pefile.PE(data=data)
     machine = MACHINES.get(file.FILE_HEADER.Machine) if file.PE_TYPE else None
     image = Image(machine, [_part(section) for section in file.sections])
-    for block in getattr(file, "DIRECTORY_ENTRY_BASERELOC", ()):
-        for entry in block.entries:
-            if entry.type != IMAGE_REL_BASED_ABSOLUTE:
-                image.relocated |= {*range(entry.rva, entry.rva + 8)}
-    table = file.OPTIONAL_HEADER.DATA_DIRECTORY[IMAGE_DIRECTORY_ENTRY_IAT]
-    image.relocated |= {*range(table.VirtualAddress, table.VirtualAddress + table.Size)}
+    image.relocated = _relocated(file)
     for name, address in _symbols(data, file):
         image.add_symbol(name, address)
     for symbol in getattr(getattr(file, "DIRECTORY_ENTRY_EXPORT", None), "symbols", ()):
@@ -37,6 +32,17 @@ def read(data):
         for symbol in library.imports:
             image.add_imported((symbol.name or b"").decode())
     return image
+
+
+def _relocated(file):
+    """The addresses that base relocations and the import address table have."""
+    table = file.OPTIONAL_HEADER.DATA_DIRECTORY[IMAGE_DIRECTORY_ENTRY_IAT]
+    relocated = {*range(table.VirtualAddress, table.VirtualAddress + table.Size)}
+    for block in getattr(file, "DIRECTORY_ENTRY_BASERELOC", ()):
+        for entry in block.entries:
+            if entry.type != IMAGE_REL_BASED_ABSOLUTE:
+                relocated |= {*range(entry.rva, entry.rva + 8)}
+    return relocated
 
 
 def _part(section):

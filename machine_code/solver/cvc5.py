@@ -21,13 +21,13 @@ def as_text(logic, conditions):
 
 
 def disagreements(questions, limit=None):
-    """The questions, or so many of them chosen at random, to which cvc5 does not answer "unsat"."""
+    """The questions, or so many of them chosen at random, for which cvc5 does not say "unsat"."""
     if limit is not None and limit < len(questions):
         questions = random.sample(questions, limit)
     texts = [as_text(*question) for question in questions]
     command = ["cvc5", "--lang=smt2", f"--rlimit-per={LIMIT}", "-"]
     run = subprocess.run(command, input="(reset)\n".join(texts), text=True, capture_output=True)
-    answers = run.stdout.split()
-    if len(answers) != len(texts):
-        answers = [f"none: {run.stdout}{run.stderr}"] * len(texts)
-    return [(text, answer) for text, answer in zip(texts, answers) if answer != "unsat"]
+    results = run.stdout.split()
+    if len(results) != len(texts):
+        results = [f"none: {run.stdout}{run.stderr}"] * len(texts)
+    return [(text, result) for text, result in zip(texts, results) if result != "unsat"]

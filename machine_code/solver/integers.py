@@ -4,6 +4,8 @@ If a translation were wrong, what z3 says of it would say nothing of the code, a
 a wrong length could be accepted. test_questions.py compares it with bits on random terms.
 """
 
+from operator import eq, ge, gt, le, lt
+
 import z3
 
 CONNECTIVES = {
@@ -13,11 +15,11 @@ CONNECTIVES = {
     z3.Z3_OP_IMPLIES: z3.Implies,
 }
 RELATIONS = {
-    z3.Z3_OP_ULEQ: lambda a, b: a <= b,
-    z3.Z3_OP_ULT: lambda a, b: a < b,
-    z3.Z3_OP_UGT: lambda a, b: a > b,
-    z3.Z3_OP_UGEQ: lambda a, b: a >= b,
-    z3.Z3_OP_EQ: lambda a, b: a == b,
+    z3.Z3_OP_ULEQ: le,
+    z3.Z3_OP_ULT: lt,
+    z3.Z3_OP_UGT: gt,
+    z3.Z3_OP_UGEQ: ge,
+    z3.Z3_OP_EQ: eq,
 }
 NARROW = 16  # bits, up to which it is not asked whether a number needs a reduction
 
@@ -31,7 +33,6 @@ class Facts:
         self.ranges = {}
         self.sums = {}
         self._is_unsatisfiable = is_unsatisfiable
-        self.models = []  # values for which all of them hold, as far as some are known
 
     def with_fact(self, fact):
         """These facts and another one, or None if that is not linear."""
@@ -43,9 +44,6 @@ class Facts:
             other.conditions.append(other.condition(fact))
         except ValueError:
             return None
-        other.models = [
-            model for model in self.models if z3.is_true(model.eval(other.conditions[-1], True))
-        ]
         return other
 
     def condition(self, term):

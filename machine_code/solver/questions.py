@@ -1,12 +1,13 @@
 """Whether a condition follows from facts, by z3.
 
 If `is_valid` said yes where a condition does not follow, any code could be accepted. A yes is z3's
-"unsat". An answer that is "unknown", or takes more of z3's steps than the limit, is a no. Facts may
+"unsat". A result that is "unknown", or takes more of z3's steps than the limit, is a no. Facts may
 be left out, and so may be which constants these are: both only make a proof harder, or find it
 among those that were made already.
 """
 
 import itertools
+from collections import namedtuple
 
 import z3
 
@@ -43,23 +44,19 @@ def names(term):
 def _names_of(part, context):
     """By z3's functions for C, which are faster on many parts."""
     number, app = z3.Z3_get_ast_id(context, part), z3.Z3_to_app(context, part)
-    if number not in _names:
-        parts = [
-            z3.Z3_get_app_arg(context, app, index)
-            for index in range(z3.Z3_get_app_num_args(context, app))
-        ]
-        if z3.Z3_get_decl_kind(context, z3.Z3_get_app_decl(context, app)) == z3.Z3_OP_UNINTERPRETED:
-            constant = z3.BitVecRef(part)
-            name = constant.decl().name()
-            require(
-                _constants.setdefault(name, constant).sort() == constant.sort(),
-                f"two constants {name}",
-            )
-            _names[number] = (name,)
-        else:
-            _names[number] = tuple(
-                dict.fromkeys(name for each in parts for name in _names_of(each, context))
-            )
+    if number in _names:
+        return _names[number]
+    parts = [
+        _names_of(z3.Z3_get_app_arg(context, app, index), context)
+        for index in range(z3.Z3_get_app_num_args(context, app))
+    ]
+    if z3.Z3_get_decl_kind(context, z3.Z3_get_app_decl(context, app)) == z3.Z3_OP_UNINTERPRETED:
+        constant = z3.BitVecRef(part)
+        name = constant.decl().name()
+        is_same = _constants.setdefault(name, constant).sort() == constant.sort()
+        require(is_same, f"two constants {name}")
+        parts = [[name]]
+    _names[number] = tuple(dict.fromkeys(itertools.chain(*parts)))
     return _names[number]
 
 
@@ -99,15 +96,18 @@ def conjuncts(term):
     if z3.is_not(term) and z3.is_or(term.arg(0)):
         return [part for child in term.arg(0).children() for part in conjuncts(z3.Not(child))]
     if z3.is_eq(term) and z3.is_bv_value(term.arg(1)):
-        if z3.is_app_of(term.arg(0), z3.Z3_OP_ITE) and all(
-            map(z3.is_bv_value, term.arg(0).children()[1:])
-        ):
-            choice, one, other = term.arg(0).children()
-            if not one.eq(other) and (one.eq(term.arg(1)) or other.eq(term.arg(1))):
-                return conjuncts(choice if one.eq(term.arg(1)) else z3.Not(choice))
-        if term.arg(1).as_long() == 0 and len(zeros := _zeros(term.arg(0))) > 1:
-            return [part == 0 for part in zeros]
+        return _conjuncts_of_equation(term, *term.children())
     return [term]
+
+
+def _conjuncts_of_equation(term, left, right):
+    """The same where a term is the constant on the right."""
+    if z3.is_app_of(left, z3.Z3_OP_ITE):
+        choice, *values = left.children()
+        if all(map(z3.is_bv_value, values)) and values[0].eq(right) != values[1].eq(right):
+            return conjuncts(choice if values[0].eq(right) else z3.Not(choice))
+    zeros = _zeros(left) if right.as_long() == 0 else ()
+    return [part == 0 for part in zeros] if len(zeros) > 1 else [term]
 
 
 def _zeros(term):
@@ -117,17 +117,12 @@ def _zeros(term):
     return [] if z3.is_bv_value(term) and term.as_long() == 0 else [term]
 
 
-class Fact:
-    """A condition that is known, with the names of its constants."""
-
-    def __init__(self, term):
-        self.term = term
-        self.names = frozenset(names(term))
-        self.is_public = is_public(term)
+# A condition that is known, with the names of its constants.
+Fact = namedtuple("Fact", "term names is_public")
 
 
 def facts_of(condition):
-    return [Fact(part) for part in conjuncts(condition)]
+    return [Fact(part, {*names(part)}, is_public(part)) for part in conjuncts(condition)]
 
 
 def relevant(facts, goal, steps=None):
@@ -148,39 +143,37 @@ def relevant(facts, goal, steps=None):
 
 def _renamed(facts):
     """The facts with constants that are named in the order in which they occur."""
-    used = dict.fromkeys(itertools.chain(*map(names, facts)))
-    olds = [_constants[name] for name in used]
-    new = [(old, z3.Const(f"x{number}", old.sort())) for number, old in enumerate(olds)]
+    used = map(_constants.get, dict.fromkeys(itertools.chain(*map(names, facts))))
+    new = [(old, z3.Const(f"x{number}", old.sort())) for number, old in enumerate(used)]
     return [z3.simplify(z3.substitute(fact, *new)) for fact in facts]
 
 
-def _check(logic, conditions, limit, models=None):
+def _check(logic, conditions, limit):
+    """The result of a question, and the solver."""
     solver = z3.SolverFor(logic)
     solver.set("rlimit", limit)
     solver.add(*conditions)
-    answer = solver.check()
+    result = solver.check()
     counts["asked"] += 1
-    if answer == z3.unsat:
+    if result == z3.unsat:
         proved.append((logic, conditions))
-    if answer == z3.sat and models is not None:
-        models.append(solver.model())
-    return answer
+    return result, solver
 
 
 def is_unsatisfiable_in_integers(conditions):
-    return _check("QF_LIA", conditions, QUICK) == z3.unsat
+    return _check("QF_LIA", conditions, QUICK)[0] == z3.unsat
 
 
 def _memoized(question):
-    """A question whose answers are kept by the numbers of the facts. So are the facts, so that
+    """A question whose results are kept by the numbers of the facts. So are the facts, so that
     their numbers are not used again."""
-    answers = {}
+    results = {}
 
     def memoized(facts, *rest):
         key = tuple(fact.get_id() for fact in facts)
-        if key not in answers:
-            answers[key] = facts, question(facts, *rest)
-        return answers[key][1]
+        if key not in results:
+            results[key] = facts, question(facts, *rest)
+        return results[key][1]
 
     return memoized
 
@@ -206,15 +199,12 @@ def _is_unsatisfiable(facts, are_public):
     """The same of facts with new names, so that what differs by names alone is asked once. Sums of
     many bits are hard in bits and easy in integers, masks are the other way round."""
     known = _in_integers(facts) if are_public else None
-    if known and known.models:
-        return False  # What holds for some values is possible.
-    answer = z3.unknown
+    result = z3.unknown
     if known:
-        conditions = [*known.ranges.values(), *known.conditions]
-        answer = _check("QF_LIA", conditions, QUICK, _in_integers(facts[:-1]).models)
-    if answer == z3.unknown:
-        answer = _check("QF_BV", facts, LIMIT)
-    return answer == z3.unsat
+        result, _ = _check("QF_LIA", [*known.ranges.values(), *known.conditions], QUICK)
+    if result == z3.unknown:
+        result, _ = _check("QF_BV", facts, LIMIT)
+    return result == z3.unsat
 
 
 def is_valid(facts, goal, steps=None):
@@ -234,14 +224,9 @@ def values(facts, term, limit):
     """All values that a term has where the facts hold, of which there are at most so many."""
     known = []
     while not is_valid(facts, z3.Or(*[term == value for value in known])):
-        require(len(known) < limit, "an offset that may have too many values")
-        models = []
-        _check(
-            "QF_BV",
-            [*relevant(facts, term == 0), *[term != value for value in known]],
-            LIMIT,
-            models,
-        )
-        require(models, "an offset whose values are not known")
-        known.append(models[0].eval(term, True).as_long())
+        require(len(known) < limit, "a number may have too many values")
+        others = [term != value for value in known]
+        result, solver = _check("QF_BV", [*relevant(facts, term == 0), *others], LIMIT)
+        require(result == z3.sat, "the values of a number are not known")
+        known.append(solver.model().eval(term, True).as_long())
     return known

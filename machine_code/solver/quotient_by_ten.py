@@ -7,7 +7,7 @@ follow from it, a wrong digit could be accepted.
 """
 
 import functools
-from typing import NamedTuple
+from collections import namedtuple
 
 import z3
 
@@ -17,16 +17,8 @@ from solver.questions import require
 FACTOR = 0xCCCCCCCCCCCCCCCD
 
 
-class Quotient(NamedTuple):
-    """A number, its tenth with the greatest value that this has, and the bits below it in the
-    product."""
-
-    number: z3.BitVecRef
-    tenth: z3.BitVecRef
-    more: z3.BitVecRef
-    limit: int
-
-
+# A number, its tenth, the bits below that in the product, and the greatest value that the tenth has.
+Quotient = namedtuple("Quotient", "number tenth more limit")
 # By the number's own number in z3, which is not used again as long as the number is kept.
 _quotients = {}
 

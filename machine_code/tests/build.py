@@ -14,13 +14,10 @@ TOP = pathlib.Path(__file__).resolve().parents[2]
 C, RUST = TOP / "c", TOP / "rust" / "src" / "asm"
 ASM = C / "asm"
 MODULE = os.environ.get("CONST_HEX_MODULE", TOP / "js" / "src" / "const_hex.wasm")
-X86_64, AARCH64 = "cc", "aarch64-linux-gnu-gcc"
+X86_64, AARCH64 = "cc", "aarch64-linux-gnu-gcc"  # compilers
 CLANG = "clang", "--target=aarch64-linux-gnu"
+OBJECTS = tempfile.TemporaryDirectory()  # which stays until the end
 PROGRAM = b"int const_hex_version(void); int main(void) { return const_hex_version(); }"
-SOURCES = {
-    X86_64: ("dispatch", "kernel_x86_64_v2", "kernel_x86_64_v3", "functions_x86_64"),
-    AARCH64: ("dispatch", "kernel_aarch64", "functions_aarch64"),
-}
 
 
 def run(*command, folder=None, text=b""):
@@ -35,66 +32,60 @@ def run(*command, folder=None, text=b""):
         raise AssertionError(f"{command}: {error.stderr.decode()}") from None
 
 
-def assembled(text, compiler=X86_64):
-    """The bytes of the object that a source makes."""
-    with tempfile.NamedTemporaryFile() as file:
-        command = [compiler, "-c", "-x", "assembler-with-cpp", f"-I{ASM}", "-o", file.name, "-"]
-        run(*command, text=text.encode())
-        return file.read()
+def compiler_for(build):
+    return AARCH64 if build.lower().endswith("aarch64") else X86_64
 
 
 def linked(text, compiler=X86_64):
     """The bytes of the program that a source makes. A function that it calls and does not have only
     returns."""
     with tempfile.TemporaryDirectory() as folder:
-        source = pathlib.Path(folder, "source.o")
-        source.write_bytes(assembled(text, compiler))
-        undefined = re.findall(r"\bconst_hex_\w+", run("nm", "-u", source).decode())
+        assemble = [compiler, "-c", "-x", "assembler-with-cpp", f"-I{ASM}", "-o", "source.o", "-"]
+        run(*assemble, text=text.encode(), folder=folder)
+        listed = run("nm", "-u", "source.o", folder=folder).decode()
         stub = ".globl {0}\n.hidden {0}\n.type {0}, %function\n{0}: ret\n"
-        stubs = assembled("".join(map(stub.format, undefined)), compiler)
-        pathlib.Path(folder, "stubs.o").write_bytes(stubs)
+        stubs = map(stub.format, re.findall(r"\bconst_hex_\w+", listed))
+        pathlib.Path(folder, "stubs.s").write_text("".join(stubs))
         options = ["-static-pie", "-nostdlib", "-Wl,-e,0", "-Wl,--unresolved-symbols=ignore-all"]
-        run(compiler, *options, "-o", "linked", "source.o", "stubs.o", folder=folder)
-        return pathlib.Path(folder, "linked").read_bytes()
+        return made(compiler, *options, "source.o", "stubs.s", folder=folder).read_bytes()
 
 
 def linked_module(text):
     return run("wat2wasm", "-", "--output=-", text=text.encode())
 
 
-@functools.lru_cache(None)
-def objects(compiler, *command):
-    """The objects of the C library for a processor, by its compiler or by another command, in a
-    folder that stays."""
-    folder = tempfile.TemporaryDirectory()
-    sources = [str(ASM / f"{name}.S") for name in SOURCES[compiler]]
-    run(*(command or (compiler,)), "-c", *sources, folder=folder.name)
-    return folder, [f"{folder.name}/{name}.o" for name in SOURCES[compiler]]
+@functools.cache
+def objects(*compiler):
+    """The objects of the C library by a compiler. Those of kernels for other processors are
+    empty."""
+    folder = tempfile.mkdtemp(dir=OBJECTS.name)
+    sources = sorted(ASM.glob("*.S"))
+    run(*compiler, "-c", *sources, folder=folder)
+    return [f"{folder}/{source.stem}.o" for source in sources]
 
 
-def made(*command, folder, name="made"):
+def made(*command, folder):
     """The file that a command makes."""
-    run(*command, "-o", name, folder=folder)
-    return pathlib.Path(folder, name)
+    run(*command, "-o", "made.out", folder=folder)
+    return pathlib.Path(folder, "made.out")
 
 
-def shared(folder, *options, compiler=X86_64, linker=()):
+def shared(folder, *options, compiler=X86_64):
     """The shared C library."""
-    command = linker or (compiler, "-shared", "-nostdlib", "-Wl,-z,relro,-z,now")
-    return made(*command, *objects(compiler)[1], *options, folder=folder)
+    command = compiler, "-shared", "-nostdlib", "-Wl,-z,relro,-z,now"
+    return made(*command, *objects(compiler), *options, folder=folder)
 
 
-def program(folder, *options, command=(X86_64,), compiler=X86_64):
+def program(folder, *options, compiler=(X86_64,)):
     """A program with the static C library."""
     pathlib.Path(folder, "main.c").write_bytes(PROGRAM)
-    return made(*command, "main.c", *objects(compiler)[1], *options, folder=folder)
+    return made(*compiler, "main.c", *objects(*compiler), *options, folder=folder)
 
 
 def for_macos(folder, processor):
     """A dylib for macOS, by ld64.lld."""
     linkers = sorted(pathlib.Path("/usr/lib").glob("llvm-*/bin/ld64.lld"))
-    compiler = {"x86_64": X86_64, "arm64": AARCH64}[processor]
-    _, names = objects(compiler, "clang", f"--target={processor}-apple-macos11")
+    names = objects("clang", f"--target={processor}-apple-macos11")
     command = [str(linkers[-1]) if linkers else "ld64.lld", "-arch", processor, "-dylib"]
     command += ["-platform_version", "macos", "11.0", "11.0"]
     return made(*command, *names, folder=folder)
@@ -103,23 +94,21 @@ def for_macos(folder, processor):
 def for_windows(folder):
     """A DLL with the C library, by mingw."""
     mingw = "x86_64-w64-mingw32-gcc"
-    _, names = objects(X86_64, mingw)
-    return made(mingw, "-shared", C / "windows.c", *names, folder=folder, name="made.dll")
+    return made(mingw, "-shared", C / "windows.c", *objects(mingw), folder=folder)
 
 
 def for_windows_on_aarch64(folder):
     """A DLL with the C library, by lld-link."""
-    _, names = objects(AARCH64, "clang", "--target=aarch64-windows-gnu")
+    names = objects("clang", "--target=aarch64-windows-gnu")
     run("lld-link", "/dll", "/noentry", "/debug:symtab", "/out:made.dll", *names, folder=folder)
     return pathlib.Path(folder, "made.dll")
 
 
-def with_rust(folder, target, name="hexfilter", **variables):
+def with_rust(folder, target, name, *variables):
     """A program with the Rust crate for another system, by Debian's cargo."""
-    options = ["--target", target, "--target-dir", str(folder)]
-    manifest = ["--manifest-path", str(TOP / "rust" / "hexfilter" / "Cargo.toml")]
-    assigned = [f"{name}={value}" for name, value in variables.items()]
-    run("env", "PATH=/usr/bin:/bin", *assigned, "/usr/bin/cargo", "build", *manifest, *options)
+    options = ["--target", target, "--target-dir", folder]
+    manifest = ["--manifest-path", TOP / "rust" / "hexfilter" / "Cargo.toml"]
+    run("env", "PATH=/usr/bin:/bin", *variables, "/usr/bin/cargo", "build", *manifest, *options)
     return pathlib.Path(folder, target, "debug", name)
 
 
@@ -135,6 +124,7 @@ def rust_for_aarch64(folder):
     return with_rust(
         folder,
         target,
-        CARGO_ENCODED_RUSTFLAGS=f"-L{library}",
-        CARGO_TARGET_AARCH64_UNKNOWN_LINUX_GNU_LINKER=AARCH64,
+        "hexfilter",
+        f"CARGO_ENCODED_RUSTFLAGS=-L{library}",
+        f"CARGO_TARGET_AARCH64_UNKNOWN_LINUX_GNU_LINKER={AARCH64}",
     )

@@ -6,11 +6,12 @@ the first bytes of the memory, and its result, if any, goes after them. The memo
 loads, and takes what it stores.
 """
 
+import itertools
+import json
 import pathlib
 import random
 import re
 import struct
-import subprocess
 import types
 
 import z3
@@ -18,12 +19,14 @@ import z3
 from execution.code import Code
 from execution.paths import step
 from execution.terms import byte, simple, word
-from meanings import webassembly
-from meanings.webassembly import EFFECTS
+from semantics import webassembly
+from semantics.webassembly import EFFECTS
 from solver.questions import public, require, secret
-from build import MODULE, TOP, linked_module
+from build import MODULE, linked_module, run
 
+RUN = pathlib.Path(__file__).with_name("run.mjs")
 SIZE = 1024
+STATES = 24
 RESULT = 64
 SCRATCH = 256
 EDGES = bytes([0, 1, 0x7F, 0x80, 0xFF, 0x30, 0x39, 0x41, 0x66, 0x0F, 0x10])
@@ -81,7 +84,7 @@ def _function(name, text):
     )
     if ".store" in mnemonic:
         return f'(func (export "{name}") {operands} {text})'
-    type_ = "i32" if re.search("any_true|wrap_i64", mnemonic) else mnemonic.split(".")[0]
+    type_ = "i32" if "any_true" in mnemonic else mnemonic.split(".")[0]
     result = type_ if type_ in TYPES.values() else "v128"
     return f'(func (export "{name}") i32.const {RESULT} {operands} {text} {result}.store)'
 
@@ -89,22 +92,16 @@ def _function(name, text):
 def _memory(generator, is_access):
     """Random bytes, often at the edges, mostly zeros, equal operands, or near the middle of 32
     bits. An access has its address in the scratch area."""
-    content = generator.choice(
-        (
-            lambda: generator.randbytes(SIZE),
-            lambda: generator.randbytes(16) * (SIZE // 16),
-            lambda: bytes(generator.choices(EDGES, k=SIZE)),
-            lambda: bytes(generator.choices(EDGES, [2000, *range(1, 11)], k=SIZE)),
-            lambda: b"".join(
-                struct.pack("<Q", (1 << 31) + generator.randrange(-1, 2)) for _ in range(SIZE // 8)
-            ),
-        )
-    )()
-    return (
-        struct.pack("<I", SCRATCH + generator.randrange(256)) + content[4:]
-        if is_access
-        else content
-    )
+    near = [(1 << 31) + generator.randrange(-1, 2) for _ in range(SIZE // 8)]
+    kinds = [
+        generator.randbytes(SIZE),
+        generator.randbytes(16) * (SIZE // 16),
+        bytes(generator.choices(EDGES, k=SIZE)),
+        bytes(generator.choices(EDGES, [2000, *range(1, 11)], k=SIZE)),
+        struct.pack(f"<{len(near)}Q", *near),
+    ]
+    address = struct.pack("<I", SCRATCH + generator.randrange(256)) if is_access else b""
+    return address + generator.choice(kinds)[len(address) :]
 
 
 class Concrete:
@@ -112,17 +109,13 @@ class Concrete:
 
     def load(self, address, count, aligned=False):
         address = simple(address).as_long()
-        require(count & count - 1 == 0, "an access of another size")
         if count == 1 and address in UNKNOWN:
             return [UNKNOWN[address]]
         return [BYTES[value] for value in self.memory[address : address + count]]
 
     def store(self, address, data, aligned=False):
         address = simple(address).as_long()
-        require(len(data) & len(data) - 1 == 0, "an access of another size")
-        self.memory[address : address + len(data)] = bytes(
-            self.known(value).as_long() for value in data
-        )
+        self.memory[address : address + len(data)] = [self.known(value).as_long() for value in data]
 
     def known(self, term):
         term = simple(term)
@@ -143,10 +136,10 @@ class Concrete:
 
 class Node:
     """The functions for the instructions of the module that run alone, each by its text, and those
-    of FUNCTIONS; they run in Node, and by the meanings."""
+    of FUNCTIONS; they run in Node, and by the semantics."""
 
     def __init__(self):
-        code = Code(pathlib.Path(MODULE).read_bytes(), {None: webassembly}, "const_hex_encode", {})
+        code = Code(pathlib.Path(MODULE).read_bytes(), "const_hex_encode", {})
         texts = set()
         for function in code.object.functions:
             instructions = webassembly.instructions(code, function, None).values()
@@ -155,41 +148,32 @@ class Node:
         functions = " ".join(_function(name, text) for text, name in self.names.items())
         self.names |= {name: name for name in re.findall(r'export "(\w+)"', FUNCTIONS)}
         text = f'(module (memory 1 1) (global (mut i32) (i32.const {SIZE})) (export "memory" (memory 0))'
-        content = linked_module(f"{text} {FUNCTIONS} {functions})")
-        self.code = Code(content, {None: webassembly}, "call", {})
-        self.process = subprocess.Popen(
-            ["node", TOP / "machine_code" / "tests" / "run.mjs"],
-            stdin=subprocess.PIPE,
-            stdout=subprocess.PIPE,
-        )
-        self.process.stdin.write(struct.pack("<Q", len(content)) + content)
+        self.content = linked_module(f"{text} {FUNCTIONS} {functions})")
+        self.code = Code(self.content, "call", {})
 
-    def close(self):
-        self.process.communicate()
+    def differences(self):
+        """The texts of the functions after which Node and the semantics differ, on random
+        memories."""
+        runs = [
+            (text, _memory(random.Random(f"{text} {n}"), re.search(r"\.(load|store)", text)))
+            for text, n in itertools.product(self.names, range(STATES))
+        ]
+        named = [(self.names[text], before.hex()) for text, before in runs]
+        request = json.dumps({"module": self.content.hex(), "runs": named})
+        afterwards = json.loads(run("node", RUN, text=request.encode()))
+        for (text, before), after in zip(runs, afterwards):
+            if after != self._by_the_semantics(self.names[text], before).hex():
+                yield text
 
-    def differs(self, text, seed):
-        """Whether Node and the meaning differ after a run of a function on a random memory."""
-        before = _memory(random.Random(seed), re.search(r"\.(load|store)", text))
-        name = self.names[text]
-        self.process.stdin.write(struct.pack("<Q", len(name)) + name.encode() + before)
-        self.process.stdin.flush()
-        return self.process.stdout.read(SIZE) != self._by_the_meanings(name, before)
-
-    def _by_the_meanings(self, name, before):
+    def _by_the_semantics(self, name, before):
         state = type("State", (Concrete, webassembly.State), {})()
-        contract = types.SimpleNamespace(
+        state.code = self.code
+        state.contract = types.SimpleNamespace(
             returns=lambda _: None, is_alone=lambda _, offset: offset == 201, passed=()
         )
-        state.code = self.code
-        state.contract = contract
-        state.calls = {}
-        state.steps = 0
         state.before = before
         state.input = {offset: (offset, name) for offset, name in UNKNOWN.items()}
         state.memory = [*before]
-        state.vectors = {}
-        state.facts = []
-        state.is_declassified = False
         state.general = {"global 0": word(self.code.object.globals[0])}
         state.address = self.code.object.symbols[name]
         state.begin(self.code.object.code_at(state.address), [], public("return", 64))

@@ -1,7 +1,7 @@
 /*
  * Runs single instructions for processor.py. Its input is the object's size, the object as it lies in memory,
- * and requests: an instruction's place, the next one's, where its jump goes or 0, and a state. It writes the state
- * afterwards.
+ * and requests: the addresses of an instruction, of the next one, and where its jump goes, if it is one, and a state.
+ * It writes the state afterwards.
  */
 #include <stdint.h>
 #include <stdio.h>
@@ -27,16 +27,16 @@ struct state {
 };
 
 static struct {
-  uint64_t place, next, target;
+  uint64_t address, next, target;
   struct state state;
 } request;
 
 void enter(struct state *state, unsigned char *code);
 extern unsigned char back_next[], back_taken[];
 
-static void put(unsigned char *place, const unsigned char *bytes) {
-  memcpy(place, bytes, JUMP_SIZE);
-  __builtin___clear_cache((char *)place, (char *)place + JUMP_SIZE);
+static void put(unsigned char *code, const unsigned char *bytes) {
+  memcpy(code, bytes, JUMP_SIZE);
+  __builtin___clear_cache((char *)code, (char *)code + JUMP_SIZE);
 }
 
 static void put_jump(unsigned char *from, const unsigned char *to) {
@@ -52,8 +52,8 @@ static void put_jump(unsigned char *from, const unsigned char *to) {
   put(from, jump);
 }
 
-static void map(void *place, size_t size, int protection) {
-  if (mmap(place, size, protection, MAP_PRIVATE | MAP_ANONYMOUS | MAP_FIXED, -1, 0) != place)
+static void map(void *start, size_t size, int protection) {
+  if (mmap(start, size, protection, MAP_PRIVATE | MAP_ANONYMOUS | MAP_FIXED, -1, 0) != start)
     exit(1);
 }
 
@@ -71,17 +71,15 @@ int main(void) {
     unsigned char after[JUMP_SIZE], taken[JUMP_SIZE];
     memcpy(after, next, JUMP_SIZE);
     memcpy(taken, target, JUMP_SIZE);
+    put_jump(target, back_taken);
     put_jump(next, back_next);
-    if (request.target)
-      put_jump(target, back_taken);
 #ifndef __x86_64__
-    put_jump(go, TEXT + request.place);
+    put_jump(go, TEXT + request.address);
 #endif
     memcpy(SCRATCH, request.state.scratch, SCRATCH_SIZE);
-    enter(&request.state, TEXT + request.place);
+    enter(&request.state, TEXT + request.address);
     memcpy(request.state.scratch, SCRATCH, SCRATCH_SIZE);
-    if (request.target)
-      put(target, taken);
+    put(target, taken);
     put(next, after);
     if (fwrite(&request.state, sizeof request.state, 1, stdout) != 1 || fflush(stdout))
       return 1;

@@ -1,23 +1,15 @@
-// Runs functions of a module, for node.py. Standard input has the module's size and the module, and requests: the
-// length of a function's name, the name, and its memory. For each it writes the memory afterwards.
-import { readSync, writeSync } from 'node:fs';
+// Runs functions of a module, for node.py. Standard input has the module, and the names of functions, each with its
+// memory, as hexadecimal text in JSON. It prints the memories afterwards.
+import { readFileSync } from 'node:fs';
 
-function read(size) {
-    const bytes = Buffer.alloc(size);
-    for (let done = 0; done < size;) {
-        const count = readSync(0, bytes, done, size - done);
-        if (count === 0) process.exit(0);
-        done += count;
-    }
-    return bytes;
-}
-
-const readText = () => read(Number(read(8).readBigUInt64LE()));
-const { memory, ...functions } = new WebAssembly.Instance(new WebAssembly.Module(readText())).exports;
-const bytes = new Uint8Array(memory.buffer, 0, 1024);
-for (;;) {
-    const name = readText().toString();
-    bytes.set(read(bytes.length));
+const { module, runs } = JSON.parse(readFileSync(0));
+const { memory, ...functions } = new WebAssembly.Instance(
+    new WebAssembly.Module(Buffer.from(module, 'hex')),
+).exports;
+const bytes = Buffer.from(memory.buffer);
+const afterwards = runs.map(([name, before]) => {
+    bytes.write(before, 'hex');
     functions[name]();
-    writeSync(1, bytes);
-}
+    return bytes.toString('hex', 0, before.length / 2);
+});
+console.log(JSON.stringify(afterwards));

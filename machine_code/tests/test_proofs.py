@@ -4,29 +4,23 @@ processor."""
 
 import os
 import pathlib
+import re
 import subprocess
 import sys
 
 import build
 import pytest
+from test_files import HONEST
 
 PROVE = pathlib.Path(__file__).parents[1] / "prove"
 # They read constants, call each other, and are called through the dispatcher.
 CALLS = [f"--call={name}" for name in ("kernel_fill_lower", "fill_lower", "check")]
 
 
-def on_aarch64(linker):
-    how = dict(command=build.CLANG, compiler=build.AARCH64)
-    return lambda folder: build.program(folder, f"-fuse-ld={linker}", **how)
-
-
 FORMATS = {
-    "macOS on x86-64": lambda folder: build.for_macos(folder, "x86_64"),
-    "macOS on AArch64": lambda folder: build.for_macos(folder, "arm64"),
+    **{name: HONEST[name] for name in HONEST if re.match("macOS|a program for AArch64", name)},
     "Windows with the Rust crate": build.rust_for_windows,
     "AArch64 with the Rust crate": build.rust_for_aarch64,
-    "AArch64 by lld": on_aarch64("lld"),
-    "AArch64 by mold": on_aarch64("mold"),
 }
 
 

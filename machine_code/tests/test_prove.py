@@ -35,7 +35,7 @@ LEFT_OUT = "; --call has left out"
 
 
 @pytest.fixture
-def prove(tmp_path, monkeypatch, capsys):
+def prove(monkeypatch, capsys):
     """Runs `prove` where each proof succeeds but that of one function; returns whether it fails, and
     what it prints."""
     script = types.ModuleType("prove")
@@ -60,11 +60,11 @@ def prove(tmp_path, monkeypatch, capsys):
     [
         (["/dev/null"], None, "0 passed, 1 failed"),
         (["nowhere"], None, "0 passed, 1 failed"),
-        (["FILE"], None, "44 passed, 0 failed"),
-        (["FILE"], "version", "43 passed, 1 failed"),
-        (["FILE", "/dev/null"], "version", "43 passed, 2 failed"),
-        (["FILE", "--call", "version"], None, f"1 passed, 0 failed{LEFT_OUT} 43 of 44 proofs"),
-        (["FILE", "--call", "kernel_read"], None, f"3 passed, 0 failed{LEFT_OUT} 41 of 44 proofs"),
+        (["FILE"], None, "45 passed, 0 failed"),
+        (["FILE"], "version", "44 passed, 1 failed"),
+        (["FILE", "/dev/null"], "version", "44 passed, 2 failed"),
+        (["FILE", "--call", "version"], None, f"1 passed, 0 failed{LEFT_OUT} 44 of 45 proofs"),
+        (["FILE", "--call", "kernel_read"], None, f"3 passed, 0 failed{LEFT_OUT} 42 of 45 proofs"),
     ],
 )
 def test_last_line(arguments, wrong, last, prove, tmp_path):

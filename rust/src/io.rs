@@ -1,13 +1,13 @@
 //! Text from a reader, and text to a writer.
 
-use crate::{encode_to_slice, Decoder, FromHexError};
+use crate::{encode_to_slice, Decoder};
 use std::io::{BufRead, BufReader, BufWriter, Error, ErrorKind, Read, Result, Write};
 
 /// Wraps a reader of hexadecimal text, and yields the decoded bytes. Allocates a buffer for the text, which ends where
 /// the other reader first returns no bytes.
 ///
 /// A read returns the other reader's error, and may be repeated. It returns an error of the kind `InvalidData` with the
-/// [`FromHexError`] inside for an invalid character, or for an odd length at the end of the text. Each later read
+/// [`FromHexError`](crate::FromHexError) inside for an invalid character, or for an odd length at the end of the text. Each later read
 /// returns that error too. Bytes that the failing read has decoded before an invalid character are not returned.
 ///
 /// ```
@@ -24,14 +24,18 @@ use std::io::{BufRead, BufReader, BufWriter, Error, ErrorKind, Read, Result, Wri
 pub struct DecodeReader<R> {
     text: BufReader<R>,
     decoder: Decoder,
-    end: Option<core::result::Result<(), FromHexError>>,
+    /// Whether there are no more bytes. The decoder keeps an error of the text.
+    is_at_end: bool,
 }
 
 impl<R: Read> DecodeReader<R> {
     /// Returns a reader of the bytes that the text of `reader` decodes to.
     pub fn new(reader: R) -> DecodeReader<R> {
-        let (text, decoder, end) = (BufReader::new(reader), Decoder::new(), None);
-        DecodeReader { text, decoder, end }
+        DecodeReader {
+            text: BufReader::new(reader),
+            decoder: Decoder::new(),
+            is_at_end: false,
+        }
     }
 
     /// Returns the other reader. More of its text may have been read than was decoded.
@@ -43,32 +47,22 @@ impl<R: Read> DecodeReader<R> {
     pub fn into_inner(self) -> R {
         self.text.into_inner()
     }
-
-    /// Decodes what is in the buffer, after reading more if nothing is. Returns the number of bytes, and sets `end` if
-    /// there are no more.
-    fn decode_next(&mut self, output: &mut [u8]) -> Result<usize> {
-        let text = self.text.fill_buf()?;
-        if text.is_empty() {
-            self.end = Some(self.decoder.clone().finish());
-            return Ok(0);
-        }
-        // So many digits fill the output, also if another one waits for its other half.
-        let length = text.len().min(output.len().saturating_mul(2));
-        let decoded = self.decoder.decode(&text[..length], output);
-        self.text.consume(length);
-        self.end = decoded.err().map(Err);
-        Ok(decoded.unwrap_or(0))
-    }
 }
 
 impl<R: Read> Read for DecodeReader<R> {
     fn read(&mut self, output: &mut [u8]) -> Result<usize> {
         let mut count = 0;
-        while self.end.is_none() && count == 0 && !output.is_empty() {
-            count = self.decode_next(output)?;
+        while !self.is_at_end && count == 0 && !output.is_empty() {
+            let text = self.text.fill_buf()?;
+            // So many digits fill the output, also if another one waits for its other half.
+            let length = text.len().min(output.len().saturating_mul(2));
+            let decoded = self.decoder.decode(&text[..length], output);
+            self.is_at_end = text.is_empty() || decoded.is_err();
+            self.text.consume(length);
+            count = decoded.unwrap_or(0);
         }
-        match self.end {
-            Some(Err(error)) => Err(Error::new(ErrorKind::InvalidData, error)),
+        match self.decoder.clone().finish() {
+            Err(error) if self.is_at_end => Err(Error::new(ErrorKind::InvalidData, error)),
             _ => Ok(count),
         }
     }

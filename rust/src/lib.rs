@@ -81,8 +81,6 @@ pub use crate::traits::ToHexExt;
 pub use crate::traits::{FromHex, ToHex};
 
 use crate::proved::codec::body::{find_invalid_character, strip_even};
-#[cfg(feature = "alloc")]
-use crate::proved::codec::body::{invalid_first, locate_invalid};
 use crate::proved::codec::{checks, decoders};
 #[cfg(feature = "alloc")]
 use alloc::{string::String, vec::Vec};
@@ -220,26 +218,17 @@ pub fn decode<T: AsRef<[u8]>>(data: T) -> Result<Vec<u8>, FromHexError> {
     let mut bytes = Vec::new();
     match kernel::decode_append(digits, &mut bytes) {
         true => Ok(bytes),
-        false => {
-            let (c, index) = drop_and_locate(digits, bytes);
-            Err(FromHexError::InvalidHexCharacter {
-                c,
-                index: index + (text.len() - digits.len()),
-            })
-        }
+        false => Err(drop_and_find(text, bytes)),
     }
 }
 
-/// Returns the first character that is not a digit, and its index, and drops the vector for what the digits decode to.
-// A function of its own, so that less code is inlined for valid text, and no second copy of the table of digits.
+/// Drops the vector for what an invalid text decodes to, and returns the error.
+// A function of its own, so that less code is inlined for valid text.
 #[cfg(feature = "alloc")]
 #[cold]
-fn drop_and_locate(digits: &[u8], bytes: Vec<u8>) -> (char, usize) {
+fn drop_and_find(text: &[u8], bytes: Vec<u8>) -> FromHexError {
     drop(bytes);
-    match invalid_first(digits) {
-        Some(c) => (c, 0),
-        None => locate_invalid::<kernel::TargetKernel>(digits),
-    }
+    find_invalid_character::<kernel::TargetKernel>(text)
 }
 
 /// Appends the decoded bytes to a vector, and returns their number, or the errors of [`check`].
@@ -260,7 +249,7 @@ pub fn decode_append<T: AsRef<[u8]>>(data: T, output: &mut Vec<u8>) -> Result<us
     let digits = strip_even(text)?;
     match kernel::decode_append(digits, output) {
         true => Ok(digits.len() / 2),
-        false => Err(find_invalid_character::<kernel::TargetKernel>(text, digits)),
+        false => Err(find_invalid_character::<kernel::TargetKernel>(text)),
     }
 }
 
@@ -314,7 +303,7 @@ pub fn decode_to_array<T: AsRef<[u8]>, const N: usize>(input: T) -> Result<[u8; 
     }
     match kernel::Space::new().bytes(digits) {
         Some(bytes) => Ok(*bytes),
-        None => Err(find_invalid_character::<kernel::TargetKernel>(text, digits)),
+        None => Err(find_invalid_character::<kernel::TargetKernel>(text)),
     }
 }
 

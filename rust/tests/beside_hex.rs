@@ -4,50 +4,51 @@
 
 mod random;
 
-use const_hex_proved::FromHexError::{self, *};
-use const_hex_proved::{self as proved, strict};
+use const_hex_proved::{encode, encode_to_slice, encode_upper, strict};
 use random::Random;
+use std::fmt::Debug;
 
-fn as_ours(error: hex::FromHexError) -> FromHexError {
-    match error {
-        hex::FromHexError::OddLength => OddLength,
-        hex::FromHexError::InvalidStringLength => InvalidStringLength,
-        hex::FromHexError::InvalidHexCharacter { c, index } => InvalidHexCharacter { c, index },
+/// An error, whose name and fields are the same in both.
+fn shown(error: impl Debug) -> String {
+    format!("{error:?}")
+}
+
+/// What a call returns and writes to an output of a length. After an invalid character each leaves what it has decoded
+/// so far.
+fn filled<E: Debug>(
+    length: usize,
+    call: impl FnOnce(&mut [u8]) -> Result<(), E>,
+) -> (Result<(), String>, Vec<u8>) {
+    let mut output = vec![0xEE; length];
+    let result = call(&mut output).map_err(shown);
+    if matches!(&result, Err(error) if error.starts_with("InvalidHexCharacter")) {
+        output.clear();
     }
+    (result, output)
 }
 
 #[test]
-fn encoding() {
+fn random_inputs() {
     let mut random = Random(88172645463325252);
     for _ in 0..20_000 {
-        let bytes = random.bytes();
-        assert_eq!(proved::encode(&bytes), hex::encode(&bytes));
-        assert_eq!(proved::encode_upper(&bytes), hex::encode_upper(&bytes));
-        let text = hex::ToHex::encode_hex_upper::<Vec<char>>(&bytes);
-        assert_eq!(proved::ToHex::encode_hex_upper::<Vec<char>>(&bytes), text);
+        let (bytes, text) = (&random.bytes(), &random.text());
+        assert_eq!(encode(bytes), hex::encode(bytes));
+        assert_eq!(encode_upper(bytes), hex::encode_upper(bytes));
         for length in [2 * bytes.len(), random.below(900)] {
-            let (mut ours, mut theirs) = (vec![0xEE; length], vec![0xEE; length]);
-            let wanted = hex::encode_to_slice(&bytes, &mut theirs).map_err(as_ours);
-            assert_eq!(proved::encode_to_slice(&bytes, &mut ours), wanted);
-            assert_eq!(ours, theirs);
+            assert_eq!(
+                filled(length, |output| encode_to_slice(bytes, output)),
+                filled(length, |output| hex::encode_to_slice(bytes, output))
+            );
         }
-    }
-}
-
-/// After an invalid character each leaves what it has decoded so far.
-#[test]
-fn decoding() {
-    let mut random = Random(88172645463325252);
-    for _ in 0..20_000 {
-        let text = random.text();
-        assert_eq!(strict::decode(&text), hex::decode(&text).map_err(as_ours));
+        assert_eq!(
+            strict::decode(text).map_err(shown),
+            hex::decode(text).map_err(shown)
+        );
         for length in [text.len() / 2, random.below(200)] {
-            let (mut ours, mut theirs) = (vec![0xEE; length], vec![0xEE; length]);
-            let wanted = hex::decode_to_slice(&text, &mut theirs).map_err(as_ours);
-            assert_eq!(strict::decode_to_slice(&text, &mut ours), wanted);
-            if !matches!(wanted, Err(InvalidHexCharacter { .. })) {
-                assert_eq!(ours, theirs);
-            }
+            assert_eq!(
+                filled(length, |output| strict::decode_to_slice(text, output)),
+                filled(length, |output| hex::decode_to_slice(text, output))
+            );
         }
     }
 }

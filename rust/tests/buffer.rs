@@ -39,48 +39,23 @@ fn views() {
         *buffer.as_mut_ptr().add(2) = b'3';
     }
     assert_eq!(format!("{buffer:?}"), r#"Buffer("123F80FF")"#);
-    assert_eq!(Buffer::<0, true>::new().as_str(), "0x");
-    assert_eq!(Buffer::<0>::new().as_bytes(), b"");
 }
 
-#[test]
-fn standard_traits() {
-    let mut buffer = Buffer::<2, true>::new().const_format(&[0xAB, 0xCD]);
-    let (lower, text) = (buffer, "0xabcd");
-    assert_eq!(buffer.as_bytes(), text.as_bytes());
-    assert_eq!(
-        format!("{buffer}|{buffer:>8}|{buffer:-<7}"),
-        "0xabcd|  0xabcd|0xabcd-"
-    );
-    assert_eq!(buffer, lower);
-    // Each character counts, that of the prefix too.
-    for position in 1..text.len() {
-        buffer.as_mut_str()[position..=position].make_ascii_uppercase();
-        assert_ne!(buffer, lower, "{position}");
-        buffer = lower;
-    }
-}
-
-/// A slice of another length panics, and leaves the buffer as it was.
+/// A slice or an array of another length panics, and leaves the buffer as it was.
 #[cfg(panic = "unwind")]
 #[test]
-fn a_slice_of_another_length() {
+fn other_lengths() {
+    fn panics(call: impl FnOnce() -> usize) {
+        assert!(catch_unwind(AssertUnwindSafe(call)).is_err());
+    }
     let mut buffer = Buffer::<4, true>::new();
     buffer.format(&BYTES);
     buffer.as_mut_str().make_ascii_uppercase();
     for slice in ["", "kiw", "kiwis"] {
-        let lower = AssertUnwindSafe(|| buffer.format_slice(slice).len());
-        assert!(catch_unwind(lower).is_err());
-        let upper = AssertUnwindSafe(|| buffer.format_slice_upper(slice).len());
-        assert!(catch_unwind(upper).is_err());
-        assert_eq!(buffer.as_str(), "0X007F80FF");
+        panics(|| buffer.format_slice(slice).len());
+        panics(|| buffer.format_slice_upper(slice).len());
     }
-}
-
-#[cfg(panic = "unwind")]
-#[test]
-fn an_array_of_another_length() {
-    let buffer = Buffer::<4, true>::new();
-    assert!(catch_unwind(|| buffer.as_byte_array::<8>().len()).is_err());
-    assert!(catch_unwind(|| buffer.as_byte_array::<12>().len()).is_err());
+    panics(|| buffer.as_byte_array::<8>().len());
+    panics(|| buffer.as_byte_array::<12>().len());
+    assert_eq!(buffer.as_str(), "0X007F80FF");
 }

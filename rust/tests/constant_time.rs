@@ -5,7 +5,7 @@
 
 mod valgrind;
 
-use const_hex_proved::{self as hex, secret};
+use const_hex_proved::{const_check, secret};
 use std::collections::BTreeSet;
 use std::process::Command;
 use valgrind::{black_box, request};
@@ -30,8 +30,8 @@ struct Data {
     output: Vec<u8>,
 }
 
-/// A call by its text, and what is found in it with machine code and with portable code.
-type Row = (&'static str, [Found; 2], fn(&mut Data));
+/// A call by its text, and what is found in it.
+type Row = (&'static str, Found, fn(&mut Data));
 
 /// Rows of calls, whose results are kept.
 macro_rules! rows {
@@ -40,52 +40,23 @@ macro_rules! rows {
     };
 }
 
-const SECRET: [Row; 6] = rows! { data:
-    secret::encode(&data.bytes) => [Nothing; 2];
-    secret::encode_upper(&data.bytes) => [Nothing; 2];
-    secret::encode_to_slice(&data.bytes, &mut data.output) => [Nothing; 2];
-    secret::encode_to_slice_upper(&data.bytes, &mut data.output) => [Nothing; 2];
-    secret::decode_to_slice(&data.text, &mut data.output[..data.bytes.len()]) => [Validity; 2];
+const ROWS: [Row; 7] = rows! { data:
+    secret::encode(&data.bytes) => Nothing;
+    secret::encode_upper(&data.bytes) => Nothing;
+    secret::encode_to_slice(&data.bytes, &mut data.output) => Nothing;
+    secret::encode_to_slice_upper(&data.bytes, &mut data.output) => Nothing;
+    secret::decode_to_slice(&data.text, &mut data.output[..data.bytes.len()]) => Validity;
     // For the last length alone. For the others the lengths differ.
-    secret::decode_to_array::<_, MAX_LENGTH>(&data.text) => [Validity; 2];
-};
-
-/// The other functions. docs/CONSTANT_TIME.md names what is found here.
-const PUBLIC: [Row; 12] = rows! { data:
-    hex::encode(&data.bytes) => [Nothing, Addresses];
-    hex::encode_to_slice(&data.bytes, &mut data.output) => [Nothing, Addresses];
-    hex::display(&data.bytes).to_string() => [Nothing, Addresses];
-    hex::ToHexExt::encode_hex(&data.bytes) => [Nothing, Addresses];
-    hex::check_raw(&data.text) => [Validity, Addresses];
-    // They test for a prefix.
-    hex::check(&data.text) => [Jumps, Addresses];
-    hex::decode(&data.text) => [Jumps, Addresses];
-    hex::strict::decode(&data.text) => [Jumps, Addresses];
-    hex::Decoder::new().decode(&data.text, &mut data.output) => [Jumps, Addresses];
-    // They look digits up in a table.
-    hex::ToHex::encode_hex::<String>(&data.bytes) => [Addresses; 2];
-    hex::const_check(&data.text) => [Addresses; 2];
-    hex::const_decode_to_array::<MAX_LENGTH>(&data.text) => [Addresses; 2];
+    secret::decode_to_array::<_, MAX_LENGTH>(&data.text) => Validity;
+    // A table, which this test has to find.
+    const_check(&data.text) => Addresses;
 };
 
 #[test]
 fn secrets() {
-    compare(&SECRET);
-}
-
-#[test]
-fn public_calls() {
-    compare(&PUBLIC);
-}
-
-fn compare(rows: &[Row]) {
-    for (name, wanted, _) in rows {
+    for (name, wanted, _) in ROWS {
         let (found, locations) = found_in(name);
-        assert_eq!(
-            found,
-            wanted[usize::from(cfg!(feature = "force-generic"))],
-            "{name}: {locations:#?}"
-        );
+        assert_eq!(found, wanted, "{name}: {locations:#?}");
     }
 }
 
@@ -93,18 +64,15 @@ fn compare(rows: &[Row]) {
 #[test]
 fn call() {
     let name = std::env::var("CONST_HEX_CALL").unwrap_or_default();
-    let mut rows = SECRET.iter().chain(&PUBLIC);
-    if let Some((_, _, call)) = rows.find(|row| row.0 == name) {
+    if let Some((_, _, call)) = ROWS.iter().find(|row| row.0 == name) {
         for length in 0..=MAX_LENGTH {
             let bytes: Vec<u8> = (0..length).map(|at| (at * 73 + length) as u8).collect();
-            let text = bytes
-                .iter()
-                .flat_map(|byte| format!("{byte:02x}").into_bytes())
-                .collect();
+            let text = secret::encode(&bytes).into_bytes();
+            let output = vec![0; 2 * length];
             let mut data = Data {
                 bytes,
                 text,
-                output: vec![0; 2 * length],
+                output,
             };
             make_undefined(&data.bytes);
             make_undefined(&data.text);

@@ -82,12 +82,11 @@ fn calls() {
     let cells = cells();
     if env::var_os("CONST_HEX_CALLS").is_some() {
         for (call, bytes, _) in cells {
-            valgrind::repeat(bytes, |times| make(call, bytes, times));
+            valgrind::repeat(|times| make(call, bytes, times));
         }
         return;
     }
-    let lengths: Vec<usize> = cells.iter().map(|(_, bytes, _)| *bytes).collect();
-    let counted = valgrind::instructions(&lengths, |program| {
+    let counted = valgrind::instructions(cells.len(), |program| {
         program
             .args(["--exact", "calls", "--nocapture"])
             .env("CONST_HEX_CALLS", "1");

@@ -1,7 +1,7 @@
 //! `DecodeReader` and `EncodeWriter` beside readers and writers that are slow, or fail.
 #![cfg(feature = "std")]
 
-use const_hex_proved::{DecodeReader, EncodeWriter, FromHexError};
+use const_hex_proved::{encode, DecodeReader, EncodeWriter, FromHexError};
 use std::io::{self, ErrorKind, Read, Write};
 
 const fn invalid(c: char, index: usize) -> FromHexError {
@@ -11,7 +11,7 @@ const fn invalid(c: char, index: usize) -> FromHexError {
 /// Bytes of which none is like its neighbour, and their text.
 fn bytes_and_text(count: usize) -> (Vec<u8>, String) {
     let bytes: Vec<u8> = (0..count).map(|at| (at * 73) as u8).collect();
-    let text = bytes.iter().map(|byte| format!("{byte:02x}")).collect();
+    let text = encode(&bytes);
     (bytes, text)
 }
 
@@ -83,42 +83,30 @@ fn readers_of_any_speed() {
     }
 }
 
-/// The `FromHexError` inside an error of a reader.
-fn inside(error: io::Error) -> FromHexError {
-    assert_eq!(error.kind(), ErrorKind::InvalidData);
-    *error.into_inner().unwrap().downcast().unwrap()
-}
-
-/// A reader keeps its error, also if it is asked for no bytes, or the other reader has more. A position counts from the
-/// start of the text.
+/// A reader keeps how its text ended, also if it is asked for no bytes, or the other reader has more. A position counts
+/// from the start of the text.
 #[test]
-fn errors_of_the_text() {
+fn ends_of_the_text() {
     let long = "0".repeat(20_000) + "0x";
-    for (text, error) in [
-        ("6b0x77", invalid('x', 3)),
-        ("6b6", FromHexError::OddLength),
-        ("6b69\n", invalid('\n', 4)),
-        (&long, invalid('x', 20_001)),
+    for (text, end) in [
+        ("6b69", Ok(())),
+        ("6b0x77", Err(invalid('x', 3))),
+        ("6b6", Err(FromHexError::OddLength)),
+        ("6b69\n", Err(invalid('\n', 4))),
+        (&long, Err(invalid('x', 20_001))),
     ] {
-        let chunks = vec![text.as_bytes(), b"", b"77"];
-        let mut reader = DecodeReader::new(Chunks(chunks));
-        let found = reader.read_to_end(&mut Vec::new()).unwrap_err();
-        assert_eq!(inside(found), error);
-        for length in [9, 0, 1] {
-            let found = reader.read(&mut vec![0; length]).unwrap_err();
-            assert_eq!(inside(found), error);
+        let mut reader = DecodeReader::new(Chunks(vec![text.as_bytes(), b"", b"77"]));
+        let first = reader.read_to_end(&mut Vec::new()).map(drop);
+        let later = [9, 0, 1].map(|length| reader.read(&mut vec![0; length]));
+        let later = later.map(|read| read.map(|count| assert_eq!(count, 0)));
+        for found in later.into_iter().chain([first]) {
+            let found: Result<(), FromHexError> = found.map_err(|error| {
+                assert_eq!(error.kind(), ErrorKind::InvalidData);
+                *error.into_inner().unwrap().downcast().unwrap()
+            });
+            assert_eq!(found, end);
         }
     }
-}
-
-/// After its end a text has nothing more, even if the other reader has.
-#[test]
-fn the_end_of_a_text() {
-    let mut reader = DecodeReader::new(Chunks(vec![b"6b69", b"", b"77"]));
-    let mut found = Vec::new();
-    assert_eq!(reader.read_to_end(&mut found).unwrap(), 2);
-    assert_eq!(reader.read(&mut [0; 9]).unwrap(), 0);
-    assert_eq!(found, b"ki");
 }
 
 /// An error of the other reader is returned once, and reading goes on.
@@ -170,15 +158,6 @@ fn writers_of_any_speed() {
     }
 }
 
-#[test]
-fn a_writer_that_takes_nothing() {
-    let mut writer = EncodeWriter::new(Slow::new(Vec::new(), 0, &[]));
-    assert_eq!(writer.write(&[]).unwrap(), 0);
-    writer.write_all(b"kiwi").unwrap();
-    assert_eq!(writer.flush().unwrap_err().kind(), ErrorKind::WriteZero);
-    assert_eq!(writer.finish().err().unwrap().kind(), ErrorKind::WriteZero);
-}
-
 /// The other reader has the rest of its text, and the other writer, which may have a buffer, what was flushed.
 #[test]
 fn the_other_reader_and_writer() {
@@ -197,14 +176,6 @@ fn the_other_reader_and_writer() {
     let other = writer.into_inner();
     assert_eq!((&other.inner[..], other.flushes), (&b"6b69"[..], 1));
     assert_eq!(EncodeWriter::new(other).finish().unwrap().flushes, 2);
-}
-
-/// What waits is written when a writer is dropped.
-#[test]
-fn a_writer_that_is_dropped() {
-    let mut text = Vec::new();
-    EncodeWriter::new(&mut text).write_all(b"kiwi").unwrap();
-    assert_eq!(text, b"6b697769");
 }
 
 /// Reads these chunks, each by one call. After an empty one, which is the end of a text, there may be more.

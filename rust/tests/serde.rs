@@ -13,10 +13,6 @@ struct Fields {
     option: Option<[u8; 2]>,
     #[serde(with = "const_hex_proved::serde::vec")]
     vec: Vec<Vec<u8>>,
-    #[serde(with = "const_hex_proved::serde::no_prefix::option")]
-    bare_option: Option<Vec<u8>>,
-    #[serde(with = "const_hex_proved::serde::no_prefix::vec")]
-    bare_vec: Vec<[u8; 1]>,
     #[serde(with = "const_hex_proved::serde::strict")]
     strict: Vec<u8>,
     #[serde(with = "const_hex_proved::serde::strict::option")]
@@ -27,20 +23,17 @@ struct Fields {
 
 #[test]
 fn all_forms() {
-    let text = r#"{"option":"0xdead","vec":["0x6b69","0x"],"bare_option":"6b","bare_vec":["6b","69"],"strict":"6b","strict_option":"69","strict_vec":["6b","6977"]}"#;
+    let text = r#"{"option":"0xdead","vec":["0x6b69","0x"],"strict":"6b","strict_option":"69","strict_vec":["6b","6977"]}"#;
     let fields = Fields {
         option: Some([0xDE, 0xAD]),
         vec: vec![b"ki".to_vec(), Vec::new()],
-        bare_option: Some(b"k".to_vec()),
-        bare_vec: vec![*b"k", *b"i"],
         strict: b"k".to_vec(),
         strict_option: Some(*b"i"),
         strict_vec: vec![b"k"[..].into(), b"iw"[..].into()],
     };
     assert_eq!(serde_json::to_string(&fields).unwrap(), text);
     // A prefix may be there or not.
-    let other = text.replace("0xdead", "DEAD");
-    for text in [text, &other.replace(r#"n":"6b"#, r#"n":"0X6B"#)] {
+    for text in [text, &text.replace("0xdead", "DEAD")] {
         assert_eq!(serde_json::from_str::<Fields>(text).unwrap(), fields);
     }
 }
@@ -49,7 +42,8 @@ fn all_forms() {
 #[test]
 fn empty_fields() {
     let empty = serde_json::to_string(&Fields::default()).unwrap();
-    assert!(empty.ends_with(r#""option":null,"vec":[],"bare_option":null,"bare_vec":[],"strict":"","strict_option":null,"strict_vec":[]}"#));
+    assert!(empty
+        .ends_with(r#""option":null,"vec":[],"strict":"","strict_option":null,"strict_vec":[]}"#));
     for text in ["{}", &empty] {
         let found = serde_json::from_str::<Fields>(text).unwrap();
         assert_eq!(found, Fields::default());
@@ -71,10 +65,6 @@ fn errors_in_options_and_vectors() {
             "invalid character 'g' at position 1",
         ),
         (r#""vec":["6b",null]"#, no_text),
-        (
-            r#""vec":"6b""#,
-            r#"invalid type: string "6b", expected a sequence"#,
-        ),
         (r#""strict":"0x6b""#, x_at_1),
         (r#""strict_option":"0x""#, x_at_1),
         (r#""strict_vec":["","0x6b"]"#, x_at_1),
@@ -122,8 +112,4 @@ impl<'de> Deserializer<'de> for Untagged {
 #[test]
 fn a_format_without_types() {
     assert_eq!(hexadecimal::deserialize(Untagged("6b69")), Ok(*b"ki"));
-    assert_eq!(
-        hexadecimal::no_prefix::deserialize(Untagged("0x6b")),
-        Ok(*b"k")
-    );
 }

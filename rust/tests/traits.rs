@@ -20,46 +20,29 @@ fn printing_with_a_width() {
     assert_eq!(format!("{:>20}", display(BYTES)), TEXT);
 }
 
-/// A writer with space for so many characters, and the lengths of the calls, none of which follows one that has failed.
-struct Space(Option<usize>, Vec<usize>);
+/// A writer with space for so many characters. No call follows one that has failed.
+struct Space(Option<usize>);
 
 impl Write for Space {
     fn write_str(&mut self, text: &str) -> std::fmt::Result {
-        self.1.push(text.len());
         self.0 = self.0.expect("no call has failed").checked_sub(text.len());
         self.0.map(drop).ok_or(std::fmt::Error)
     }
 }
 
-/// Each call of the formatter's writer but the last writes 4096 characters. Without bytes there is none.
+/// Printing stops at an error of the writer, which is returned.
 #[test]
-fn calls_of_a_formatter() {
+fn errors_of_a_writer() {
     for length in [0, 1, 128, 512, 2047, 2048, 2049, 4095, 4096, 40_000] {
-        for prefix in [0, 2] {
-            let text = "0".repeat(2 * length + prefix);
-            let calls: Vec<usize> = text.as_bytes().chunks(4096).map(<[u8]>::len).collect();
-            for space in [0, 4095, 4096, 32_768, 79_999, text.len()] {
-                let mut writer = Space(Some(space), Vec::new());
-                let printed = match prefix {
-                    0 => write!(writer, "{}", display(vec![0; length])),
-                    _ => write!(writer, "{:#}", display(vec![0; length])),
-                };
-                let count = calls.len().min(space / 4096 + 1);
-                assert_eq!(
-                    (printed.is_ok(), &writer.1[..]),
-                    (space >= text.len(), &calls[..count])
-                );
-            }
+        for space in [0, 4095, 4096, 32_768, 79_999, 2 * length + 2] {
+            let printed = write!(Space(Some(space)), "{:#}", display(vec![0; length]));
+            assert_eq!(printed.is_ok(), space >= 2 * length + 2);
         }
     }
 }
 
 #[test]
 fn collections_of_characters() {
-    assert_eq!(
-        BYTES.encode_hex::<Vec<char>>(),
-        TEXT.chars().collect::<Vec<_>>()
-    );
     assert_eq!(BYTES.encode_hex::<std::borrow::Cow<'_, str>>(), TEXT);
     // types without a size
     assert_eq!(<[u8]>::encode_hex::<String>(&BYTES), TEXT);
@@ -68,30 +51,14 @@ fn collections_of_characters() {
     assert_eq!(bytes.encode_hex::<String>(), TEXT);
 }
 
-/// A collection may ask for some characters one by one, and for the others at once.
+/// The digits of one to three bytes, of few and of more have code of their own, and so do those of many without `alloc`.
 #[test]
-fn characters_one_by_one() {
-    struct Split<const FIRST: usize>(String);
-    impl<const FIRST: usize> FromIterator<char> for Split<FIRST> {
-        fn from_iter<I: IntoIterator<Item = char>>(characters: I) -> Self {
-            let mut characters = characters.into_iter();
-            let (least, most) = characters.size_hint();
-            let mut text: String = characters.by_ref().take(FIRST).collect();
-            text.extend(characters);
-            // Of the digits of one byte the number is not known.
-            if text.len() != 2 {
-                assert_eq!((least, most), (text.len(), Some(text.len())));
-            }
-            Split(text)
-        }
-    }
+fn numbers_of_characters() {
     let bytes: Vec<u8> = (0..2050).map(|index| index as u8).collect();
     for length in (0..100).chain(2046..2051) {
-        let text = display(&bytes[..length]).to_string();
-        assert_eq!(bytes[..length].encode_hex::<Split<0>>().0, text);
-        assert_eq!(bytes[..length].encode_hex::<Split<1>>().0, text);
-        assert_eq!(bytes[..length].encode_hex::<Split<64>>().0, text);
-        assert_eq!(bytes[..length].encode_hex::<Split<67>>().0, text);
+        let bytes = &bytes[..length];
+        let characters = bytes.encode_hex::<Vec<char>>();
+        assert_eq!(String::from_iter(characters), display(bytes).to_string());
     }
 }
 

@@ -3,7 +3,7 @@ pub use Rattle.const_hex_arch.specs.Outputs.{HasSpace}
 pub use Rattle.const_hex_arch.specs.Sinks.{Offers, Streams, ReportsCut, reported_after, Cut}
 pub use Rattle.const_hex_arch.specs.Texts.{AllDigits, FirstBad, IsDigit, value_or_nil, hex_value, Spells, hex_digit, Partial, full_text, text_length, prefix_of}
 unfoldable pub use Rattle.const_hex_arch.specs.Texts.{hex_text}
-pub use Rattle.const_hex.specs.Buffers.{EndsEncoded, blank_text, buffer_text, EndsHolding}
+pub use Rattle.const_hex.specs.Buffers.{blank_text, buffer_text}
 pub use Rattle.const_hex.specs.Decoding.{counted, position_of, HasRead, NamesCounted, error_of, waiting_digit, zero_decoder, ChecksChunk, DecodesChunk, ReadsOn, ChecksOn}
 pub use Rattle.const_hex.specs.Messages.{shown, message_text, message_of}
 pub use Rattle.const_hex.specs.Results.{body_of, IsOdd, Reads, lowered, ReadsSized, Checks, ChecksText, IsEven, is_text_of, AreBytes, Decodes, DecodesToArray, all_digits, DecodesToSlice, DecodesToFront, EncodesToSlice, Encodes, ReadsWithin, LeavesOutput}

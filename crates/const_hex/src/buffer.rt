@@ -2,7 +2,9 @@
 
 ghost use Rattle.std.specs.Prelude.{◌≡◌, length, true, false, IfOk, string_bytes};
 ghost use Rattle.std.specs.Borrow.{sem};
-ghost use Rattle.const_hex.specs.Prelude.{full_text, text_length, blank_text, buffer_text, EndsHolding};
+ghost use Rattle.std.specs.Io.BufRead.{Rests};
+ghost use Rattle.const_hex.specs.contracts.buffer.Buffer.{the_row};
+ghost use Rattle.const_hex.specs.Prelude.{full_text, text_length, blank_text, buffer_text};
 
 mod ascii;
 
@@ -133,8 +135,8 @@ impl<const N: usize, const PREFIX: bool, const LEN: usize> Buffer<N, PREFIX, LEN
         requires fits { LEN ≡ text_length PREFIX N }
         requires size { length input.now ≡ N }
         ensures lends { result.text.now ≡ full_text PREFIX upper input.now }
-        ensures* after { sem 𝓛 (EndsHolding N.row PREFIX.row LEN.row self.entry
-            (full_text PREFIX upper input.now)) }
+        ensures* after { sem 𝓛 (Rests (the_row N.row PREFIX.row LEN.row) self.entry
+            (λ b. buffer_text b ≡ full_text PREFIX upper input.now)) }
     {
         self.text.fill(input, PREFIX, upper);
         Lent {
@@ -148,8 +150,8 @@ impl<const N: usize, const PREFIX: bool, const LEN: usize> Buffer<N, PREFIX, LEN
     fn write_array(&mut self, input: &[u8; N], upper: bool) -> Lent<'_>
         requires { LEN ≡ text_length PREFIX N }
         ensures lends { result.text.now ≡ full_text PREFIX upper input.now }
-        ensures* after { sem 𝓛 (EndsHolding N.row PREFIX.row LEN.row self.entry
-            (full_text PREFIX upper input.now)) }
+        ensures* after { sem 𝓛 (Rests (the_row N.row PREFIX.row LEN.row) self.entry
+            (λ b. buffer_text b ≡ full_text PREFIX upper input.now)) }
     {
         self.write_text(input, upper)
     }
@@ -166,8 +168,8 @@ impl<const N: usize, const PREFIX: bool, const LEN: usize> Buffer<N, PREFIX, LEN
     pub fn format(&mut self, input: &[u8; N]) -> &str
         requires { LEN ≡ text_length PREFIX N }
         ensures lends { result.now ≡ full_text PREFIX false input.now }
-        ensures* after { sem 𝓛 (EndsHolding N.row PREFIX.row LEN.row self.entry
-            (full_text PREFIX false input.now)) }
+        ensures* after { sem 𝓛 (Rests (the_row N.row PREFIX.row LEN.row) self.entry
+            (λ b. buffer_text b ≡ full_text PREFIX false input.now)) }
     {
         self.write_array(input, false).text
     }
@@ -182,8 +184,8 @@ impl<const N: usize, const PREFIX: bool, const LEN: usize> Buffer<N, PREFIX, LEN
     pub fn format_upper(&mut self, input: &[u8; N]) -> &str
         requires { LEN ≡ text_length PREFIX N }
         ensures lends { result.now ≡ full_text PREFIX true input.now }
-        ensures* after { sem 𝓛 (EndsHolding N.row PREFIX.row LEN.row self.entry
-            (full_text PREFIX true input.now)) }
+        ensures* after { sem 𝓛 (Rests (the_row N.row PREFIX.row LEN.row) self.entry
+            (λ b. buffer_text b ≡ full_text PREFIX true input.now)) }
     {
         self.write_array(input, true).text
     }
@@ -199,8 +201,8 @@ impl<const N: usize, const PREFIX: bool, const LEN: usize> Buffer<N, PREFIX, LEN
         requires fits { LEN ≡ text_length PREFIX N }
         requires size { length input.now ≡ N }
         ensures lends { result.now ≡ full_text PREFIX false input.now }
-        ensures* after { sem 𝓛 (EndsHolding N.row PREFIX.row LEN.row self.entry
-            (full_text PREFIX false input.now)) }
+        ensures* after { sem 𝓛 (Rests (the_row N.row PREFIX.row LEN.row) self.entry
+            (λ b. buffer_text b ≡ full_text PREFIX false input.now)) }
     {
         self.write_text(input, false).text
     }
@@ -216,8 +218,8 @@ impl<const N: usize, const PREFIX: bool, const LEN: usize> Buffer<N, PREFIX, LEN
         requires fits { LEN ≡ text_length PREFIX N }
         requires size { length input.now ≡ N }
         ensures lends { result.now ≡ full_text PREFIX true input.now }
-        ensures* after { sem 𝓛 (EndsHolding N.row PREFIX.row LEN.row self.entry
-            (full_text PREFIX true input.now)) }
+        ensures* after { sem 𝓛 (Rests (the_row N.row PREFIX.row LEN.row) self.entry
+            (λ b. buffer_text b ≡ full_text PREFIX true input.now)) }
     {
         self.write_text(input, true).text
     }

@@ -147,7 +147,7 @@ fn decode_owned<K: Kernel>(alloc: Global, input: &[u8]) -> Result<Vec<u8>, FromH
     let digits = strip_even(input)?;
     let mut bytes = vec![in alloc; 0u8; digits.len() / 2]?;
     if !K::decode_all(digits, &mut bytes) {
-        return Err(find_invalid_character::<K>(input, digits));
+        return Err(find_invalid_character::<K>(input));
     }
     Ok(bytes)
 }

@@ -1,6 +1,6 @@
 //! Kernels, which encode bytes as digits and decode digits to bytes.
 
-ghost use Rattle.std.specs.Prelude.{◌≡◌, Bool, ◌*◌, ◌≤◌, ◌↔◌, IsTrue, true, false, length, take, IsAscii};
+ghost use Rattle.std.specs.Prelude.{◌≡◌, Bool, ◌*◌, ◌↔◌, IsTrue, true, false, length, IsAscii};
 ghost use Rattle.const_hex_arch.specs.{HasSpace, IsKernelPiece, Writes, hex_text, AllDigits, Spells, Partial};
 
 pub mod by_length;
@@ -24,7 +24,7 @@ use crate::output::Output;
 /// ```
 pub type FixedKernel = Lanes32;
 
-/// Writes a piece of text. If `single` is true, it has two bytes, which are written one by one.
+/// Writes a piece of text, by one call, or, if `single` is true, its two bytes by a call each.
 #[inline(always)]
 fn write_piece<O: Output>(piece: &[u8], single: bool, output: &mut O)
     requires ascii { IsAscii piece.now }
@@ -62,9 +62,9 @@ pub trait Kernel {
     /// their output unchanged.
     const USE_CHECK_FN: bool;
 
-    /// How many bytes of text each piece of [`encode`](Kernel::encode) has, except the last: 1, or an even number up to
-    /// 64. Of another number, the next smaller one of these counts, and 1 for 0. A kernel with an `encode` of its own may
-    /// write other pieces.
+    /// How many bytes of text [`encode`](Kernel::encode) passes to its output at once: 1 if the kernel works byte by byte,
+    /// and otherwise an even number up to 64. Other numbers are rounded down to one of these, and 0 counts as 1. A kernel
+    /// with an `encode` of its own may write other pieces.
     const PIECE: usize;
 
     /// Fills the output with two digits for each byte, in order. The output must have exactly the
@@ -113,31 +113,6 @@ pub trait Kernel {
     fn check(input: &[u8]) -> bool
         ensures { IsTrue result ↔ AllDigits input.now };
 
-    /// Where a search for the first byte that is not a digit may begin: all bytes before are digits. While more than 32
-    /// bytes are left, the kernel checks the first half of them. If that has only digits, the other half is left, and
-    /// else the first one.
-    ///
-    /// ```rust
-    /// assert!(rt; FixedKernel::skip_digits(b"6b69z") <= 4);
-    /// ```
-    #[inline(always)]
-    fn skip_digits(text: &[u8]) -> usize
-        ensures digits { AllDigits (take result text.now) }
-        ensures within { result ≤ length text.now }
-    {
-        let mut start = 0;
-        let mut end = text.len();
-        'halves: while end - start > 32 {
-            let middle = start + (end - start) / 2;
-            if Self::check(&text[start..middle]) {
-                start = middle;
-            } else {
-                end = middle;
-            }
-        }
-        start
-    }
-
     /// Decodes the input into the output and returns true. Returns false if some byte is not a
     /// digit. Then some of the pairs before that byte may have been decoded to the front of the
     /// output, and the rest of the output is unchanged. If the kernel checks first, all of the
@@ -151,7 +126,7 @@ pub trait Kernel {
     fn decode_checked(input: &[u8], output: &mut [u8]) -> bool
         requires { length input.now ≡ 2 * length output.old }
         ensures spells { IsTrue result → Spells input.now output.new }
-        ensures refused { result ≡ false → Partial output.old input.now output.new }
+        ensures invalid { result ≡ false → Partial output.old input.now output.new }
         ensures unchanged { result ≡ false → USE_CHECK_FN ≡ true → output.new ≡ output.old };
 
     /// As `decode_checked`, for a caller that has no use for the pairs before a byte that is not a
@@ -167,7 +142,7 @@ pub trait Kernel {
     fn decode_all(input: &[u8], output: &mut [u8]) -> bool
         requires { length input.now ≡ 2 * length output.old }
         ensures spells { IsTrue result → Spells input.now output.new }
-        ensures refused { result ≡ false → Partial output.old input.now output.new }
+        ensures invalid { result ≡ false → Partial output.old input.now output.new }
         ensures unchanged { result ≡ false → USE_CHECK_FN ≡ true → output.new ≡ output.old }
     {
         Self::decode_checked(input, output)

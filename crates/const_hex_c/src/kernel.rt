@@ -41,13 +41,6 @@ impl Kernel for Linked {
         read::<FixedKernel>(input, output)
     }
 
-    // `machine_code` proves loops whose steps are constant, so C has no search by halves.
-    #[inline(always)]
-    fn skip_digits(text: &[u8]) -> usize {
-        let _ = text;
-        0
-    }
-
     #[inline]
     fn decode_unchecked(input: &[u8], output: &mut [u8]) {
         FixedKernel::decode_unchecked(input, output);
@@ -86,7 +79,7 @@ fn check<K: Kernel>(text: &[u8]) -> bool
 fn read<K: Kernel>(text: &[u8], bytes: &mut [u8]) -> bool
     requires { length text.now ≡ 2 * length bytes.old }
     ensures spells { IsTrue result → Spells text.now bytes.new }
-    ensures refused { result ≡ false → Partial bytes.old text.now bytes.new }
+    ensures invalid { result ≡ false → Partial bytes.old text.now bytes.new }
 {
     K::decode_all(text, bytes)
 }

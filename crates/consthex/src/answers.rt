@@ -44,16 +44,6 @@ pub fn answer(alloc: Global, mode: Mode, input: &[u8]) -> Result<Vec<u8>, RunErr
     if input.len() > LIMIT {
         return Err(RunError::TooLong);
     }
-    answer_within_limit(alloc, mode, input)
-}
-
-/// What a mode returns for an input that is not too long.
-fn answer_within_limit(alloc: Global, mode: Mode, input: &[u8]) -> Result<Vec<u8>, RunError>
-    requires { length input.now ≤ limit }
-    ensures ok { IfOk result (λ v. Answer mode input.now (Ok v.items)) }
-    ensures err { IfErr result (λ e. e ≢ NoMemory → Answer mode input.now (Err e)) }
-    ensures no_memory { result ≡ Err NoMemory → TakesMemory mode input.now }
-{
     match mode {
         Mode::Encode => Ok(encode_line(alloc, input, false, false)?),
         Mode::EncodeUpper => Ok(encode_line(alloc, input, false, true)?),

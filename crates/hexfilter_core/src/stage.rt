@@ -1,7 +1,7 @@
 //! What a run makes of its input, chunk after chunk.
 
-ghost use Rattle.std.specs.Prelude.{◌≡◌, ◌*◌, ◌+◌, ◌≤◌, ◌<◌, ◌++◌, [], List, ℕ, Bool, if◌then◌else◌, length, take, false, ◌/◌, ◌∷◌, Option, None, Some, IfOk, OnErr, option_to_list};
-ghost use Rattle.hexfilter_core.specs.Dumps.{Groups, PutsInto, encoded, ended, full_text, AllDigits, Reading, body_of, chunk_size, text_of};
+ghost use Rattle.std.specs.Prelude.{◌≡◌, ◌*◌, ◌+◌, ◌≤◌, ◌<◌, ◌++◌, [], List, ℕ, if◌then◌else◌, length, take, false, ◌/◌, ◌∷◌, Option, None, Some, IfOk, OnErr, option_to_list};
+ghost use Rattle.hexfilter_core.specs.Dumps.{Groups, PutsInto, ended, full_text, AllDigits, Reading, body_of, chunk_size, text_of};
 ghost use Rattle.hexfilter_core.specs.Stages.{HasDecoded, HasWritten, Reaches, HasMade};
 ghost use Rattle.std.specs.Io.KnownBytes.{IsAtEnd};
 ghost use Rattle.hexfilter_core.specs.Runs.{Decode, IsErrorOf, RunError};
@@ -157,7 +157,7 @@ impl Stage {
         let mut end = 0;
         'bytes: for done in 0..chunk.len() {
             let mut next = *self;
-            match next.decode_part(reading, &chunk[done..done + 1], text, &mut output[end..]) {
+            match next.decode_part(reading, &[chunk[done]], text, &mut output[end..]) {
                 Ok(count) => {
                     *self = next;
                     end += count;

@@ -1,20 +1,20 @@
 """What makes a file of each row of the tables in the folder mutants. A section's name has what is changed and, after
 a colon, what is wrong; its lines have the change, the name of a contract, if it is not the first one, and the message."""
 
+import collections
 import configparser
 import functools
 import pathlib
-import re
 
-from build import ASM, RUST, linked, linked_module
+from build import ASM, RUST, compiler_for, linked, linked_module
 from contracts.dispatch import CHOICES, OR_NULL
 from contracts.kernels import KERNELS
-from contracts.library import FUNCTIONS, HEADER, Version
+from contracts.library import FUNCTIONS, Version
 from contracts.messages import MESSAGES
-from programs import COMMITTED, COMPILERS, WASM, edited, lines_of, program, text_of
+from contracts.names import VERSION
+from programs import COMMITTED, WASM, edited, lines_of, program, text_of
 
 FOLDER = pathlib.Path(__file__).parent / "mutants"
-VERSION = re.search(r"#define CONST_HEX_VERSION (\d+)", HEADER.read_text())[1]
 FORM = """
     .intel_syntax noprefix
     .globl const_hex_version; const_hex_version: {0}; mov eax, {1}; ret
@@ -51,7 +51,6 @@ MODULE = """(module (memory (export "memory") 1 1) (global (mut i32) (i32.const 
     end end {end} i32.const 1 return end {invalid} i32.const 0)
   (func (param i32) (result i32) local.get 0 i32.const 1 i32.add)
   (data (i32.const 4096) "{data}"))"""
-PLACES = "part", "start", "character", "round", "end", "invalid"
 
 
 def functions(group, old="", new="", within=None):
@@ -69,7 +68,7 @@ def forms(level, code):
     contract = Version()
     contract.level = level
     template = FORM_ON_AARCH64 if level == "aarch64" else FORM
-    content = linked(template.format(code, VERSION), COMPILERS.get(level, "cc"))
+    content = linked(template.format(code, VERSION), compiler_for(level))
     return content, "version", [contract]
 
 
@@ -93,9 +92,9 @@ def modules(call, old="", new="", **changes):
     text = MODULE
     for before, after in zip(old.split("\n"), new.split("\n")):
         assert before in text, before
-        text = text.replace(before, after) if before else text
-    places = dict.fromkeys(PLACES, "") | {"data": "\\00" * 600} | changes
-    return linked_module(text.format_map(places)), call, FUNCTIONS
+        text = text.replace(before, after)
+    lines = collections.defaultdict(str, {"data": "\\00" * 600} | changes)
+    return linked_module(text.format_map(lines)), call, FUNCTIONS
 
 
 def rows():

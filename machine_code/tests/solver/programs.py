@@ -1,9 +1,10 @@
 """Small kernels, each a loop over single bytes, which are changed to be wrong; and the objects that
 they make."""
 
+import collections
 import functools
+import pathlib
 import re
-import subprocess
 
 from contracts.dispatch import CHOICES, OR_NULL
 from contracts.kernels import KERNELS
@@ -11,9 +12,9 @@ from contracts.library import FUNCTIONS
 from contracts.messages import MESSAGES
 from execution import proofs
 from reading import library
-from build import ASM, MODULE, RUST, linked, linked_module
+from reading.module import SPACE
+from build import ASM, MODULE, RUST, compiler_for, linked, linked_module, run
 
-COMPILERS = {"v2": "cc", "v3": "cc", "aarch64": "aarch64-linux-gnu-gcc"}
 # Where it begins, a character in eax, whether it is a digit, what is done in a round, and where it
 # returns.
 CHECK = """
@@ -89,21 +90,17 @@ COMMITTED = {
     "functions_x86_64": ([ASM / "functions_x86_64.S"], (*FUNCTIONS, *MESSAGES)),
     "functions_aarch64": ([ASM / "functions_aarch64.S"], (*FUNCTIONS, *MESSAGES)),
 }
-WASM, SEARCH = "wasm", "i32.store8 offset=5"
+WASM = "wasm"
 
 
 def program(level, call, **changes):
     """The object of a small kernel with what stands at its places."""
-    body = ((ON_AARCH64 if level == "aarch64" else PROGRAMS[call]) + AFTER).format_map(
-        dict.fromkeys(("start", "character", "round", "end", "helper"), "")
-        | {"store": "mov [rsi], al"}
-        | changes
-    )
-    syntax = "" if level == "aarch64" else ".intel_syntax noprefix\n"
-    name = f"const_hex_1_0_0_{call}" + (f"_{level}" if level != "aarch64" else "")
-    return linked(
-        f'{syntax}.section .text.{name}, "ax"\n.globl {name}\n{name}:\n{body}', COMPILERS[level]
-    )
+    lines = collections.defaultdict(str, {"store": "mov [rsi], al"} | changes)
+    body = ((ON_AARCH64 if level == "aarch64" else PROGRAMS[call]) + AFTER).format_map(lines)
+    syntax, end = (".intel_syntax noprefix\n", f"_{level}") if level != "aarch64" else ("", "")
+    name = f"const_hex_1_0_0_{call}{end}"
+    text = f'{syntax}.section .text.{name}, "ax"\n.globl {name}\n{name}:\n{body}'
+    return linked(text, compiler_for(level))
 
 
 def lines_of(text):
@@ -116,21 +113,17 @@ def text_of(build):
     """The lines of a build."""
     if build != WASM:
         return lines_of("\n".join(path.read_text() for path in COMMITTED[build][0]))
-    command = ["wasm2wat", "--no-debug-names", MODULE]
-    text = subprocess.run(command, check=True, capture_output=True, text=True).stdout
+    text = run("wasm2wat", "--no-debug-names", MODULE).decode()
     return re.sub(r"^ +| +$", "", re.sub(r"\(;@?\d+;\)|;; .*$", "", text, flags=re.M), flags=re.M)
 
 
 def parts_of(build, function):
-    """Where functions, constants or macros of a build with such a name begin and end; in the
-    module, where a function does that is exported, or has such text."""
+    """Where functions, constants or macros of a build with such a name begin and end."""
     text = text_of(build)
     if build == WASM:
         bodies = list(re.finditer(r"^\(func .*\n(?:\(local.*\n)?((?:(?!\().*\n)*)", text, re.M))
-        exported = re.search(rf'export "const_hex_{function}" \(func (\d+)\)', text)
-        # What searches in a chunk has no name, but an instruction of its own.
-        chosen = bodies[int(exported[1])] if exported else next(b for b in bodies if SEARCH in b[1])
-        return [chosen.span(1)]
+        address = library.read(pathlib.Path(MODULE).read_bytes()).symbols[f"const_hex_{function}"]
+        return [bodies[address // SPACE - 1].span(1)]
     name = rf"(const_hex_([\d_]+_|body_|message_|kernel_)?)?{function}(_nonnull)?(_v\d)?"
     starts = re.finditer(rf"^(function|constant|\.macro) (SYMBOL\()?{name}\b.*\n", text, re.M)
     return [(start.end(), text.index("\n\n", start.end())) for start in starts]
@@ -139,42 +132,32 @@ def parts_of(build, function):
 def pattern(lines):
     """The pattern of some lines, in which {a} stands for anything without a comma, a space or a
     bracket."""
-    seen = set()
-
-    def group(match):
-        name = match[1]
-        again = name in seen
-        seen.add(name)
-        return f"(?P={name})" if again else rf"(?P<{name}>[^\s,;\[\]+*]+)"
-
-    return re.sub(r"\\\{(\w)\\\}", group, re.escape(lines.replace("; ", "\n")))
+    text = re.escape(lines.replace("; ", "\n"))
+    for name in "abcd":
+        text = text.replace(rf"\{{{name}\}}", rf"(?P<{name}>[^\s,;\[\]+*]+)", 1)
+        text = text.replace(rf"\{{{name}\}}", f"(?P={name})")
+    return text
 
 
 def edited(build, function, old, new):
     """The committed object or module in which lines of a function, a constant or a macro are
     others."""
     text = text_of(build)
-    found = None
-    for start, end in parts_of(build, function):
-        found = re.compile(pattern(old)).search(text, start, end)
-        if found:
-            break
+    search = re.compile(pattern(old)).search
+    found = next(filter(None, (search(text, *part) for part in parts_of(build, function))), None)
     assert found, f"{function} has no {old}"
-    lines = new.replace("; ", "\n") + ("" if old else "\n")
-    for name, value in found.groupdict().items():
-        lines = lines.replace(f"{{{name}}}", value)
-    text = text[: found.start()] + lines + text[found.end() :]
+    lines = re.sub(r"\{(\w)\}", lambda name: found[name[1]], new.replace("; ", "\n"))
+    text = text[: found.start()] + lines + "\n" * (not old) + text[found.end() :]
     if build == WASM:
         return linked_module(text)
-    return linked(text, COMPILERS["aarch64" if build.lower().endswith("aarch64") else "v3"])
+    return linked(text, compiler_for(build))
 
 
 def prove(content, call, contracts=KERNELS, name=None):
     """Proves the first contract of a call, or that of a name."""
-    chosen = [
-        each for each in contracts if each.function == call and (not name or each.name == name)
-    ]
-    contract = chosen[0]
+    contract = next(
+        each for each in contracts if each.function == call and name in (None, each.name)
+    )
     # A module exports a function by the name in the header.
     end = "_nonnull" if content.startswith(library.MODULE) else ""
     symbols = library.read(content).symbols

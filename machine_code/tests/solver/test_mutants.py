@@ -24,23 +24,21 @@ def test_mutant(make, contract, message):
         prove(*make(), contract)
 
 
-def test_a_start_that_is_missing():
-    class Empty(CheckRaw):
-        def cases(self, state):
-            return [state.branch(N == 0)]
-
-    with pytest.raises(Rejected, match="a start is missing"):
-        prove(edited("functions_x86_64", "check_raw", "", ""), "check_raw", contracts=[Empty()])
+class WithoutText(CheckRaw):
+    def cases(self, state):
+        return [state.branch(N == 0)]
 
 
-def test_a_state_of_a_decoder_that_is_missing():
-    class Short(DecoderUpdate):
-        def kinds(self, position, character, kind):
-            return super().kinds(position, character, kind)._replace(waiting=z3.BoolVal(False))
+class WithoutWaiting(DecoderUpdate):
+    def kinds(self, position, character, kind):
+        return super().kinds(position, character, kind)._replace(waiting=z3.BoolVal(False))
 
-    with pytest.raises(Rejected, match="a state that no start is for"):
-        prove(
-            edited("functions_x86_64", "decoder_update", "", ""),
-            "decoder_update",
-            contracts=[Short()],
-        )
+
+@pytest.mark.parametrize(
+    "contract, message",
+    [(WithoutText(), "a start is missing"), (WithoutWaiting(), "a state that no start is for")],
+)
+def test_contract_that_misses_a_state(contract, message):
+    content = edited("functions_x86_64", contract.function, "", "")
+    with pytest.raises(Rejected, match=message):
+        prove(content, contract.function, contracts=[contract])

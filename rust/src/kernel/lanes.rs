@@ -17,15 +17,10 @@ impl Kernel for Vectors {
         Portable::fill(input, upper, output);
     }
 
-    #[inline(always)]
+    // Not inlined: `machine_code` in the repository proves it once, and takes its contract where it is called.
+    #[inline(never)]
     fn check(input: &[u8]) -> bool {
         Portable::check(input)
-    }
-
-    // `machine_code` proves loops whose steps are constant, so the module has no search by halves.
-    #[inline(always)]
-    fn skip_digits(_: &[u8]) -> usize {
-        0
     }
 
     #[inline(always)]
@@ -42,7 +37,7 @@ impl Kernel for Vectors {
 }
 
 /// Decodes so many bytes, for which the text has two bytes each, and both are slices.
-// Not inlined: so `machine_code` in the repository proves it once, and takes its contract where it is called.
+// Not inlined, as `check`.
 #[inline(never)]
 unsafe fn read(text: *const u8, bytes: *mut u8, length: usize) -> bool {
     // SAFETY: the caller promises that.

@@ -30,9 +30,9 @@ pub trait Kernel {
     /// their output unchanged.
     const USE_CHECK_FN: bool;
 
-    /// How many bytes of text each piece of `encode` in Rattle has, except the last: 1, or an even number up to
-    /// 64. Of another number, the next smaller one of these counts, and 1 for 0. A kernel with an `encode` of its own may
-    /// write other pieces.
+    /// How many bytes of text `encode` in Rattle passes to its output at once: 1 if the kernel works byte by byte,
+    /// and otherwise an even number up to 64. Other numbers are rounded down to one of these, and 0 counts as 1. A kernel
+    /// with an `encode` of its own may write other pieces.
     const PIECE: usize;
 
     /// Fills the output with two digits for each byte, in order. The output must have exactly the
@@ -41,24 +41,6 @@ pub trait Kernel {
 
     /// Whether every byte is a digit.
     fn check(input: &[u8]) -> bool;
-
-    /// Where a search for the first byte that is not a digit may begin: all bytes before are digits. While more than 32
-    /// bytes are left, the kernel checks the first half of them. If that has only digits, the other half is left, and
-    /// else the first one.
-    #[inline(always)]
-    fn skip_digits(text: &[u8]) -> usize {
-        let mut start = 0;
-        let mut end = text.len();
-        'halves: while end - start > 32 {
-            let middle = start + (end - start) / 2;
-            if Self::check(&text[start..middle]) {
-                start = middle;
-            } else {
-                end = middle;
-            }
-        }
-        start
-    }
 
     /// Decodes the input into the output and returns true. Returns false if some byte is not a
     /// digit. Then some of the pairs before that byte may have been decoded to the front of the

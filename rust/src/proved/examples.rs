@@ -61,11 +61,6 @@ fn arch_check() {
 }
 
 #[test]
-fn arch_skip_digits() {
-    assert!(FixedKernel::skip_digits(b"6b69z") <= 4);
-}
-
-#[test]
 fn arch_decode_checked() {
     let mut bytes = [0; 4];
     assert!(FixedKernel::decode_checked(b"6B697769", &mut bytes));

@@ -28,7 +28,7 @@ pub use self::error::*;
 //    2  a formatter has a lifetime in place of its writer's type
 //   56  all crates are one module
 //    2  an allocation never fails: without memory the program ends
-//   79  an assertion names no runtime
+//   78  an assertion names no runtime
 //    3  an example names a kernel that each target has
 //    4  an example uses no allocator
 //    2  and a constant converts by a cast
@@ -38,10 +38,10 @@ pub use self::error::*;
 //    1  and the crate's decoder is cloned
 //    3  before it reads a part, or ends
 //   38  deleted: attribute
-//  419  deleted: clause
-//   78  deleted: ghost item
+//  415  deleted: clause
+//   79  deleted: ghost item
 //    3  deleted: model
-//    6  deleted: output
+//    8  deleted: output
 //    1  each value may be dropped
 //    4  kernels that no target uses are left out, and callers that nothing exports
 //    1  the kernel is chosen for the processor

@@ -46,41 +46,32 @@ fn mark() {
 
 const MARK: &str = "a round begins or ends";
 
-/// How many calls are made in the shorter rounds, and in the longer one.
-fn calls(size: usize) -> [usize; 2] {
-    if size > 2048 || cfg!(target_arch = "aarch64") {
-        [10, 30]
-    } else {
-        [100, 500]
-    }
-}
+/// How many calls are made in each round.
+const CALLS: [usize; 3] = [10, 10, 30];
 
-/// Makes a call for input of a size in three rounds, and marks where each begins and ends. In the first round symbols
-/// are bound, and the allocator chooses where large blocks stand.
-pub fn repeat(size: usize, mut call: impl FnMut(usize)) {
-    let [few, more] = calls(size);
-    for count in [few, few, more] {
-        mark();
+/// Makes a call in three rounds, and marks where each begins and ends. In the first round symbols are bound, and the
+/// allocator chooses where large blocks stand.
+pub fn repeat(mut call: impl FnMut(usize)) {
+    mark();
+    for count in CALLS {
         call(count);
         mark();
     }
 }
 
-/// Runs this program, which repeats a call for each of these sizes, and returns how many instructions one call takes:
-/// what the last two rounds differ by.
-pub fn instructions(sizes: &[usize], prepare: impl FnOnce(&mut Command)) -> Vec<u64> {
+/// Runs this program, which repeats so many calls, and returns how many instructions one of each takes: what the last
+/// two rounds differ by.
+pub fn instructions(calls: usize, prepare: impl FnOnce(&mut Command)) -> Vec<u64> {
     let counted = match cfg!(target_arch = "x86_64") {
         true => counted_by_callgrind(prepare),
         false => counted_by_qemu(prepare),
     };
-    assert_eq!(counted.len() / 6, sizes.len(), "a round was not counted");
-    // Of each call, what was counted before each of its rounds, and in it.
-    let rounds = counted.chunks_exact(6).zip(sizes);
-    let one = rounds.map(|(counted, size)| {
-        let [few, more] = calls(*size);
-        (counted[5] - counted[3]) / (more - few) as u64
-    });
-    one.collect()
+    assert_eq!(counted.len() / 4, calls, "a round was not counted");
+    // Of each call, what was counted before its rounds, and in each of them.
+    let rounds = counted.chunks_exact(4);
+    rounds
+        .map(|counted| (counted[3] - counted[2]) / (CALLS[2] - CALLS[1]) as u64)
+        .collect()
 }
 
 /// Runs this program by another one.

@@ -4,7 +4,7 @@ ghost use Rattle.std.specs.Prelude.{◌↔◌, Result, Ok, IsTrue};
 ghost use Rattle.const_hex.specs.Prelude.{AllDigits, ChecksText, FromHexError};
 
 use crate::codec::body::{
-    find_first_bad_from, find_invalid_character, invalid_character, strip_even, strip_prefix,
+    find_first_invalid_from, find_invalid_character, invalid_character, strip_even, strip_prefix,
 };
 use crate::error::FromHexError;
 use const_hex_arch::{FixedKernel, Kernel};
@@ -40,7 +40,7 @@ pub fn check_with<K: Kernel>(input: &[u8]) -> Result<(), FromHexError>
     if K::check(body) {
         Ok(())
     } else {
-        Err(find_invalid_character::<K>(input, body))
+        Err(find_invalid_character::<K>(input))
     }
 }
 
@@ -61,7 +61,7 @@ pub fn const_check(input: &[u8]) -> Result<(), FromHexError>
         return Err(FromHexError::OddLength);
     }
     let body = strip_prefix(input);
-    let (byte, index) = find_first_bad_from(body, 0);
+    let (byte, index) = find_first_invalid_from(body, 0);
     if index < body.len() {
         return Err(invalid_character(byte, index + input.len() - body.len()));
     }
@@ -94,5 +94,5 @@ pub fn check_raw(input: &[u8]) -> bool
 pub fn const_check_raw(input: &[u8]) -> bool
     ensures { IsTrue result ↔ AllDigits input.now }
 {
-    find_first_bad_from(input, 0).1 == input.len()
+    find_first_invalid_from(input, 0).1 == input.len()
 }

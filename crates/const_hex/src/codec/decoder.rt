@@ -3,7 +3,9 @@
 ghost use Rattle.std.specs.Prelude.{◌≡◌, ◌≢◌, ℕ, List, [], ◌∷◌, None, ◌++◌, ◌*◌, ◌+◌, ◌/◌, ◌%◌, ◌≤◌, ◌↔◌, Some, Ok, Err, true, false, length, take, drop, slice_index, IsOk, OnErr, IfSome, IsTrue, option_to_list};
 ghost use Rattle.const_hex.specs.Prelude.{AllDigits, FirstBad, IsDigit, Partial, Spells, IsOdd, Reads, body_of, HasRead, counted, error_of, position_of, waiting_digit, zero_decoder, ChecksChunk, DecodesChunk, FromHexError, OddLength, InvalidStringLength, InvalidHexCharacter};
 
-use crate::codec::body::{decode_body, find_first_bad, invalid_character, is_prefix, strip_prefix};
+use crate::codec::body::{
+    decode_body, find_first_invalid, invalid_character, is_prefix, strip_prefix,
+};
 use crate::error::FromHexError;
 use const_hex_arch::{FixedKernel, Kernel, is_digit};
 
@@ -267,7 +269,7 @@ impl Decoder {
         ensures ended { error_of self.new ≡ Some result }
         ensures length { result ≢ InvalidStringLength }
     {
-        let (byte, index) = find_first_bad::<K>(digits);
+        let (byte, index) = find_first_invalid::<K>(digits);
         let index = self.index.saturating_add(skipped).saturating_add(index);
         *self = Decoder {
             index,
@@ -307,7 +309,7 @@ fn decode_next<K: Kernel>(waiting: Option<u8>, digits: &[u8], output: &mut [u8])
     ensures digits { IsTrue result → AllDigits digits.now }
     ensures spells { IsTrue result → Spells
         (take (2 * length output.old) (option_to_list waiting ++ digits.now)) output.new }
-    ensures refused { result ≡ false
+    ensures invalid { result ≡ false
         → Partial output.old (option_to_list waiting ++ digits.now) output.new }
 {
     match waiting {
@@ -324,7 +326,7 @@ fn decode_after<K: Kernel>(high: u8, digits: &[u8], output: &mut [u8]) -> bool
     ensures digits { IsTrue result → AllDigits digits.now }
     ensures spells { IsTrue result
         → Spells (take (2 * length output.old) (high ∷ digits.now)) output.new }
-    ensures refused { result ≡ false → Partial output.old (high ∷ digits.now) output.new }
+    ensures invalid { result ≡ false → Partial output.old (high ∷ digits.now) output.new }
 {
     match digits {
         [low, rest @ ..] => {
@@ -343,7 +345,7 @@ fn decode_digits<K: Kernel>(digits: &[u8], output: &mut [u8]) -> bool
     ensures digits { IsTrue result → AllDigits digits.now }
     ensures spells { IsTrue result
         → Spells (take (2 * length output.old) digits.now) output.new }
-    ensures refused { result ≡ false → Partial output.old digits.now output.new }
+    ensures invalid { result ≡ false → Partial output.old digits.now output.new }
 {
     let (pairs, last) = digits.split_at(2 * output.len());
     decode_body::<K>(pairs, output) && check_last(last)

@@ -50,7 +50,7 @@ pub fn decode_to_slice_with<K: Kernel>(input: &[u8], output: &mut [u8]) -> Resul
         return Err(FromHexError::InvalidStringLength);
     }
     if !decode_body::<K>(body, output) {
-        return Err(find_invalid_character::<K>(input, body));
+        return Err(find_invalid_character::<K>(input));
     }
     Ok(())
 }
@@ -105,7 +105,7 @@ pub fn decode_to_front_with<K: Kernel>(
         return Err(FromHexError::InvalidStringLength);
     }
     if !decode_body::<K>(body, &mut output[..count]) {
-        return Err(find_invalid_character::<K>(input, body));
+        return Err(find_invalid_character::<K>(input));
     }
     Ok(count)
 }

@@ -1,8 +1,9 @@
 //! Encoding bytes as text in a slice.
 
-ghost use Rattle.std.specs.Prelude.{◌≡◌, ◌≢◌, ◌*◌, true, false, length, IsOk, IfOk, IfErr, Err, ◌↔◌, IsAscii};
-ghost use Rattle.std.specs.Borrow.{sem};
-ghost use Rattle.const_hex.specs.Prelude.{hex_text, full_text, text_length, EndsEncoded, EncodesToSlice, InvalidStringLength};
+ghost use Rattle.std.specs.Prelude.{◌≡◌, ◌≢◌, ◌*◌, true, false, length, IsOk, IfOk, IfErr, Err, MatchResult, ◌↔◌, IsAscii};
+ghost use Rattle.std.specs.Borrow.{sem, Array, u8};
+ghost use Rattle.std.specs.Io.BufRead.{Rests};
+ghost use Rattle.const_hex.specs.Prelude.{hex_text, full_text, text_length, EncodesToSlice, InvalidStringLength};
 
 use crate::error::FromHexError;
 use const_hex_arch::{FixedKernel, Kernel, ascii_text, fill_text, text_length};
@@ -132,7 +133,9 @@ pub fn encode_to_str<'a>(input: &[u8], output: &'a mut [u8]) -> Result<&'a str, 
     ensures fits { IsOk result ↔ (length output.entry.now ≡ 2 * length input.now) }
     ensures lends { IfOk result (λ text. text.now ≡ hex_text false input.now) }
     ensures error { IfErr result (λ e. e ≡ InvalidStringLength) }
-    ensures* after { sem 𝓛 (EndsEncoded false input.now output.entry result) }
+    // What the slice holds after the loan of it has ended.
+    ensures* after { sem 𝓛 (Rests (Array u8 0) output.entry (λ new. MatchResult result
+        (λ _. new ≡ hex_text false input.now) (λ _. new ≡ output.entry.now))) }
 {
     encoded_text(input, encode_into(input, false, output))
 }
@@ -148,7 +151,9 @@ pub fn encode_to_str_upper<'a>(input: &[u8], output: &'a mut [u8]) -> Result<&'a
     ensures fits { IsOk result ↔ (length output.entry.now ≡ 2 * length input.now) }
     ensures lends { IfOk result (λ text. text.now ≡ hex_text true input.now) }
     ensures error { IfErr result (λ e. e ≡ InvalidStringLength) }
-    ensures* after { sem 𝓛 (EndsEncoded true input.now output.entry result) }
+    // What the slice holds after the loan of it has ended.
+    ensures* after { sem 𝓛 (Rests (Array u8 0) output.entry (λ new. MatchResult result
+        (λ _. new ≡ hex_text true input.now) (λ _. new ≡ output.entry.now))) }
 {
     encoded_text(input, encode_into(input, true, output))
 }

@@ -30,6 +30,7 @@ impl<const N: usize, V: LaneOps<N> + LaneOps<16>> Kernel for ByLength<N, V> {
 
     #[inline(always)]
     fn fill(input: &[u8], upper: bool, output: &mut [u8]) {
+        // First the length of many identifiers, which one step fills.
         if input.len() == 16 {
             steps::fill_step::<16, V>(input, upper, output);
         } else if input.len() < 16 {
@@ -54,7 +55,8 @@ impl<const N: usize, V: LaneOps<N> + LaneOps<16>> Kernel for ByLength<N, V> {
         }
     }
 
-    /// Before an invalid character all whole steps are decoded, and of a remainder of less than 16 bytes all pairs.
+    /// Before an invalid character all whole steps are decoded, as const-hex decodes them, and of a remainder of less than
+    /// 16 bytes all pairs.
     #[inline(always)]
     #[tactic(auto, using(crate::proofs::lemmas::FirstInvalid::again))]
     fn decode_checked(input: &[u8], output: &mut [u8]) -> bool {
@@ -64,12 +66,13 @@ impl<const N: usize, V: LaneOps<N> + LaneOps<16>> Kernel for ByLength<N, V> {
     #[inline(always)]
     #[tactic(auto, using(crate::proofs::lemmas::FirstInvalid::none_decoded, std::proofs::lemmas::List::take_all))]
     fn decode_all(input: &[u8], output: &mut [u8]) -> bool {
-        // So a function that is not inlined needs no register for the length of the text.
+        // The text as long as the output needs it: so a function that is not inlined, such as `read` of const_hex_c, takes
+        // no length of the text.
         let text = &input[..2 * output.len()];
         if output.len() <= 16 {
             short::decode::<V>(text, output)
         } else if output.len() <= N {
-            short::decode_pair::<N, V>(text, N / 2, output)
+            short::decode_pair::<N, V>(text, output)
         } else {
             long::decode::<N, V>(text, output)
         }
@@ -78,6 +81,7 @@ impl<const N: usize, V: LaneOps<N> + LaneOps<16>> Kernel for ByLength<N, V> {
     #[inline(always)]
     fn decode_unchecked(input: &[u8], output: &mut [u8]) {
         if output.len() < N {
+            // It checks them once more, and returns true.
             Self::decode_all(input, output);
         } else {
             long::decode_digits::<N, V>(input, output);

@@ -3,6 +3,7 @@
 ghost use Rattle.std.specs.Prelude.{true};
 
 use crate::arch::Kernel;
+use crate::output::Output;
 use std::marker::PhantomData;
 
 /// The kernel `K`, but it decodes a text only after it has checked all of it. So an error leaves
@@ -30,6 +31,11 @@ impl<K: Kernel> Kernel for CheckFirst<K> {
     #[inline(always)]
     fn fill(input: &[u8], upper: bool, output: &mut [u8]) {
         K::fill(input, upper, output);
+    }
+
+    #[inline(always)]
+    fn encode<O: Output>(input: &[u8], upper: bool, output: &mut O) {
+        K::encode(input, upper, output);
     }
 
     #[inline(always)]

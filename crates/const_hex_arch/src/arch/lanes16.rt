@@ -33,7 +33,7 @@ pub(crate) fn digits_row(upper: bool) -> [u8; 16]
 
 /// Half of a row, in both halves of a vector.
 #[inline(always)]
-pub(crate) fn in_both_halves(lanes: [u8; 16]) -> u8x32
+fn in_both_halves(lanes: [u8; 16]) -> u8x32
     ensures { result ≡ lanes ++ lanes }
 {
     let half = u8x16::from_array(lanes);
@@ -195,7 +195,7 @@ fn split_half(v: u8x8) -> u8x16
 // of which only the lower half fits: 0x00B4 becomes 0x40B4. Shifted right by 4 it is 0x040B, in
 // memory the bytes 0x0B and 0x04: the upper half first.
 #[inline(always)]
-pub(crate) fn split_lanes(v: u8x16) -> u8x32
+fn split_lanes(v: u8x16) -> u8x32
     ensures { result ≡ halves_of v }
 {
     let wide: u16x16 = v.cast();

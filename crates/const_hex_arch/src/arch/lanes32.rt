@@ -88,9 +88,7 @@ pub fn unhex(v: u8x32) -> u8x32
 /// The kernel for vectors of 32 lanes. It encodes 32 bytes, checks 32 characters and decodes 64
 /// characters at a time. The remainder is encoded, checked and decoded together with what stands
 /// before it, as one more vector that overlaps the last one. Vectors of 16 lanes take up to 32 bytes
-/// to encode or characters to check, and up to 16 bytes to decode. After an invalid character was
-/// found, the steps before it are decoded again, at most one step of 16 lanes after them, and then
-/// the pairs before it.
+/// to encode or characters to check, and up to 16 bytes to decode. On x86-64 it needs AVX2.
 ///
 /// ```rust
 /// let mut bytes = [0; 4];
@@ -109,7 +107,7 @@ impl LaneOps<32> for Multiplying {
     }
 
     // In halves of 16 lanes, for which the mask costs nothing. With AVX2 the compiler makes one shuffle
-    // of both. The other functions use 32 lanes, since the compiler would keep halves there.
+    // of both. `merge` and `are_unmarked` use 32 lanes, since the compiler would keep halves there.
     #[inline(always)]
     fn look_up_limits(v: u8x32) -> u8x32
         ensures { AllZip IsLimitOf v result }

@@ -54,14 +54,14 @@ pub(crate) fn check<const N: usize, V: LaneOps<N>>(text: &[u8]) -> bool
     steps::check_step::<N, V>(&text[text.len() - N..])
 }
 
-/// Decodes the text to at least one step of bytes and returns true. Two steps share one test while more are left. A test
-/// that fails ends the call, which returns false. The steps before it are decoded then.
+/// Decodes the text to at least one step of bytes and returns true. Two steps share one test while more are left, so as
+/// many vectors as in `check`. A test that fails ends the call, which returns false. The steps before it are decoded then.
 #[inline(always)]
 pub(crate) fn decode<const N: usize, V: LaneOps<N>>(text: &[u8], output: &mut [u8]) -> bool
     requires size { length text.now ≡ 2 * length output.old }
     requires least { N ≤ length output.old }
     ensures spells { IsTrue result → Spells text.now output.new }
-    ensures refused { result ≡ false → Partial output.old text.now output.new }
+    ensures invalid { result ≡ false → Partial output.old text.now output.new }
 {
     let mut at = 0;
     while output.len() - at > 2 * N {
@@ -100,8 +100,8 @@ pub(crate) fn decode_digits<const N: usize, V: LaneOps<N>>(text: &[u8], output: 
     steps::decode_digits_step::<N, V>(&text[2 * start..], &mut output[start..]);
 }
 
-/// Decodes a text with an invalid character up to it, and returns false: whole steps, at most one of 16 lanes after
-/// those of `N` lanes, and then pairs.
+/// Decodes a text with an invalid character as const-hex does, and returns false: step by step until one is invalid, of
+/// which nothing is written. Only what is too short for a step is decoded by 16 lanes, and then by pairs.
 // Not inlined: with this body the public decoders would be too large to be inlined.
 #[cold]
 #[inline(never)]
@@ -111,7 +111,7 @@ pub(crate) fn decode_front<const N: usize, V: LaneOps<N> + LaneOps<16>>(
 ) -> bool
     requires { length text.now ≡ 2 * length output.old }
     ensures spells { IsTrue result → Spells text.now output.new }
-    ensures refused { result ≡ false → Partial output.old text.now output.new }
+    ensures invalid { result ≡ false → Partial output.old text.now output.new }
 {
     let mut at = 0;
     while output.len() - at >= N {

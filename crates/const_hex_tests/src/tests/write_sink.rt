@@ -2,10 +2,10 @@
 //! it makes again, and that it flushes nothing.
 
 use crate::testing::texts::{make_bytes, print};
-use crate::tests::rows::{Testing, same, same_bytes};
 use const_hex::{BufferedHex, Plain, Sink, WriteSink};
 use std::alloc::Global;
 use std::io::{self, ErrorKind, Write};
+use std::process::Abort;
 
 /// What goes wrong with a [`Target`].
 #[derive(Clone, Copy, Debug)]
@@ -73,7 +73,7 @@ fn writers_that_fail_at_each_call(rt: HostRuntime) {
 
 /// A writer has accepted so many bytes before that call. The call fails, or accepts no bytes; or a
 /// signal interrupts it 1, 2, 100 or 10,000 times in a row, and it is made again.
-fn at_call(rt: &impl Testing, (call, taken): (usize, usize), case: (&[u8], &[u8])) {
+fn at_call(rt: &(impl Abort + AllocGlobal), (call, taken): (usize, usize), case: (&[u8], &[u8])) {
     let (fails, calls) = (call < 8, call.min(7));
     for kind in [ErrorKind::Other, ErrorKind::WouldBlock] {
         let want = (fails.then_some(kind), taken, calls);
@@ -90,7 +90,7 @@ fn at_call(rt: &impl Testing, (call, taken): (usize, usize), case: (&[u8], &[u8]
 
 /// Writes the bytes, whose text is `text`. Checks the error, what the writer has, and its calls.
 fn writes(
-    rt: &impl Testing,
+    rt: &(impl Abort + AllocGlobal),
     fault: InjectedFault,
     (bytes, text): (&[u8], &[u8]),
     (kind, taken, calls): (Option<ErrorKind>, usize, usize),
@@ -98,21 +98,23 @@ fn writes(
     let mut target = Target::new(rt.alloc(), fault);
     let mut sink = WriteSink::new(&mut target);
     let result = BufferedHex::<false, true>::new(bytes).write_with::<Plain, _>(&mut sink);
-    let has_failed = (result.is_err(), sink.refused());
-    same!(rt, "write_with, refused", fault; has_failed, (kind.is_some(), kind.is_some()));
-    same!(rt, "error", fault; kind_of(sink.error()), kind);
-    same!(rt, "finish", fault; kind_of(sink.finish().as_ref().err()), kind);
-    same!(rt, "writes and flushes", fault; (target.writes, target.flushes), (calls, 0));
-    let front = text.get(..taken).unwrap_or(&[]);
-    same_bytes!(rt, "what the writer has", fault; target.taken, front);
+    assert_eq!(rt; result.is_err(), kind.is_some(), "{fault:?}");
+    assert_eq!(rt; kind_of(sink.error()), kind, "{fault:?}");
+    assert_eq!(rt; kind_of(sink.finish().as_ref().err()), kind, "{fault:?}");
+    assert_eq!(rt; (target.writes, target.flushes), (calls, 0), "{fault:?}");
+    assert_eq!(rt;
+        target.taken.as_slice(),
+        text.get(..taken).unwrap_or(&[]),
+        "{fault:?}"
+    );
 }
 
 // An empty piece is no call, also of a writer that would fail.
 #[test]
 fn an_empty_piece(rt: HostRuntime) {
     let mut target = Target::new(rt.alloc(), InjectedFault::Full(1));
-    same!(&rt; WriteSink::new(&mut target).write_str(""), Ok(()));
-    same!(&rt; target.writes, 0);
+    assert_eq!(rt; WriteSink::new(&mut target).write_str(""), Ok(()));
+    assert_eq!(rt; target.writes, 0);
 }
 
 fn kind_of(error: Option<&io::Error>) -> Option<ErrorKind> {

@@ -9,11 +9,11 @@ ghost use Rattle.const_hex.specs.declared.error.FromHexError.{FromHexError};
 
 use crate::mode::USAGE;
 use crate::process::{program, program_with};
+use crate::tests::Testing;
 use crate::tests::devices::{InjectedFault, Source, Target};
-use crate::tests::{Escaped, Testing, same_bytes};
 use std::cell::Cell;
 use std::env::{Env, FillError};
-use std::fmt::{self, Debug, Display};
+use std::fmt::Display;
 use std::io::{self, Eprint, ErrorKind, Read, Write};
 use std::process::ExitCode;
 
@@ -89,19 +89,6 @@ const ENCODE: &[&[u8]] = &[b"consthex", b"encode"];
 
 const ENCODE_UPPER_PREFIXED: &[&[u8]] = &[b"consthex", b"encode-upper-prefixed"];
 
-/// Arguments that print as texts.
-#[derive(Drop)]
-struct Shown<'a>(&'a [&'a [u8]]);
-
-impl Debug for Shown<'_> {
-    fn fmt<W: fmt::Write>(&self, f: &mut fmt::Formatter<W>) -> fmt::Result {
-        for word in self.0 {
-            write!(f, "{:?} ", Escaped(word))?;
-        }
-        Ok(())
-    }
-}
-
 /// The program on that host ends with that status, and prints that line.
 fn ends<R: Read>(
     rt: &impl Testing,
@@ -110,20 +97,13 @@ fn ends<R: Read>(
     output: &mut Target,
     (status, line): (u8, &str),
 ) {
+    let arguments = host.arguments;
     let code = program(&(&host, rt.alloc()), input, output);
-    assert_eq!(rt;
-        code,
-        ExitCode::from(status),
-        "program: {:?}",
-        Shown(host.arguments)
-    );
+    assert_eq!(rt; code, ExitCode::from(status), "{arguments:?}");
     let (bytes, count) = host.printed.get();
-    let printed = &bytes[..count.min(128)];
-    let line = match status {
-        0 => String::new(rt.alloc()),
-        _ => format!(in rt.alloc(); "{line}\n").expect(rt, "memory"),
-    };
-    same_bytes(rt, Shown(host.arguments), printed, line.as_bytes());
+    let end = if status == 0 { "" } else { "\n" };
+    let line = format!(in rt.alloc(); "{line}{end}").expect(rt, "memory");
+    assert_eq!(rt; &bytes[..count.min(128)], line.as_bytes(), "{arguments:?}");
 }
 
 /// Arguments, an input, what is written, the status, and the line on standard error.
@@ -167,36 +147,19 @@ fn whole_runs(rt: HostRuntime) {
     }
 }
 
-// The bytes 0 to 64.
-const TEXT: &[u8] = b"000102030405060708090a0b0c0d0e0f101112131415161718191a1b1c1d1e1f\
-                      202122232425262728292a2b2c2d2e2f303132333435363738393a3b3c3d3e3f40";
-
-// The bytes below each count are written as the front of `TEXT`, and read from it.
-#[test]
-fn lengths_round_the_lanes(rt: HostRuntime) {
-    for count in [15u8, 16, 17, 31, 32, 33, 47, 48, 49, 63, 64, 65] {
-        let bytes: Vec<u8> = (0..count).collect(rt.alloc()).expect(&rt, "memory");
-        let digits = TEXT.get(..2 * usize::from(count)).unwrap_or(b"");
-        let text = [digits, b"\n"].concat(rt.alloc()).expect(&rt, "memory");
-        runs(&rt, (ENCODE, &bytes, &text, 0, ""));
-        runs(&rt, (DECODE, &text, &bytes, 0, ""));
-    }
-}
-
 /// The program does all that.
 fn runs(rt: &impl Testing, (arguments, input, written, status, line): Run<'_>) {
     let (mut rest, mut output) = (input, Target::new(rt.alloc(), InjectedFault::Nothing));
     let host = Host::new(arguments, true);
     ends(rt, host, &mut rest, &mut output, (status, line));
-    same_bytes(
-        rt,
-        (Shown(arguments), Escaped(input)),
-        &output.taken,
+    assert_eq!(rt;
+        output.taken.as_slice(),
         written,
+        "{arguments:?}: {input:?}"
     );
 }
 
-// The program reads and writes nothing. It makes no difference if standard error fails.
+// It makes no difference if standard error fails.
 #[test]
 fn words_that_name_none(rt: HostRuntime) {
     let rows: [(&[&[u8]], bool); 14] = [
@@ -220,13 +183,6 @@ fn words_that_name_none(rt: HostRuntime) {
         let mut output = Target::new(rt.alloc(), InjectedFault::Nothing);
         let host = Host::new(arguments, can_print);
         ends(&rt, host, &mut input, &mut output, (2, USAGE));
-        same_bytes(&rt, Shown(arguments), input, b"kiwi");
-        assert_eq!(rt;
-            (output.writes, output.flushes),
-            (0, 0),
-            "writes, flushes: {:?}",
-            Shown(arguments)
-        );
     }
 }
 
@@ -274,20 +230,4 @@ fn decode<R: Read, W: Write>(
     ensures memory { exit_status result ≡ 4 → Keeps (W.contents output.old) (W.contents output.new) }
 {
     program_with(rt, arguments, input, output)
-}
-
-#[test]
-fn words_of_a_mode(rt: HostRuntime) {
-    let arguments = [String::from_str(rt.alloc(), "decode").expect(&rt, "memory")];
-    let mut output = Vec::new(rt.alloc());
-    let code = decode(
-        &(&Host::new(&[], true), rt.alloc()),
-        &arguments,
-        &mut b"6b69\n".as_slice(),
-        &mut output,
-    );
-    assert_eq!(rt;
-        (code, output.as_slice()),
-        (ExitCode::SUCCESS, b"ki".as_slice())
-    );
 }

@@ -27,25 +27,13 @@ parsed v r h plain =
     (parse_plain own 64 v r h (grind (arith, nat_tests)))
 
 -- the first letter, and the rest
-letter : (o : Options) (t first rest : List ℕ) (found : Result Options UsageErrorKind) → 0 < length t → first ≡ take 1 t
+pub letter : (o : Options) (t first rest : List ℕ) (found : Result Options UsageErrorKind) → 0 < length t → first ≡ take 1 t
     → rest ≡ drop 1 t → found ≡ find first (table o)
     → with_letters o t ≡ and_then found
     (λ p. if is_some p.value && nat_lt 0 (length rest) then with_value p.value p rest else with_letters p rest)
 unfolding with_letters
 letter o [] first rest found h front back is = absurd (omega arith)
 letter o (c ∷ t) first rest found h front back is = rw (is, front, back) refl
-
-pub letter_read : (o p : Options) (t first rest : List ℕ) (b : Bool) → 0 < length t → first ≡ take 1 t → rest ≡ drop 1 t
-    → Ok p ≡ find first (table o)
-    → (is_some p.value && nat_lt 0 (length rest)) ≡ b
-    → with_letters o t ≡ (if b then with_value p.value p rest else with_letters p rest)
-letter_read o p t first rest b h front back is given =
-    letter o t first rest (Ok p) h front back is
-    ∙ ap (λ x. if x then with_value p.value p rest else with_letters p rest) given
-
-pub letter_fails : (o : Options) (t first : List ℕ) (e : UsageErrorKind) → 0 < length t → first ≡ take 1 t
-    → Err e ≡ find first (table o) → with_letters o t ≡ Err e
-letter_fails o t first e h front is = letter o t first (drop 1 t) (Err e) h front refl is
 
 -- a character that is not ASCII is no letter
 pub letter_unknown : (o : Options) (t : List ℕ) → IsUtf8 t → 0 < length t → ¬ (IsCharBoundary t 1)

@@ -46,13 +46,9 @@ pub goes_on : (g : Groups) (first c : ℕ) (text : List ℕ) (done count : ℕ) 
 goes_on g first c text done count laid before some within h out put rest =
     let piece = take count (drop done text) in
     let size : length piece ≡ count = simp (length-take, length-drop) (omega arith) in
-    let more : 0 < length (piece ++ rest) = omega (arith, size, length-append piece rest, some) in
-    ap (λ l. groups_from g first (l ++ rest)) (take-add done count text)
-    ∙ ap (groups_from g first) (append_assoc (take done text) piece rest)
-    ∙ before (piece ++ rest) more ∙ ap (λ l. laid ++ l) (within_group g c piece rest (omega (arith, size)))
-    ∙ ap (λ k. laid ++ (piece ++ groups_from g (c + k) rest)) size
-    ∙ sym (append_assoc laid piece (groups_from g (c + count) rest))
-    ∙ ap (λ l. l ++ groups_from g (c + count) rest) (sym put)
+    let more = before (piece ++ rest) (omega (arith, size, length-append piece rest, some)) in
+    let whole = within_group g c piece rest (omega (arith, size)) in
+    rw (take-add done count text, append_assoc, more, whole, size, put, append_assoc) refl
 
 -- `done` characters stand in groups, and then `count` more are put there
 pub puts_more : (g : Groups) (c d e : ℕ) (text : List ℕ) (done count : ℕ) (out new : List ℕ) (end m k : ℕ)
@@ -64,10 +60,7 @@ puts_more g c d e text done count out new end m k within started enough first mo
     let piece = take count (drop done text) in
     let next =
     rw (take_all (length text - done) (drop done text) (omega (arith, length-drop done text))) at more rest in
-    rw (take-add done count text, take_put end m k out new started enough)
-    (ap (groups_from g c) (append_assoc (take done text) piece rest) ∙ first (piece ++ rest)
-    ∙ ap (λ l. take end out ++ l) next
-    ∙ sym (append_assoc (take end out) (take k new) (groups_from g e rest)))
+    rw (take-add done count text, take_put end m k out new started enough, append_assoc, first (piece ++ rest), next, append_assoc) refl
 
 -- one group after a separator
 pub puts_one : (g : Groups) (text out new : List ℕ) → 0 < g.size → g.size ≤ 16 → 16 ≤ length text → 17 ≤ length out
@@ -113,10 +106,7 @@ encoded_more prefix up g old new x y chunk z has breaks due fits = record {
       let rest = full_text false up more in
       let text : full_text old.prefix up (chunk ++ more) ≡ full_text old.prefix up chunk ++ rest =
       rw (hex_text-append up chunk more) (sym (append_assoc (prefix_of old.prefix) (hex_text up chunk) rest)) in
-      rw due (ap (encoded prefix up g) (append_assoc x chunk more) ∙ has.left (chunk ++ more)
-      ∙ ap (λ l. y ++ groups_from g old.column l) text
-      ∙ ap (λ l. y ++ l) (breaks rest)
-      ∙ sym (append_assoc y z (groups_from g new.column rest)));
+      rw (due, append_assoc x chunk more, has.left (chunk ++ more), text, breaks rest, append_assoc) refl;
   fits = fits;
 }
 
@@ -128,6 +118,4 @@ pub encoded_last : (prefix up : Bool) (g : Groups) (old new : Stage) (x y chunk 
 unfolding groups_from
 encoded_last prefix up g old new x y chunk z has breaks due fits =
     let more = encoded_more prefix up g old new x y chunk z has breaks due fits in
-    sym (ap (encoded prefix up g) (sym (append-nil (x ++ chunk))) ∙ more.left []
-    ∙ ap (λ p. (y ++ z) ++ groups_from g new.column (full_text p up [])) due
-    ∙ ap (λ l. (y ++ z) ++ groups_from g new.column l) (hex_text-nil up) ∙ append_assoc y z (ended g new.column))
+    sym (rw (append-nil, due, hex_text-nil, append_assoc y z) at (more.left []))

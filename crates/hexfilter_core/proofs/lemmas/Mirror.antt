@@ -1,7 +1,9 @@
 -- What was encoded is decoded again.
-use Rattle.std.proofs.Common.{◌≡◌, ◌≢◌, ℕ, ◌+◌, ◌<◌, ◌≤◌, ◌==◌, ◌&&◌, ◌||◌, Bool, true, false, if◌then◌else◌, List, [], ◌∷◌, ◌++◌, length, min, Option, Some, Ok, refl, sym, ap, ◌∙◌, arith, append_assoc, append-nil, All}
+use Rattle.std.proofs.Common.{◌≡◌, ◌≢◌, ℕ, ◌+◌, ◌<◌, ◌≤◌, ◌==◌, ◌&&◌, ◌||◌, Bool, true, false, if◌then◌else◌, List, [], ◌∷◌, ◌++◌, length, min, Option, None, Some, Ok, refl, ap, ◌∙◌, arith, append_assoc, append-nil, All}
+use Rattle.std.proofs.KnownBytes.{Consumes-all}
 use Rattle.std.proofs.lemmas.Bool.Decides.{nat_tests}
 use Rattle.std.proofs.lemmas.List.Elements.{All-cons, All-head, All-nil, All-tail, All-weaker}
+use Rattle.std.specs.Io.KnownBytes.{Appends, Consumes}
 use Rattle.const_hex.proofs.lemmas.Decoding.{body-longer}
 use Rattle.const_hex.proofs.lemmas.Reading.{one_answer}
 use Rattle.const_hex.proofs.lemmas.RoundTrip.{Reads-full_text}
@@ -9,52 +11,56 @@ use Rattle.const_hex.specs.Prelude.{AreBytes, IsEven, Reads, body_of, AllDigits,
 use Rattle.const_hex_arch.proofs.lemmas.Digits.{digits_append}
 use Rattle.const_hex_arch.proofs.lemmas.Texts.{Spells-digits, Spells-hex_text}
 use Rattle.hexfilter_core.specs.Dumps.{FromHexError, Groups, HasError, IgnoresLines, InvalidHexCharacter, OddLength, Place, Reading, encoded, groups_from, is_whitespace, mirror, text_from, text_of}
-use Rattle.hexfilter_core.specs.Runs.{Decode, FailsWith, Makes}
+use Rattle.hexfilter_core.specs.Runs.{Decode, RunsToEnd, RunsToError}
 use Rattle.hexfilter_core.proofs.lemmas.Texts.{text-append}
+
+-- no whitespace
+abbrev IsVisible : ℕ → Type 0
+IsVisible b = is_whitespace b ≡ false
 
 abbrev reading : Bool → ℕ → ℕ → Reading
 reading i n s = record { is_check = false; ignore_whitespace = i; groups = record { size = n; separator = s } }
 
 -- lines without their ends, or a text without groups
-lines_read : (i : Bool) (n k : ℕ) (t : List ℕ) → (0 < n → i ≡ true) → k ≤ n → All (λ b. is_whitespace b ≡ false) t
+lines_read : (i : Bool) (n k : ℕ) (t : List ℕ) → (0 < n → i ≡ true) → k ≤ n → All IsVisible t
     → text_from (reading i 0 10) 0 (groups_from (record { size = n; separator = 10 }) k t) ≡ t
 unfolding groups_from text_from
 lines_read i n k [] all fits plain = grind (arith, nat_tests, all, fits)
 lines_read i n k (b ∷ t) all fits plain =
-    let one = All-head (λ b. is_whitespace b ≡ false) b t plain in
-    let rest = All-tail (λ b. is_whitespace b ≡ false) b t plain in
+    let one = All-head IsVisible b t plain in
+    let rest = All-tail IsVisible b t plain in
     let first = λ (h : 0 < n). lines_read i n 1 t all (omega (arith, h)) rest in
     let more = lines_read i n (min (k + 1) n) t all (omega arith) rest in
     grind (arith, nat_tests, all, one, first, more)
 
 -- groups without their separators
-groups_read : (i : Bool) (n s k : ℕ) (t : List ℕ) → k ≤ n → s ≢ 10 → All (λ b. is_whitespace b ≡ false) t
+groups_read : (i : Bool) (n s k : ℕ) (t : List ℕ) → k ≤ n → s ≢ 10 → All IsVisible t
     → text_from (reading i n s) k (groups_from (record { size = n; separator = s }) k t) ≡ t
 unfolding groups_from text_from
 groups_read i n s k [] fits other plain = grind (arith, nat_tests, other)
 groups_read i n s k (b ∷ t) fits other plain =
-    let one = All-head (λ b. is_whitespace b ≡ false) b t plain in
-    let rest = All-tail (λ b. is_whitespace b ≡ false) b t plain in
+    let one = All-head IsVisible b t plain in
+    let rest = All-tail IsVisible b t plain in
     let first = λ (h : 0 < n). groups_read i n s 1 t (omega (arith, h)) other rest in
     let more = groups_read i n s (min (k + 1) n) t (omega arith) other rest in
     grind (arith, nat_tests, fits, other, one, first, more)
 
-with_prefix : (prefix : Bool) (t : List ℕ) → All (λ b. is_whitespace b ≡ false) t
-    → All (λ b. is_whitespace b ≡ false) (prefix_of prefix ++ t)
+with_prefix : (prefix : Bool) (t : List ℕ) → All IsVisible t
+    → All IsVisible (prefix_of prefix ++ t)
 with_prefix true t h =
-    All-cons (λ b. is_whitespace b ≡ false) 48 (120 ∷ t) refl (All-cons (λ b. is_whitespace b ≡ false) 120 t refl h)
+    All-cons IsVisible 48 (120 ∷ t) refl (All-cons IsVisible 120 t refl h)
 with_prefix false t h = h
 
 text_plain_chars : (prefix up : Bool) (x : List ℕ) → AreBytes x
-    → All (λ b. is_whitespace b ≡ false) (full_text prefix up x)
+    → All IsVisible (full_text prefix up x)
 text_plain_chars prefix up x h =
     let digits =
-    All-weaker IsDigit (λ b. is_whitespace b ≡ false) (λ b h. grind (arith, nat_tests, h)) (hex_text up x)
+    All-weaker IsDigit IsVisible (λ b h. grind (arith, nat_tests, h)) (hex_text up x)
     (Spells-digits (hex_text up x) x (Spells-hex_text up x h)) in
     with_prefix prefix (hex_text up x) digits
 
 by_separator : (i : Bool) (n s : ℕ) (t : List ℕ) (lines : Bool) → (s == 10) ≡ lines
-    → All (λ b. is_whitespace b ≡ false) t
+    → All IsVisible t
     → let g : Groups = record { size = n; separator = s } in
     IgnoresLines i g → text_of (mirror i g) (groups_from g 0 t) ≡ t
 by_separator i n s t true e plain ignores =
@@ -75,22 +81,21 @@ body_front (c ∷ []) (d ∷ v) h = one_digit c d v _ refl h
 body_front (c ∷ d ∷ u) v h =
     ((digits_append (body_of (c ∷ d ∷ u)) v).0 (rw (body-longer (c ∷ d ∷ u) v (omega arith)) at h)).0
 
--- an input that has an error decodes to no bytes, whatever follows
-pub not_decoded : (r : Reading) (x rest y bytes : List ℕ) (e : FromHexError) (place : Option Place)
-    → HasError r (Some rest) x y e place → Reads (text_of r (x ++ rest)) (Ok bytes) → ⊥
-not_decoded r x rest y bytes OddLength place (none, end, odd, pairs) (even, spelled) =
-    let whole = ap (λ l. x ++ l) end ∙ append-nil x in
-    let same : IsEven (length (text_of r x)) = rw whole at even in omega (arith, odd, same)
-not_decoded r x rest y bytes (InvalidHexCharacter c k) place fails (even, spelled) =
+-- an input of which a part has an error decodes to no bytes
+pub not_decoded : (r : Reading) (whole : List ℕ) (left : Option (List ℕ)) (x y bytes : List ℕ) (e : FromHexError)
+    (place : Option Place) → Consumes (Some whole) left x → HasError r left x y e place
+    → Reads (text_of r whole) (Ok bytes) → ⊥
+not_decoded r whole None x y bytes e place read fails reads = read
+not_decoded r whole (Some rest) x y bytes OddLength place read (none, end, odd, pairs) (even, spelled) =
+    let same : IsEven (length (text_of r x)) = rw (read ∙ ap (λ l. x ++ l) end ∙ append-nil x) at even in
+    omega (arith, odd, same)
+not_decoded r whole (Some rest) x y bytes (InvalidHexCharacter c k) place read fails (even, spelled) =
     let front = fails.front ++ c ∷ [] in
     let more = fails.rest ++ rest in
-    let cut : x ++ rest ≡ front ++ more =
-    ap (λ l. l ++ rest) fails.cut ∙ append_assoc fails.front (c ∷ fails.rest) rest
-    ∙ sym (append_assoc fails.front (c ∷ []) more) in
-    let text = ap (text_of r) cut ∙ text-append r 0 front more in
-    let digits = Spells-digits (body_of (text_of r (x ++ rest))) bytes spelled in
-    fails.invalid (body_front (text_of r front) _ (rw text at digits))
-not_decoded r x rest y bytes _ place fails reads = fails
+    let cut : whole ≡ front ++ more = simp append_assoc (rw (fails.cut, append_assoc) at read) in
+    let digits = Spells-digits (body_of (text_of r whole)) bytes spelled in
+    fails.invalid (body_front (text_of r front) _ (rw (cut, text-append r 0 front more) at digits))
+not_decoded r whole left x y bytes _ place read fails reads = fails
 
 module _ (prefix up i : Bool) (g : Groups) (ignores : IgnoresLines i g) (bytes : List ℕ) (are : AreBytes bytes) where
   -- the bytes are what the text of the encoded bytes decodes to
@@ -100,13 +105,15 @@ module _ (prefix up i : Bool) (g : Groups) (ignores : IgnoresLines i g) (bytes :
       ∙ by_separator i g.size g.separator _ _ refl (text_plain_chars prefix up bytes are) ignores)
 
   -- the bytes are decoded again
-  pub decoded_again : (x y : List ℕ) → x ≡ encoded prefix up g bytes → Makes (Decode (mirror i g)) x y → y ≡ bytes
-  decoded_again x y is (found, reads, same) =
-      cc (one_answer _ (Ok found) (Ok bytes) reads (read x is))
+  pub decoded_again : (x : List ℕ) (left old new : Option (List ℕ)) → x ≡ encoded prefix up g bytes
+      → RunsToEnd (Decode (mirror i g)) (Some x) left old new → Appends old new bytes
+  decoded_again x left old new is (y, z, consumed, end, (found, reads, same), wrote) =
+      let whole = Consumes-all (Some x) left y [] y consumed end refl in
+      let again : found ≡ bytes = cc (one_answer _ (Ok found) (Ok bytes) reads (read y (whole ∙ is))) in
+      rw (same ∙ again) at wrote
 
   -- and never rejected
-  pub never_rejected : (x rest y : List ℕ) (e : FromHexError) (place : Option Place)
-      → encoded prefix up g bytes ≡ x ++ rest
-      → FailsWith (Decode (mirror i g)) (Some rest) x y e place → ⊥
-  never_rejected x rest y e place cut (found, fails, is) =
-      not_decoded (mirror i g) x rest found bytes e place fails (read (x ++ rest) (sym cut))
+  pub never_rejected : (x : List ℕ) (left old new : Option (List ℕ)) (e : FromHexError) (place : Option Place)
+      → x ≡ encoded prefix up g bytes → RunsToError (Decode (mirror i g)) (Some x) left old new e place → ⊥
+  never_rejected x left old new e place is (y, z, consumed, (found, fails, same), wrote) =
+      not_decoded (mirror i g) x left y found bytes e place consumed fails (read x is)

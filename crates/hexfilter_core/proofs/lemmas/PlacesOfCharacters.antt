@@ -5,6 +5,9 @@ use Rattle.std.proofs.lemmas.List.Elements.{All-head, All-tail}
 use Rattle.std.proofs.lemmas.List.Sums.{sum_by-cons}
 use Rattle.hexfilter_core.specs.Dumps.{IsPlace, Place, after, place_after}
 
+abbrev start : Place
+start = record { line = 1; column = 1 }
+
 abbrev step : Place → ℕ → Place
 step p b = record { line = if b == 10 then p.line + 1 else p.line; column = if b == 10 then 1 else p.column + 1 }
 
@@ -37,8 +40,8 @@ pub place_after_run : (x u : List ℕ) (p : Place) (count column : ℕ) → IsPl
 place_after_run x u p count column is size plain e = λ short.
     let before = is (omega (arith, short, length-append x u)) in
     let more = run (after x) u plain in
-    let few = (bounds (record { line = 1; column = 1 }) x (omega arith)).1 in
-    rw (place_after-append (record { line = 1; column = 1 }) x u)
+    let few = (bounds start x (omega arith)).1 in
+    rw (place_after-append start x u)
     (before.0 ∙ sym more.0, omega (arith, more.1, before.1, e, size, few, short, length-append x u))
 
 -- a newline
@@ -48,8 +51,8 @@ unfolding place_after
 place_after_newline x p line is e = λ short.
     let size = length-append x (10 ∷ []) in
     let before = is (omega (arith, short, size)) in
-    let few = (bounds (record { line = 1; column = 1 }) x (omega arith)).0 in
-    rw (place_after-append (record { line = 1; column = 1 }) x (10 ∷ []))
+    let few = (bounds start x (omega arith)).0 in
+    rw (place_after-append start x (10 ∷ []))
     (omega (arith, short, e, before.0, few, size), refl)
 
 newlines : (p : Place) (x : List ℕ) → (place_after p x).line ≡ p.line + count_by (λ b. b == 10) x
@@ -65,7 +68,6 @@ pub place_in_line : (x lines line : List ℕ) (p : Place) → IsPlace x p → x 
     → (p.line ≡ 2 + count_by (λ b. b == 10) lines) × (p.column ≡ 1 + length line)
 unfolding place_after
 place_in_line x lines line p is cut short plain =
-    let start : Place = record { line = 1; column = 1 } in
     let here = is short in
     let whole : after x ≡ place_after (step (after lines) 10) line =
     ap (place_after start) cut ∙ place_after-append start lines (10 ∷ line) in

@@ -1,8 +1,8 @@
 -- What errors and exit statuses say of decoders and runs.
-use Rattle.std.proofs.Common.{rules, ◌≡◌, ◌⊎◌, ◌++◌, ◌∙◌, ℕ, List, Option, Some, Result, Err, ap, append-nil, refl, sym, inl, inr, [], Bool, true, false, arith, OnErr, IfErr, OnOk}
+use Rattle.std.proofs.Common.{rules, ◌≡◌, ◌⊎◌, ◌++◌, ◌∙◌, ℕ, List, Option, Some, Result, Err, ap, refl, inl, inr, [], Bool, true, false, arith, OnErr, IfErr, OnOk}
 use Rattle.hexfilter_core.specs.Dumps.{FromHexError, Groups, Place, encoded, text_from}
 use Rattle.hexfilter_core.specs.Runs.{Mode, RunError, Text, Decode, Encode, Ends, EndsIf, IsFailedWrite, MakesBeginning, RunsPartly, RunsToEnd, RunsToError, status_of}
-use Rattle.std.proofs.KnownBytes.{Appends-nil, Consumes-nil}
+use Rattle.std.proofs.KnownBytes.{Appends-nil, Consumes-all, Consumes-nil}
 
 pub same_value : {V E : Type 0} (f g : E) → ◌≡◌ {A = Result V E} (Err f) (Err g) → f ≡ g
 same_value f g is = cc
@@ -47,4 +47,4 @@ pub text_written : (prefix up : Bool) (g : Groups) (bytes left old new : List �
     → RunsToEnd (Encode prefix up g) (Some bytes) (Some left) (Some old) (Some new) → new ≡ encoded prefix up g bytes
 text_written prefix up g bytes left old new none (x, y, read, end, is, wrote) =
     wrote ∙ ap (λ l. l ++ y) none ∙ is
-    ∙ ap (encoded prefix up g) (sym (read ∙ ap (λ l. x ++ l) end ∙ append-nil x))
+    ∙ ap (encoded prefix up g) (Consumes-all (Some bytes) (Some left) x [] x read end refl)

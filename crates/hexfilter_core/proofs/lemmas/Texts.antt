@@ -4,8 +4,8 @@ use borrow.Rule.Slice.PartMut.{put_mid, post_of}
 use Rattle.std.proofs.Common.{◌≡◌, ◌≢◌, ℕ, ◌+◌, ◌-◌, ◌*◌, ◌/◌, ◌<◌, ◌≤◌, ◌&&◌, min, if◌then◌else◌, Bool, true, false, List, [], ◌∷◌, ◌++◌, Option, None, Some, Ok, suc, zero, length, take, drop, get_or, refl, sym, ap, ◌∙◌, arith, append_assoc, length-append, All, nat_lt}
 use Rattle.std.proofs.Math.Seq.{take-add, take-append-add}
 use Rattle.std.proofs.lemmas.Bool.Decides.{nat_tests}
-use Rattle.std.proofs.lemmas.List.{append-nil, length-drop, length-take, length-take-le, take-append-drop, take-append-le, take-take, take_all, take_min, take_more}
-use Rattle.std.proofs.lemmas.List.Elements.{All-from_get_or, All-head, All-same, All-tail, All-take, All-weaker}
+use Rattle.std.proofs.lemmas.List.{append-nil, length-take, length-take-le, take-append-drop, take-append-le, take-take, take_all, take_min, take_more}
+use Rattle.std.proofs.lemmas.List.Elements.{All-head, All-tail}
 use Rattle.const_hex.proofs.lemmas.Decoding.{body-longer, body-shorter, read_digits, read_front}
 use Rattle.const_hex.specs.Prelude.{HasRead, counted, waiting_digit}
 use Rattle.const_hex_arch.proofs.lemmas.Texts.{Spells-length, Spells-parts}
@@ -50,19 +50,14 @@ kept_run r k (b ∷ x) h fits all =
     (All-tail (λ b. (r.ignore_whitespace && is_whitespace b) ≡ false) b x all) in
     (rw (one.0, rest.0) refl, omega (arith, rest.1, one.1, h))
 
-all_kept : (r : Reading) (x : List ℕ) → leaves_out r ≡ false
-    → All (λ b. (r.ignore_whitespace && is_whitespace b) ≡ false) x
-all_kept r x h =
-    let none : r.ignore_whitespace ≡ false = grind (arith, nat_tests, h) in
-    All-from_get_or (λ b. (r.ignore_whitespace && is_whitespace b) ≡ false) x 0 (λ i inside. rw none refl)
-
 no_groups : (r : Reading) → leaves_out r ≡ false → r.groups.size ≡ 0
 no_groups r h = grind (arith, nat_tests, h)
 
 -- an input of which nothing is left out
 pub text_plain : (r : Reading) (x : List ℕ) → leaves_out r ≡ false → text_of r x ≡ x
-text_plain r x h =
-    (kept_run r 0 x (omega arith) (λ some. omega (arith, no_groups r h, some)) (all_kept r x h)).0
+unfolding text_from
+text_plain r [] h = refl
+text_plain r (b ∷ x) h = grind (arith, nat_tests, h, text_plain r x h)
 
 pub plain_added : (r : Reading) (s : Scanner) (x u : List ℕ) → leaves_out r ≡ false → HasScanned r s x
     → HasAdded r s x u u
@@ -95,14 +90,12 @@ pub high_added : (r : Reading) (s : Scanner) (column : ℕ) (place : Place) (x u
     → (IsPlace x s.place → All (λ b. b ≢ 10) u → IsPlace (x ++ u) place)
     → HasAdded r (record { column = column; place = place }) x u u
 high_added r s column place x u is above fits at goes =
-    let all = All-weaker (λ b. nat_lt b 33 ≡ false) (λ b. (r.ignore_whitespace && is_whitespace b) ≡ false)
-    (λ b h. (high r.ignore_whitespace b h).0) u above in
-    let none = All-weaker (λ b. nat_lt b 33 ≡ false) (λ b. b ≢ 10) (λ b h. (high r.ignore_whitespace b h).1) u above in
-    let kept = kept_run r s.column u (omega (arith, is.next, next_bound r 0 x (omega arith))) fits all in record {
+    let kept = kept_run r s.column u (omega (arith, is.next, next_bound r 0 x (omega arith))) fits
+    (λ k d inside. (high r.ignore_whitespace _ (above k d inside)).0) in record {
       text = text-append r 0 x u ∙ ap (λ t. text_of r x ++ t) (rw is.next at kept.0);
       scanned = record {
         next = at ∙ sym (next-append r 0 x u ∙ ap (λ k. next_from r k u) (sym is.next) ∙ kept.1);
-        place = λ some. goes (is.place some) none;
+        place = λ some. goes (is.place some) (λ k d inside. (high r.ignore_whitespace _ (above k d inside)).1);
       };
     }
 
@@ -117,29 +110,11 @@ take_put a m k xs ys started within =
     ∙ ap (λ l. take a xs ++ l) (take-append-le k ys (post_of a m xs) within) in
     rw front at both
 
-pub fewer_copied : (m n : ℕ) (xs ys : List ℕ) → n ≤ m → take m ys ≡ take m xs → take n ys ≡ take n xs
-fewer_copied m n xs ys few same = sym (take-take n m ys few) ∙ ap (take n) same ∙ take-take n m xs few
-
-pub fewer_high : (m n : ℕ) (xs : List ℕ) → n ≤ m → All (λ b. nat_lt b 33 ≡ false) (take m xs)
-    → All (λ b. nat_lt b 33 ≡ false) (take n xs)
-fewer_high m n xs few high =
-    All-same (λ b. nat_lt b 33 ≡ false) _ _ (sym (take-take n m xs few))
-    (All-take (λ b. nat_lt b 33 ≡ false) n (take m xs) high)
-
-pub part_size : (chunk : List ℕ) (done size k : ℕ) → done + size ≤ length chunk → k ≡ size
-    → length (take k (drop done chunk)) ≡ size
-part_size chunk done size k within e = omega (arith, e, within, length-take k (drop done chunk), length-drop done chunk)
-
 -- n more after the first `done` of a chunk
 pub joined : (x chunk : List ℕ) (done n : ℕ) → done ≤ length chunk
     → (x ++ take done chunk) ++ take n (take (length chunk - done) (drop done chunk)) ≡ x ++ take (done + n) chunk
 joined x chunk done n started =
     grind (arith, common_steps, take-add done n chunk)
-
-pub part_joined : (x chunk : List ℕ) (done size k : ℕ) → k ≡ size
-    → (x ++ take done chunk) ++ take k (drop done chunk) ≡ x ++ take (done + size) chunk
-part_joined x chunk done size k e =
-    grind (arith, common_steps, take-add done size chunk)
 
 -- one more
 pub joined_one : (x chunk : List ℕ) (done : ℕ) → done < length chunk

@@ -121,7 +121,7 @@ impl Stage {
         let mut end = 0;
         'bytes: for done in 0..chunk.len() {
             let mut next = self.clone();
-            match next.decode_part(reading, &chunk[done..done + 1], text, &mut output[end..]) {
+            match next.decode_part(reading, &[chunk[done]], text, &mut output[end..]) {
                 Ok(count) => {
                     *self = next;
                     end += count;

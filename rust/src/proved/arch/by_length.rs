@@ -21,6 +21,7 @@ impl<const N: usize, V: LaneOps<N> + LaneOps<16>> Kernel for ByLength<N, V> {
 
     #[inline(always)]
     fn fill(input: &[u8], upper: bool, output: &mut [u8]) {
+        // First the length of many identifiers, which one step fills.
         if input.len() == 16 {
             steps::fill_step::<16, V>(input, upper, output);
         } else if input.len() < 16 {
@@ -45,7 +46,8 @@ impl<const N: usize, V: LaneOps<N> + LaneOps<16>> Kernel for ByLength<N, V> {
         }
     }
 
-    /// Before an invalid character all whole steps are decoded, and of a remainder of less than 16 bytes all pairs.
+    /// Before an invalid character all whole steps are decoded, as const-hex decodes them, and of a remainder of less than
+    /// 16 bytes all pairs.
     #[inline(always)]
     fn decode_checked(input: &[u8], output: &mut [u8]) -> bool {
         Self::decode_all(input, output) || long::decode_front::<N, V>(input, output)
@@ -53,12 +55,13 @@ impl<const N: usize, V: LaneOps<N> + LaneOps<16>> Kernel for ByLength<N, V> {
 
     #[inline(always)]
     fn decode_all(input: &[u8], output: &mut [u8]) -> bool {
-        // So a function that is not inlined needs no register for the length of the text.
+        // The text as long as the output needs it: so a function that is not inlined, such as `read` of const_hex_c, takes
+        // no length of the text.
         let text = &input[..2 * output.len()];
         if output.len() <= 16 {
             short::decode::<V>(text, output)
         } else if output.len() <= N {
-            short::decode_pair::<N, V>(text, N / 2, output)
+            short::decode_pair::<N, V>(text, output)
         } else {
             long::decode::<N, V>(text, output)
         }
@@ -67,6 +70,7 @@ impl<const N: usize, V: LaneOps<N> + LaneOps<16>> Kernel for ByLength<N, V> {
     #[inline(always)]
     fn decode_unchecked(input: &[u8], output: &mut [u8]) {
         if output.len() < N {
+            // It checks them once more, and returns true.
             Self::decode_all(input, output);
         } else {
             long::decode_digits::<N, V>(input, output);

@@ -1,7 +1,7 @@
 // Made by rust/erase from crates/const_hex_arch/src/arch/short.rt. Do not edit.
-//! Short inputs: all of their bytes are among the first and the last ones, which one or two vectors hold.
+//! Short inputs, by two loads: one at the start and one at the end, which may overlap. So some bytes are taken twice.
 //!
-//! `V` has the operations on vectors. Where the first and the last bytes overlap, some are taken twice.
+//! `V` has the operations on vectors. Digits of fewer than 16 bytes are made in the same way for each `V`.
 
 use crate::std_shim::prelude::*;
 use crate::proved::arch::lanes::{self, LaneOps};
@@ -39,7 +39,7 @@ fn fill_end<const H: usize>(bytes: &[u8], upper: bool, output: &mut [u8]) {
 }
 
 /// Fills the output with the text of `N` to `2 * N` bytes: that of the last `N`, and that of the first `N`.
-// In this order, since LLVM would jump to the end of `long::fill` for the last ones.
+// In this order: if the last ones came last, LLVM would share their code with `long::fill`, by a jump.
 #[inline(always)]
 pub(crate) fn fill_pair<const N: usize, V: LaneOps<N>>(bytes: &[u8], upper: bool, output: &mut [u8]) {
     let start = bytes.len() - N;
@@ -79,7 +79,7 @@ pub(crate) fn check_pair<const N: usize, V: LaneOps<N>>(text: &[u8]) -> bool {
 #[inline(always)]
 pub(crate) fn decode<V: LaneOps<16>>(text: &[u8], output: &mut [u8]) -> bool {
     if output.len() >= 8 {
-        decode_pair::<16, V>(text, 8, output)
+        decode_pair::<16, V>(text, output)
     } else if output.len() >= 4 {
         decode_ends::<4, V>(text, output)
     } else if output.len() >= 2 {
@@ -92,28 +92,28 @@ pub(crate) fn decode<V: LaneOps<16>>(text: &[u8], output: &mut [u8]) -> bool {
 /// As `decode`, for `H` to `2 * H` bytes: the characters of the first `H` and of the last `H` are in one vector.
 #[inline(always)]
 fn decode_ends<const H: usize, V: LaneOps<16>>(text: &[u8], output: &mut [u8]) -> bool {
-    let lanes = load_ends(text, 2 * H);
-    let are_digits = lanes::are_digits::<16, V>(lanes);
+    let ends = load_ends(text, 2 * H);
+    let are_digits = lanes::are_digits::<16, V>(ends);
     if are_digits {
-        let bytes = lanes::decode::<16, V>(lanes, lanes).to_array();
+        // Of two vectors it makes one. The first half is enough.
+        let bytes = lanes::decode::<16, V>(ends, ends).to_array();
         copy_ends(&bytes[..2 * H], H, output);
     }
     are_digits
 }
 
-/// As `decode`, for `half` to `N` bytes, where `half` is half of `N`: a vector has the first `N` characters, and another
-/// one the last `N`.
+/// As `decode`, for `N / 2` to `N` bytes: a vector has the first `N` characters, and another one the last `N`.
 #[inline(always)]
-pub(crate) fn decode_pair<const N: usize, V: LaneOps<N>>(
-    text: &[u8],
-    half: usize,
-    output: &mut [u8],
-) -> bool {
+pub(crate) fn decode_pair<const N: usize, V: LaneOps<N>>(text: &[u8], output: &mut [u8]) -> bool {
     let are_digits = check_pair::<N, V>(text);
     if are_digits {
         let first = Simd::from_slice(text);
         let last = Simd::from_slice(&text[text.len() - N..]);
-        copy_ends(&lanes::decode::<N, V>(first, last).to_array(), half, output);
+        copy_ends(
+            &lanes::decode::<N, V>(first, last).to_array(),
+            N / 2,
+            output,
+        );
     }
     are_digits
 }
@@ -127,14 +127,14 @@ fn load(bytes: &[u8]) -> [u8; 8] {
 }
 
 /// Puts the first `count` bytes and the last `count` bytes into the first lanes, and digits into the others.
-// By a sum: if the digits stood in the same array, LLVM would insert each of them.
+// The digits are added: if they stood in the same array, LLVM would insert them one by one.
 #[inline(always)]
 fn load_ends<const N: usize>(bytes: &[u8], count: usize) -> Simd<u8, N> {
     let mut ends = [0; N];
     copy_ends(bytes, count, &mut ends[..2 * count]);
-    let mut digits = [b'0'; N];
-    digits[..2 * count].copy_from_slice(&[0; N][..2 * count]);
-    Simd::from_slice(&ends) + Simd::from_slice(&digits)
+    let mut padding = [b'0'; N];
+    padding[..2 * count].copy_from_slice(&[0; N][..2 * count]);
+    Simd::from_slice(&ends) + Simd::from_slice(&padding)
 }
 
 /// Copies the first `count` bytes to the start of the output, and the last `count` bytes to its end.

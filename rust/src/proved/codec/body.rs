@@ -28,10 +28,11 @@ pub(crate) const fn strip_even(text: &[u8]) -> Result<&[u8], FromHexError> {
 // Constant time: both characters are compared as one number of 16 bits, the first one as its lower byte. If
 // they were compared one after the other, a valid text without a prefix would take another path when its
 // first digit is `0`.
+// `0X` has the distance 0 and `0x` 0x2000. Without the subtraction LLVM loads the two characters one by one.
 #[inline(always)]
 pub(crate) const fn is_prefix(first: u8, second: u8) -> bool {
-    let pair = u16::from_le_bytes([first, second]);
-    pair == 0x7830 || pair == 0x5830
+    let distance = u16::from_le_bytes([first, second]).wrapping_sub(0x5830);
+    (distance % 0x2000 == 0) & (distance < 0x4000)
 }
 
 /// Whether both bytes are digits.
@@ -44,34 +45,20 @@ pub(crate) fn are_digits(first: u8, second: u8) -> bool {
 /// The error that names the first byte of a text's body that is not a digit, and its position in the
 /// whole text. The text must have an even length.
 #[inline(always)]
-pub(crate) fn find_invalid_character<K: Kernel>(text: &[u8], body: &[u8]) -> FromHexError {
-    let prefix = text.len() - body.len();
-    if let Some(c) = invalid_first(body) {
-        return FromHexError::InvalidHexCharacter { c, index: prefix };
-    }
-    let (c, index) = locate_invalid::<K>(body);
-    FromHexError::InvalidHexCharacter {
-        c,
-        index: index + prefix,
-    }
+pub(crate) fn find_invalid_character<K: Kernel>(text: &[u8]) -> FromHexError {
+    let (c, index) = locate_invalid::<K>(text);
+    FromHexError::InvalidHexCharacter { c, index }
 }
 
-/// The first byte, if it is not a digit. Callers ask for it before they search.
-#[inline(always)]
-pub(crate) fn invalid_first(text: &[u8]) -> Option<char> {
-    match text {
-        [first, ..] if value_at(*first) == NIL => Some(char::from(*first)),
-        _ => None,
-    }
-}
-
-/// As `find_first_bad`, with the byte as a character.
-// Not inlined: so the search stands once, and the public decoders stay small.
+/// The first byte after the prefix that is not a digit, and its position in the whole text. If there is
+/// none, a NUL character and the length of the text.
+// Not inlined, and of the text alone: so the search stands once, and the public decoders keep nothing for it but that.
 #[cold]
 #[inline(never)]
-pub(crate) fn locate_invalid<K: Kernel>(text: &[u8]) -> (char, usize) {
-    let (byte, index) = find_first_bad::<K>(text);
-    (byte as char, index)
+fn locate_invalid<K: Kernel>(text: &[u8]) -> (char, usize) {
+    let body = strip_prefix(text);
+    let (byte, index) = find_first_invalid::<K>(body);
+    (byte as char, index + (text.len() - body.len()))
 }
 
 /// The error that names a byte and its position.
@@ -86,15 +73,44 @@ pub(crate) const fn invalid_character(byte: u8, index: usize) -> FromHexError {
 /// The first byte that is not a digit, and its index. If there is none, a NUL character and the
 /// length of the text.
 #[inline(always)]
-pub(crate) fn find_first_bad<K: Kernel>(text: &[u8]) -> (u8, usize) {
-    find_first_bad_from(text, skip_pairs(text, K::skip_digits(text)))
+pub(crate) fn find_first_invalid<K: Kernel>(text: &[u8]) -> (u8, usize) {
+    let start = if text.len() < 128 {
+        0
+    } else {
+        skip_halves::<K>(text)
+    };
+    find_first_invalid_from(text, skip_fours(text, start))
 }
 
-/// As `find_first_bad`, for a text that begins with that many digits.
+/// Where to search for the first byte that is not a digit: all bytes before are digits. The kernel checks the first half
+/// of the text, then that of the half that has an invalid byte, and so on.
+// Not inlined: so `machine_code` proves it once, and takes its contract where it is called. It proves no call in a loop.
+#[inline(never)]
+fn skip_halves<K: Kernel>(text: &[u8]) -> usize {
+    let start = skip_run::<K>(text, 0, text.len() / 2);
+    let start = skip_run::<K>(text, start, text.len() / 4);
+    let start = skip_run::<K>(text, start, text.len() / 8);
+    let start = skip_run::<K>(text, start, text.len() / 16);
+    let start = skip_run::<K>(text, start, text.len() / 32);
+    skip_run::<K>(text, start, text.len() / 64)
+}
+
+/// Skips a run of this size after the first digits, if it has only digits. Returns the index after it.
+#[inline(always)]
+fn skip_run<K: Kernel>(text: &[u8], start: usize, size: usize) -> usize {
+    let end = start + size;
+    if K::check(&text[start..end]) {
+        end
+    } else {
+        start
+    }
+}
+
+/// As `find_first_invalid`, for a text that begins with that many digits.
 // A caller that has already seen an invalid character may get the NUL character, if another process has
 // removed it from shared memory in between. Nothing is read out of bounds then.
 #[inline(always)]
-pub(crate) const fn find_first_bad_from(text: &[u8], start: usize) -> (u8, usize) {
+pub(crate) const fn find_first_invalid_from(text: &[u8], start: usize) -> (u8, usize) {
     let mut index = start;
     'digits: while index < text.len() {
         let byte = text[index];
@@ -110,7 +126,7 @@ pub(crate) const fn find_first_bad_from(text: &[u8], start: usize) -> (u8, usize
 /// that has another byte. Returns the index there.
 // With the last index at which four bytes are left, LLVM needs no test of an index in Rust either.
 #[inline(always)]
-fn skip_pairs(text: &[u8], start: usize) -> usize {
+fn skip_fours(text: &[u8], start: usize) -> usize {
     let mut index = start;
     if text.len() >= 4 {
         let last = text.len() - 4;

@@ -3,7 +3,7 @@
 
 use crate::std_shim::prelude::*;
 use crate::proved::codec::body::{
-    find_first_bad_from, find_invalid_character, invalid_character, strip_even, strip_prefix,
+    find_first_invalid_from, find_invalid_character, invalid_character, strip_even, strip_prefix,
 };
 use crate::proved::error::FromHexError;
 use crate::proved::{FixedKernel, Kernel};
@@ -25,7 +25,7 @@ pub fn check_with<K: Kernel>(input: &[u8]) -> Result<(), FromHexError> {
     if K::check(body) {
         Ok(())
     } else {
-        Err(find_invalid_character::<K>(input, body))
+        Err(find_invalid_character::<K>(input))
     }
 }
 
@@ -39,7 +39,7 @@ pub const fn const_check(input: &[u8]) -> Result<(), FromHexError> {
         return Err(FromHexError::OddLength);
     }
     let body = strip_prefix(input);
-    let (byte, index) = find_first_bad_from(body, 0);
+    let (byte, index) = find_first_invalid_from(body, 0);
     if index < body.len() {
         return Err(invalid_character(byte, index + input.len() - body.len()));
     }
@@ -59,5 +59,5 @@ pub fn check_raw(input: &[u8]) -> bool {
 /// `check_raw`.
 #[inline]
 pub const fn const_check_raw(input: &[u8]) -> bool {
-    find_first_bad_from(input, 0).1 == input.len()
+    find_first_invalid_from(input, 0).1 == input.len()
 }

@@ -2,7 +2,9 @@
 //! Decoding a text that arrives in chunks.
 
 use crate::std_shim::prelude::*;
-use crate::proved::codec::body::{decode_body, find_first_bad, invalid_character, is_prefix, strip_prefix};
+use crate::proved::codec::body::{
+    decode_body, find_first_invalid, invalid_character, is_prefix, strip_prefix,
+};
 use crate::proved::error::FromHexError;
 use crate::proved::{FixedKernel, Kernel, is_digit};
 
@@ -181,7 +183,7 @@ impl Decoder {
     #[cold]
     #[inline]
     fn fail<K: Kernel>(&mut self, skipped: usize, digits: &[u8]) -> FromHexError {
-        let (byte, index) = find_first_bad::<K>(digits);
+        let (byte, index) = find_first_invalid::<K>(digits);
         let index = self.index.saturating_add(skipped).saturating_add(index);
         *self = Decoder {
             index,

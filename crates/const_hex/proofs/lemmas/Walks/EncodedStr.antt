@@ -23,7 +23,7 @@ use denote.Slice.{slice_ty, finally, MutSlice, ShrSlice, mut_slice_vals, mut_sli
 use denote.Text.{str-field, str-laws, str-copy}
 use Rattle.std.specs.Borrow.{Array, full_share}
 use Rattle.std.specs.Io.BufRead.{Rests}
-use Rattle.const_hex.specs.Prelude.{hex_text, EndsEncoded, InvalidStringLength}
+use Rattle.const_hex.specs.Prelude.{hex_text, InvalidStringLength}
 use Rattle.const_hex.specs.contracts.error.FromHexError as refusal
 use Rattle.const_hex.specs.contracts.codec.encoders.encode_to_str as e
 use Rattle.const_hex.specs.contracts.codec.encoders.encode_into as g
@@ -100,7 +100,7 @@ module _ {M : Type 1} (𝓤 : Ura M) (𝓛 : Logic 𝓤) (𝓜 : Model 𝓤 𝓛
     ensures = λ ghost r at. sep 𝓤 (fact 𝓤 (IsOk r ↔ (length a.1.0.now ≡ 2 * length a.0.now)))
         (sep 𝓤 (fact 𝓤 (IfOk r (λ text. text.now ≡ hex_text up a.0.now)))
         (sep 𝓤 (fact 𝓤 (IfErr r (λ x. x ≡ InvalidStringLength)))
-        (sem 𝓛 (EndsEncoded up a.0.now a.1.0 r))));
+        (sem 𝓛 (Rests (Array u8 0) a.1.0 (λ new. MatchResult r (λ _. new ≡ hex_text up a.0.now) (λ _. new ≡ a.1.0.now))))));
   }
 
   pub text_or_error : (up : Bool) (self : Callee)
@@ -198,7 +198,8 @@ module _ {M : Type 1} (𝓤 : Ura M) (𝓛 : Logic 𝓤) (𝓜 : Model 𝓤 𝓛
       (ends_at 𝓛 e.ended hs c ((κs, qs, bounds, a, (shr_slice_vals x, (mut_slice_vals o, tt))), tt) v' r (tt, (tt, tt))
       (tt, (tt, tt))) $
       let ended = ends r fits lent filled kept in
-      move ! (2 ∷ []) $ use1 𝓛 (‵ (EndsEncoded up x.now o r))
+      move ! (2 ∷ []) $ use1 𝓛
+      (‵ (Rests (Array u8 0) o (λ new. MatchResult r (λ _. new ≡ hex_text up x.now) (λ _. new ≡ o.now))))
       (Rests-of o (λ new. MatchResult r (λ _. new ≡ hex_text up x.now) (λ _. new ≡ o.now)) s.now ended.1) $
       -- [what follows the loan; the result; the tokens]
       move ! (1 ∷ 0 ∷ []) $ nothing ! $ nothing ! $ join ! $ nothing ! $ join ! $ move ! (3 ∷ 0 ∷ 1 ∷ []) $ group ! 3 $

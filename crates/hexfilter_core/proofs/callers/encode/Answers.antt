@@ -1,28 +1,23 @@
-use Rattle.std.proofs.Common.{◌≡◌, ◌∙◌, [], ℕ, List, None, Ok, ap, append-nil, arith, false, refl, sym}
+use Rattle.std.proofs.Common.{◌≡◌, ◌∙◌, [], ℕ, List, None, append-nil, arith, false, refl, sym}
 use Rattle.hexfilter_core.proofs.lemmas.Groups.{without_groups}
 use Rattle.hexfilter_core.proofs.lemmas.Runs.{ends_always, not_rejected}
 use Rattle.hexfilter_core.specs.Dumps.{Groups, encoded, full_text, groups_from}
-use Rattle.hexfilter_core.specs.Options.{Run, request_for, with_arguments}
+use Rattle.hexfilter_core.specs.Options.{with_arguments}
 use Rattle.hexfilter_core.specs.Runs.{Encode, Mode}
 use Rattle.hexfilter_core.proofs.callers.encode.Goals as goal
 
 abbrev plain : Groups
 plain = record { size = 0; separator = 10 }
 
-asked : (words : List (List ℕ)) → words ≡ [] → request_for words ≡ Ok (Run (Encode false false plain) None)
-unfolding with_arguments
-asked words is = rw is refl
-
 text : (x : List ℕ) → encoded false false plain x ≡ full_text false false x
 unfolding groups_from
-text x =
-    let t = full_text false false x in
-    ap (groups_from plain 0) (sym (append-nil t)) ∙ without_groups plain 0 t [] refl (omega arith) ∙ append-nil t
+text x = simp append-nil at (without_groups plain 0 (full_text false false x) [] refl (omega arith))
 
 pub returns : goal.returns
+unfolding with_arguments
 returns g c =
     let m : Mode = Encode false false plain in
-    let ends = ends_always _ m _ _ _ _ _ (c.program.ensures.input m None (asked _ c.requires) refl) in record {
+    let ends = ends_always _ m _ _ _ _ _ (c.program.ensures.input m None (rw c.requires refl) refl) in record {
       done = λ zero. let (x, y, read, end, is, wrote) = ends.0 zero in (x, read, end, rw (is ∙ text x) at wrote);
       begun = λ three.
           let (x, y, read, (rest, is), wrote) = ends.2 three in (x, y, rest, read, sym (text x) ∙ is, wrote);

@@ -1,6 +1,7 @@
-use Rattle.std.proofs.Common.{arith, ◌++◌, ◌∙◌, None, Some, ap, refl, sym, append-nil}
+use Rattle.std.proofs.Common.{arith, ◌≡◌, ◌∙◌, None, Some, refl}
+use Rattle.std.specs.Process.{exit_status}
 use Rattle.const_hex.specs.Prelude.{AreBytes}
-use Rattle.hexfilter_core.specs.Dumps.{mirror}
+use Rattle.hexfilter_core.specs.Dumps.{encoded, mirror}
 use Rattle.hexfilter_core.specs.Runs.{Decode, Encode, Mode}
 use Rattle.hexfilter_core.proofs.lemmas.Arguments.{asked}
 use Rattle.hexfilter_core.proofs.lemmas.Mirror.{decoded_again, never_rejected}
@@ -15,20 +16,18 @@ returns g c =
     let bytes = c.args.bytes.now in
     let first = ends_always _ m _ _ _ _ _ (c.program-written.ensures.input m None (asked m _ write) refl) in
     let second = ends_always _ n _ _ _ _ _ (c.program.ensures.input n None (asked n _ read) refl) in
-    let are : AreBytes bytes = λ k. let fits = c.type_inv.bytes k in omega (arith, fits) in record {
+    let are : AreBytes bytes = λ k. let fits = c.type_inv.bytes k in omega (arith, fits) in
+    let input = c.as_slice-input.result.now in
+    let rest = Some c.program.new.input.now in
+    let old = g.W.Write.contents c.args.output.now in
+    let new = g.W.Write.contents c.program.new.output in
+    let text : exit_status c.program-written.result ≡ 0 → input ≡ encoded prefix up groups bytes =
+    λ zero. c.as_slice-input.ensures.value ∙ text_written prefix up groups bytes _ _ _ c.requires.empty (first.0 zero) in record {
       written = not_rejected m _ (Some bytes) (Some c.program-written.new.input.now) (Some c.args.text.now.items)
           (Some c.program-written.new.output.items) first
           (λ e place rejected. let (x, y, read, fails, wrote) = rejected in fails);
       done = λ zero again.
-          let encoded = text_written prefix up groups bytes _ _ _ c.requires.empty (first.0 zero) in
-          let (t, z, consumed, end, makes, wrote) = second.0 again in
-          let whole = sym (consumed ∙ ap (λ l. t ++ l) end ∙ append-nil t) ∙ c.as_slice-input.ensures.value ∙ encoded in
-          rw (decoded_again prefix up ignores groups lines bytes are t z whole makes) at wrote;
-      never_text = λ zero.
-          let encoded = text_written prefix up groups bytes _ _ _ c.requires.empty (first.0 zero) in
-          not_rejected n _ (Some c.as_slice-input.result.now) (Some c.program.new.input.now)
-          (g.W.Write.contents c.args.output.now) (g.W.Write.contents c.program.new.output) second
-          (λ e place rejected. let (t, z, consumed, fails, wrote) = rejected in
-          never_rejected prefix up ignores groups lines bytes are t c.program.new.input.now z e place
-          (sym encoded ∙ sym c.as_slice-input.ensures.value ∙ consumed) fails);
+          decoded_again prefix up ignores groups lines bytes are input rest old new (text zero) (second.0 again);
+      never_text = λ zero. not_rejected n _ (Some input) rest old new second (λ e place rejected.
+          never_rejected prefix up ignores groups lines bytes are input rest old new e place (text zero) rejected);
     }

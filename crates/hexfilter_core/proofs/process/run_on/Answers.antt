@@ -1,4 +1,4 @@
-use Rattle.std.proofs.Common.{◌≡◌, ◌∙◌, List, ℕ, Some, Option, true, false, refl, sym, ap, Bor, option_copied}
+use Rattle.std.proofs.Common.{◌≡◌, List, ℕ, Some, Option, true, false, refl, Bor, option_copied}
 use Rattle.hexfilter_core.proofs.lemmas.Runs.{ends}
 use Rattle.hexfilter_core.proofs.process.run_on.Goals as goal
 
@@ -8,26 +8,26 @@ same_name name b n is named = cc
 
 pub returns-then-is_output-clause-file : goal.returns-then-is_output-clause-file
 returns-then-is_output-clause-file g c = λ n named.
-    let written : g.H.Host.is_written c.args.host.now (Some n) ≡ true =
-    ap (g.H.Host.is_written c.args.host.now) (sym named) ∙ sym c.is_output.ensures ∙ c.if-is_output.true in
+    let written : g.H.Host.is_written c.args.host.now (Some n) ≡ true = cc in
     (refl, (g.H.Host.bytes c.args.host.now n, rw written (refl, refl, refl)))
 
 pub returns-in-Ok-clause-file : goal.returns-in-Ok-clause-file
 returns-in-Ok-clause-file g c = λ n named.
     let name = same_name c.args.name c.in-Some.name n c.in-Some.is named in
-    let written : g.H.Host.is_written c.args.host.now (Some n) ≡ false =
-    ap (g.H.Host.is_written c.args.host.now) (sym named) ∙ sym c.is_output.ensures ∙ c.if-is_output.false in
-    let opened : g.H.Host.can_open c.args.host.now n ≡ true =
-    ap (g.H.Host.can_open c.args.host.now) (sym name) ∙ sym c.in-Ok.ensures.can in
-    let bytes = c.in-Ok.ensures.bytes ∙ ap (g.H.Host.bytes c.args.host.now) name in
-    let ran = c.run-in-Ok.ensures in
-    (refl, (g.H.File.Read.remaining c.run-in-Ok.new.input, rw (written, opened, ← bytes) (ends c.args.mode _ _ _ _ c.run-in-Ok.result ran.ok ran.text ran.begun)))
+    let written : g.H.Host.is_written c.args.host.now (Some n) ≡ false = cc in
+    let opened : g.H.Host.can_open c.args.host.now n ≡ true = cc c.in-Ok.ensures.can in
+    let bytes : g.H.File.Read.remaining c.in-Ok.file ≡ g.H.Host.bytes c.args.host.now n = cc c.in-Ok.ensures.bytes in
+    let ran = c.run-in-Ok.ensures in (
+      refl,
+      (
+        g.H.File.Read.remaining c.run-in-Ok.new.input,
+        rw (written, opened, ← bytes) (ends c.args.mode _ _ _ _ c.run-in-Ok.result ran.ok ran.text ran.begun),
+      ),
+    )
 
 pub returns-in-Err-clause-file : goal.returns-in-Err-clause-file
 returns-in-Err-clause-file g c = λ n named.
     let name = same_name c.args.name c.in-Some.name n c.in-Some.is named in
-    let written : g.H.Host.is_written c.args.host.now (Some n) ≡ false =
-    ap (g.H.Host.is_written c.args.host.now) (sym named) ∙ sym c.is_output.ensures ∙ c.if-is_output.false in
-    let opened : g.H.Host.can_open c.args.host.now n ≡ false =
-    ap (g.H.Host.can_open c.args.host.now) (sym name) ∙ sym c.in-Err.ensures.can in
+    let written : g.H.Host.is_written c.args.host.now (Some n) ≡ false = cc in
+    let opened : g.H.Host.can_open c.args.host.now n ≡ false = cc c.in-Err.ensures.can in
     (refl, (g.H.Host.bytes c.args.host.now n, rw (written, opened) (refl, refl, refl)))

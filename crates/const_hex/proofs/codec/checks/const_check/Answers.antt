@@ -7,8 +7,8 @@ use Rattle.const_hex.proofs.codec.checks.const_check.Goals as goal
 pub returns-then-index-body : goal.returns-then-index-body
 returns-then-index-body c =
     let t = c.args.input.now in
-    let found = c.find_first_bad_from-byte.ensures in
-    let p = c.find_first_bad_from-byte.result.1 in
+    let found = c.find_first_invalid_from-byte.ensures in
+    let p = c.find_first_invalid_from-byte.result.1 in
     let body = c.strip_prefix-body.ensures.body in
     let bad = found.bad (λ all. absurd (omega (arith, found.all.1 all, c.if-index-body.true))) in
     let at : p + length t - length (body_of t) ≡ p + (length t - length (body_of t)) = omega (arith, body-shorter t) in
@@ -17,7 +17,7 @@ returns-then-index-body c =
 
 pub returns : goal.returns
 returns c =
-    let found = c.find_first_bad_from-byte.ensures in
+    let found = c.find_first_invalid_from-byte.ensures in
     ChecksText-from_Checks c.args.input.now (Ok tt)
     (Reads-digits c.args.input.now (omega (arith, c.if-input-ne0.false))
     (rw (← c.strip_prefix-body.ensures.body) (found.all.0 (omega (arith, found.within, c.if-index-body.false)))))

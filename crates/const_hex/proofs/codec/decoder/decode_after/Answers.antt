@@ -15,19 +15,19 @@ returns-then-decode_body-clause-spells g c = λ h.
     (Spells-append (c.args.high ∷ get_or digits 0 0 ∷ []) _ (take (2 * m) rest) _ (c.if-decode_body.ensures.spells refl)
     (rw (take_rest digits 1) at (c.decode_digits.ensures.spells h)))
 
-pub returns-then-decode_body-clause-refused : goal.returns-then-decode_body-clause-refused
-returns-then-decode_body-clause-refused g c = λ h.
+pub returns-then-decode_body-clause-invalid : goal.returns-then-decode_body-clause-invalid
+returns-then-decode_body-clause-invalid g c = λ h.
     let digits = c.args.digits.now in
     let rest = drop 1 digits in
     rw (drop_more digits 0 0 (omega arith))
     (rest_refused (c.args.high ∷ get_or digits 0 0 ∷ []) rest c.args.output.now _ _ 1 (omega arith)
     (c.if-decode_body.ensures.spells refl) (omega (arith, c.requires))
-    (rw (c.split_at_mut-first.ensures.back, take_rest digits 1) at (c.decode_digits.ensures.refused h)))
+    (rw (c.split_at_mut-first.ensures.back, take_rest digits 1) at (c.decode_digits.ensures.invalid h)))
 
-pub returns-else-decode_body-clause-refused : goal.returns-else-decode_body-clause-refused
-returns-else-decode_body-clause-refused g c = λ h.
+pub returns-else-decode_body-clause-invalid : goal.returns-else-decode_body-clause-invalid
+returns-else-decode_body-clause-invalid g c = λ h.
     let digits = c.args.digits.now in
-    let pair = rw c.split_at_mut-first.ensures.front at (c.if-decode_body.ensures.refused refl) in
+    let pair = rw c.split_at_mut-first.ensures.front at (c.if-decode_body.ensures.invalid refl) in
     rw (c.split_at_mut-first.ensures.back, drop_more digits 0 0 (omega arith))
     (Partial-longer _ (c.args.high ∷ get_or digits 0 0 ∷ []) _ (drop 1 digits)
     (partial_pairs c.args.output.now _ c.decode_body.new.output 1 (omega (arith, c.requires)) refl pair))

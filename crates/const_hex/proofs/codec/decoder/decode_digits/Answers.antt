@@ -10,8 +10,8 @@ returns-then-decode_body-clause-digits g c = λ h.
     (digits_parts (2 * length c.args.output.now) c.args.digits.now).1
     (Spells-digits _ _ s, rw c.split_at.ensures.back at (c.check_last.ensures.0 h))
 
-pub returns-then-decode_body-clause-refused : goal.returns-then-decode_body-clause-refused
-returns-then-decode_body-clause-refused g c = grind (arith, last_refused)
+pub returns-then-decode_body-clause-invalid : goal.returns-then-decode_body-clause-invalid
+returns-then-decode_body-clause-invalid g c = grind (arith, last_refused)
 
-pub returns-else-decode_body-clause-refused : goal.returns-else-decode_body-clause-refused
-returns-else-decode_body-clause-refused g c = grind (arith, pairs_refused)
+pub returns-else-decode_body-clause-invalid : goal.returns-else-decode_body-clause-invalid
+returns-else-decode_body-clause-invalid g c = grind (arith, pairs_refused)

@@ -6,8 +6,8 @@ pub loop-output-preserved : goal.loop-output-preserved
 loop-output-preserved g c =
     decoded_step _ _ _ c.loop-output.invariant (omega arith) (c.if-not-decode_two_steps.ensures.spells refl)
 
-pub returns-then-not-decode_two_steps-clause-refused : goal.returns-then-not-decode_two_steps-clause-refused
-returns-then-not-decode_two_steps-clause-refused g c =
+pub returns-then-not-decode_two_steps-clause-invalid : goal.returns-then-not-decode_two_steps-clause-invalid
+returns-then-not-decode_two_steps-clause-invalid g c =
     let is = c.if-not-decode_two_steps.ensures in
     refused_step _ _ _ _ c.loop-output.invariant c.requires.size is.digits (is.unchanged refl)
 
@@ -16,8 +16,8 @@ loop-output-2-preserved g c =
     decoded_step _ _ _ c.loop-output-2.invariant (omega arith)
     (c.if-not-decode_step.ensures.spells refl)
 
-pub returns-then-not-decode_step-clause-refused : goal.returns-then-not-decode_step-clause-refused
-returns-then-not-decode_step-clause-refused g c =
+pub returns-then-not-decode_step-clause-invalid : goal.returns-then-not-decode_step-clause-invalid
+returns-then-not-decode_step-clause-invalid g c =
     let is = c.if-not-decode_step.ensures in
     refused_step _ _ _ _ c.loop-output-2.invariant c.requires.size is.digits (is.unchanged refl)
 
@@ -27,7 +27,7 @@ returns-clause-spells g c = λ t.
     spells_rest _ (decoded_less start c.loop-output-2.invariant (omega arith)) (omega arith) (omega arith)
     (c.decode_step-2.ensures.spells t)
 
-pub returns-clause-refused : goal.returns-clause-refused
-returns-clause-refused g c = λ f.
+pub returns-clause-invalid : goal.returns-clause-invalid
+returns-clause-invalid g c = λ f.
     let is = c.decode_step-2.ensures in
     refused_step _ _ _ _ c.loop-output-2.invariant c.requires.size is.digits (is.unchanged f) f

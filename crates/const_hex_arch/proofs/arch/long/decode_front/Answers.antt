@@ -7,8 +7,8 @@ loop-output-preserved g c =
     decoded_step _ _ _ c.loop-output.invariant (omega arith)
     (c.if-not-decode_step.ensures.spells refl)
 
-pub returns-then-not-decode_step-clause-refused : goal.returns-then-not-decode_step-clause-refused
-returns-then-not-decode_step-clause-refused g c =
+pub returns-then-not-decode_step-clause-invalid : goal.returns-then-not-decode_step-clause-invalid
+returns-then-not-decode_step-clause-invalid g c =
     let is = c.if-not-decode_step.ensures in
     refused_step _ _ _ _ c.loop-output.invariant c.requires is.digits (is.unchanged refl)
 
@@ -17,8 +17,8 @@ loop-output-2-preserved g c =
     decoded_step _ _ _ c.loop-output-2.invariant (omega arith)
     (c.if-not-decode_step-2.ensures.spells refl)
 
-pub returns-then-not-decode_step-2-clause-refused : goal.returns-then-not-decode_step-2-clause-refused
-returns-then-not-decode_step-2-clause-refused g c =
+pub returns-then-not-decode_step-2-clause-invalid : goal.returns-then-not-decode_step-2-clause-invalid
+returns-then-not-decode_step-2-clause-invalid g c =
     let is = c.if-not-decode_step-2.ensures in
     refused_step _ _ _ _ c.loop-output-2.invariant c.requires is.digits (is.unchanged refl)
 
@@ -26,6 +26,6 @@ pub returns-clause-spells : goal.returns-clause-spells
 returns-clause-spells g c = λ t.
     spells_rest _ c.loop-output-2.invariant c.requires (omega arith) (c.decode_checked.ensures.spells t)
 
-pub returns-clause-refused : goal.returns-clause-refused
-returns-clause-refused g c = λ f.
-    refused_rest _ c.loop-output-2.invariant c.requires (omega arith) (c.decode_checked.ensures.refused f)
+pub returns-clause-invalid : goal.returns-clause-invalid
+returns-clause-invalid g c = λ f.
+    refused_rest _ c.loop-output-2.invariant c.requires (omega arith) (c.decode_checked.ensures.invalid f)

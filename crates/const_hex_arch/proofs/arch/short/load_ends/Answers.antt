@@ -20,12 +20,12 @@ returns g c =
     let long : length front ≡ n = omega arith in
     let rest : List ℕ = replicate (g.row.N - n) 48 in
     let ends : List ℕ = front ++ drop n (replicate g.row.N 0) in
-    let digits : List ℕ = zeros ++ drop n (replicate g.row.N 48) in
+    let padding : List ℕ = zeros ++ drop n (replicate g.row.N 48) in
     let first : length ends ≤ g.row.N = simp (length-append, length-drop, length-replicate) (omega arith) in
-    let second : length digits ≤ g.row.N = simp (length-append, length-drop, length-replicate) (omega arith) in
+    let second : length padding ≤ g.row.N = simp (length-append, length-drop, length-replicate) (omega arith) in
     rw (
       take_all g.row.N ends first,
-      take_all g.row.N digits second,
+      take_all g.row.N padding second,
       ends_filled_up n g.row.N front zeros long c.requires.half c.copy_from_slice.ensures.after small,
       take_at front rest n long,
       drop_at front rest n long,

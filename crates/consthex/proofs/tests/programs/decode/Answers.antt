@@ -4,22 +4,18 @@ use Rattle.std.specs.Io.KnownBytes.{Appends, Consumes, Keeps}
 use Rattle.const_hex.specs.Prelude.{Reads, WritesBeginning}
 use Rattle.consthex.specs.Program.{Answers, Ends, word_of}
 use Rattle.consthex.specs.declared.mode.Mode.{Mode}
-use Rattle.consthex.specs.declared.mode.Mode.TheVariants.{Encode, EncodeUpper, EncodePrefixed, EncodeUpperPrefixed, Decode, Check}
+use Rattle.consthex.specs.declared.mode.Mode.TheVariants.{Decode}
 use Rattle.consthex.proofs.tests.programs.decode.Goals as goal
 
 -- the mode that the word names
 decoded : (words : List (List ℕ)) → words ≡ codes "decode" ∷ [] → (m : Mode) → words ≡ word_of m ∷ [] → m ≡ Decode
-decoded words is Encode named = grind (arith, sym is ∙ named)
-decoded words is EncodeUpper named = grind (arith, sym is ∙ named)
-decoded words is EncodePrefixed named = grind (arith, sym is ∙ named)
-decoded words is EncodeUpperPrefixed named = grind (arith, sym is ∙ named)
 decoded words is Decode named = refl
-decoded words is Check named = grind (arith, sym is ∙ named)
+decoded words is _ named = grind (arith, sym is ∙ named)
 
 -- how a run ends
-ended : (words : List (List ℕ)) (s : ℕ) (had left old new : Option (List ℕ)) → words ≡ codes "decode" ∷ [] → s ≢ 2
-    → (s ≢ 2 → (m : Mode) × (words ≡ word_of m ∷ []) × Ends m s had left old new) → Ends Decode s had left old new
-ended words s had left old new is not_two ran =
+ended : (words : List (List ℕ)) (s : ℕ) (had left old new : Option (List ℕ)) → words ≡ codes "decode" ∷ []
+    → (s ≢ 2 → (m : Mode) × (words ≡ word_of m ∷ []) × Ends m s had left old new) → s ≢ 2 → Ends Decode s had left old new
+ended words s had left old new is ran not_two =
     let (m, named, ends) = ran not_two in rw (decoded words is m named) at ends
 
 -- a beginning, or nothing, is written
@@ -30,21 +26,15 @@ begun : (had left old new : Option (List ℕ))
 begun had left old new (inl kept) = inl kept
 begun had left old new (inr (y, (x, (read, end), (small, reads)), (n, wrote))) = inr (x, y, n, read, reads, wrote)
 
-pub returns-clause-done : goal.returns-clause-done
-returns-clause-done g c = λ zero.
-    let ends = ended _ _ _ _ _ _ c.requires (λ two. grind (arith, zero, two)) c.program_with.ensures.ran in
-    let (y, (x, (read, end), (small, reads)), wrote) = ends.0 zero in (x, y, read, end, reads, wrote)
-
-pub returns-clause-rejected : goal.returns-clause-rejected
-returns-clause-rejected g c = λ one.
-    let ends = ended _ _ _ _ _ _ c.requires (λ two. grind (arith, one, two)) c.program_with.ensures.ran in
-    let (e, (x, (read, end), (small, reads)), kept) = ends.1 one in (x, e, read, end, reads, kept)
-
-pub returns-clause-memory : goal.returns-clause-memory
-returns-clause-memory g c = λ four.
-    let ends = ended _ _ _ _ _ _ c.requires (λ two. grind (arith, four, two)) c.program_with.ensures.ran in ends.3 four
-
-pub returns-clause-failed : goal.returns-clause-failed
-returns-clause-failed g c = λ three.
-    let ends = ended _ _ _ _ _ _ c.requires (λ two. grind (arith, three, two)) c.program_with.ensures.ran in
-    begun _ _ _ _ (ends.2 three)
+pub returns : goal.returns
+returns g c =
+    let ends = ended _ _ _ _ _ _ c.requires c.program_with.ensures.ran in record {
+      done = λ zero.
+          let (y, (x, (read, end), (small, reads)), wrote) = (ends (λ two. grind (arith, zero, two))).0 zero in
+          (x, y, read, end, reads, wrote);
+      rejected = λ one.
+          let (e, (x, (read, end), (small, reads)), kept) = (ends (λ two. grind (arith, one, two))).1 one in
+          (x, e, read, end, reads, kept);
+      failed = λ three. begun _ _ _ _ ((ends (λ two. grind (arith, three, two))).2 three);
+      memory = λ four. (ends (λ two. grind (arith, four, two))).3 four;
+    }

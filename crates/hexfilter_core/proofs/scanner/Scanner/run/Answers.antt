@@ -1,5 +1,6 @@
-use Rattle.std.proofs.Common.{◌≤◌, take, arith, length-take-le}
-use Rattle.hexfilter_core.proofs.lemmas.Texts.{fewer_copied, fewer_high, high_added, next_bound}
+use Rattle.std.proofs.Common.{◌≡◌, ◌≤◌, take, arith, false, length-take-le, nat_lt, take-take}
+use Rattle.std.proofs.lemmas.List.Elements.{All-take}
+use Rattle.hexfilter_core.proofs.lemmas.Texts.{high_added, next_bound}
 use Rattle.hexfilter_core.proofs.scanner.Scanner.run.Goals as goal
 
 pub returns-then-reading-eq0-clause-added : goal.returns-then-reading-eq0-clause-added
@@ -18,7 +19,9 @@ returns-clause-added c = λ x is.
     let few : n ≤ m = omega arith in
     let size = length-take-le n xs (omega (arith, copied.within)) in
     let bound = next_bound c.args.reading 0 x (omega arith) in
-    rw (fewer_copied m n xs c.copy_block-count.new.output few copied.copied)
-    (high_added c.args.reading c.args.self.now _ _ x (take n xs) is (fewer_high m n xs few copied.high)
+    let front = take-take n m xs few in
+    let same : take n c.copy_block-count.new.output ≡ take n xs = cc (take-take n m c.copy_block-count.new.output few) in
+    let high = rw front at (All-take (λ b. nat_lt b 33 ≡ false) n (take m xs) copied.high) in
+    rw same (high_added c.args.reading c.args.self.now _ _ x (take n xs) is high
     (λ some. omega (arith, size, bound, is.next)) (omega (arith, size, bound, is.next))
     (λ at. c.right-self-2.ensures x (take n xs) at size))

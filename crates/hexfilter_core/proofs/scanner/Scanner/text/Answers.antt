@@ -1,5 +1,5 @@
-use Rattle.std.proofs.Common.{◌+◌, ◌-◌, ◌<◌, length, refl, arith, option_to_list}
-use Rattle.hexfilter_core.proofs.lemmas.Texts.{added_byte, added_run, part_size}
+use Rattle.std.proofs.Common.{◌≡◌, ◌+◌, ◌-◌, ◌<◌, length, length-drop, length-take, arith, option_to_list, take, drop}
+use Rattle.hexfilter_core.proofs.lemmas.Texts.{added_byte, added_run}
 use Rattle.hexfilter_core.proofs.scanner.Scanner.text.Goals as goal
 
 pub runs-preserved-then-count-eq-LANES : goal.runs-preserved-then-count-eq-LANES
@@ -7,12 +7,14 @@ runs-preserved-then-count-eq-LANES c =
     let i = c.runs.invariant in
     let ran = c.run-count.ensures in
     let chunk = c.args.chunk.now in
-    let size = part_size chunk c.runs.done (length chunk - c.runs.done) _ (omega (arith, i.within)) refl in
+    let done = c.runs.done in
+    let size : length (take (length chunk - done) (drop done chunk)) ≡ length chunk - done =
+    simp (length-take, length-drop) (omega arith) in
     let space = c.runs.auto.output in record {
       within = omega (arith, ran.within, size);
       fewer = omega arith;
       so_far = λ x is.
-          added_run _ _ _ x _ _ c.runs.end c.runs.done (i.so_far x is) _ c.run-count.result _ i.within
+          added_run _ _ _ x _ _ c.runs.end done (i.so_far x is) _ c.run-count.result _ i.within
           (omega (arith, space)) (omega (arith, ran.length, ran.within, size, space)) ran.added;
     }
 
@@ -24,7 +26,8 @@ runs-preserved c =
     let i = c.runs.invariant in
     let ran = c.run-count.ensures in
     let inside : done + n < length chunk = omega arith in
-    let size = part_size chunk done (length chunk - done) _ (omega (arith, i.within)) refl in
+    let size : length (take (length chunk - done) (drop done chunk)) ≡ length chunk - done =
+    simp (length-take, length-drop) (omega arith) in
     let space = c.runs.auto.output in record {
       within = omega arith;
       fewer = omega (arith, c.put-end.ensures.within);

@@ -1,7 +1,7 @@
-use Rattle.std.proofs.Common.{◌≡◌, ◌∷◌, ◌++◌, ◌+◌, ◌-◌, ◌<◌, ℕ, List, length, take, drop, get_or, sym, arith, append_assoc, length-drop, take_all}
+use Rattle.std.proofs.Common.{◌≡◌, ◌∷◌, ◌++◌, ◌+◌, ◌<◌, ℕ, List, length, take, drop, get_or, sym, arith, append_assoc, length-drop, take_all}
 use Rattle.std.proofs.lemmas.Grind.{common_steps}
 use Rattle.std.proofs.lemmas.Slice.{take-put_mid_below}
-use Rattle.hexfilter_core.proofs.lemmas.Texts.{joined_one, part_joined, part_size, take_put}
+use Rattle.hexfilter_core.proofs.lemmas.Texts.{joined_one, take_put}
 use Rattle.hexfilter_core.proofs.stage.Stage.decode.Goals as goal
 
 cut_at : (x u : List ℕ) (k : ℕ) → k < length u → (x ++ take k u) ++ get_or u k 0 ∷ drop (k + 1) u ≡ x ++ u
@@ -21,13 +21,12 @@ bytes-preserved c =
     let count = c.in-Ok-decode_part.count in
     let i = c.bytes.invariant in
     let space = c.bytes.auto.output in
-    let ensured = c.in-Ok-decode_part.ensures in
-    let size = part_size chunk done 1 (done + 1 - done) (omega (arith, c.bytes-test.true)) (omega arith) in record {
-      fewer = omega (arith, i.fewer, ensured.most, size);
+    let ensured = c.in-Ok-decode_part.ensures in record {
+      fewer = omega (arith, i.fewer, ensured.most);
       decoded = λ x y has.
           let put = take_put end _ count out new (omega (arith, space, i.fewer, c.bytes-test.true, c.requires.space))
           (omega (arith, ensured.lengths.1, ensured.within, space)) in
-          rw (part_joined x chunk done 1 (done + 1 - done) (omega arith), append_assoc y (take end out) (take count new), sym put) at
+          rw (joined_one x chunk done c.bytes-test.true, append_assoc y (take end out) (take count new), sym put) at
           (ensured.ok (x ++ take done chunk) (y ++ take end out) (i.decoded x y has));
     }
 
@@ -39,18 +38,15 @@ returns-in-Err-clause-made c = λ x y left has.
     let out = c.bytes.output in
     let i = c.bytes.invariant in
     let space = c.bytes.auto.output in
-    let inside : done < length chunk = c.bytes-test.true in
+    let inside = c.bytes-test.true in
     let read = i.decoded x y has in
-    let size = part_size chunk done 1 (done + 1 - done) (omega (arith, inside)) (omega arith) in
-    let invalid = rw (part_joined x chunk done 1 (done + 1 - done) (omega arith)) at
-    (c.in-Err.ensures.err (x ++ take done chunk) (y ++ take end out) read
-    (omega (arith, size, space, i.fewer, inside, c.requires.space))) in
+    let invalid = c.in-Err.ensures.err (x ++ take done chunk) (y ++ take end out) read
+    (omega (arith, space, i.fewer, inside, c.requires.space)) in
     rw (take-put_mid_below end _ out c.decode_part-in-bytes.new.output end (omega arith)
     (omega (arith, space, i.fewer, inside, c.requires.space)))
     (rw (cut_at x chunk done inside) at
     (c.error.ensures (x ++ take done chunk) (y ++ take end out) (drop (done + 1) chunk) left read
-    (omega (arith, length-drop (done + 1) chunk, c.requires.chunk, inside))
-    (rw (joined_one x chunk done inside) invalid)))
+    (omega (arith, length-drop (done + 1) chunk, c.requires.chunk, inside)) invalid))
 
 pub returns-clause-made : goal.returns-clause-made
 returns-clause-made c = λ x y left has. (

@@ -17,13 +17,13 @@ returns-then-count-output g c =
 pub returns-then-not-decode_next : goal.returns-then-not-decode_next
 returns-then-not-decode_next g c =
     let next = c.next_digits-waiting in
-    let refused = c.if-not-decode_next.ensures.refused refl in record {
+    let invalid = c.if-not-decode_next.ensures.invalid refl in record {
       ok = search rules;
       answer = λ t bs r.
           let size = spelled_by_now _ c.args.chunk.now _ _ next.ensures.whole next.ensures.waits t bs r _
           c.count_pairs-count.ensures in
           let (p, bad, is) = c.fail.ensures.names (λ a.
-          digits_no_bad _ refused.bad ((digits_append _ _).1 (next.ensures.waits r.waits, a)) refused.first_bad) in
+          digits_no_bad _ invalid.bad ((digits_append _ _).1 (next.ensures.waits r.waits, a)) invalid.first_bad) in
           rw is (
             omega (arith, size),
             bad_by_now _ c.args.chunk.now _ _ next.ensures.whole next.ensures.waits t bs r p next.ensures.shorter bad,
@@ -36,7 +36,7 @@ returns-then-not-decode_next g c =
       after_error = λ t bs r _.
           rw (added _ c.args.chunk.now _ _ next.ensures.whole next.ensures.waits t bs r)
           (partial_pairs c.args.output.now _ c.decode_next.new.output c.count_pairs-count.result (omega arith)
-          (sym c.count_pairs-count.ensures) refused);
+          (sym c.count_pairs-count.ensures) invalid);
       ended = search rules;
       kept_error = search rules;
     }

@@ -5,27 +5,25 @@ parameters and locals. An i32 is a number of 64 bits of which the lowest 32 coun
 test_webassembly.py compares each form with Node.
 """
 
+from operator import add, and_, eq, mul, ne, or_, sub
+
 import z3
 
 from execution import state
 from execution.paths import Branch
-from execution.terms import byte, chosen, joined, simple, split, word
-from meanings.lanes import (
-    ADD,
-    AND,
+from execution.terms import byte, joined, simple, split, word
+from reading.module import SPACE
+from semantics.lanes import (
     MAXIMUM,
     MINIMUM,
-    MULTIPLY,
-    OR,
     SHIFT_LEFT,
-    SUBTRACT,
     each,
     lanes,
+    looked_up,
     saturated,
     zero_extended,
 )
-from meanings.webassembly_blocks import instructions  # as each processor has it
-from reading.module import SPACE
+from semantics.webassembly_blocks import instructions  # as each processor has it
 from solver.questions import Rejected, is_public, is_public_name, names, public, require
 
 MEMORY = 1 << 16
@@ -36,7 +34,11 @@ class State(state.State):
     others."""
 
     TOP = "global 0"
-    STACK, STACK_OF_CALLED = 4096, 0  # What is called by its contract has no stack.
+    STACK, STACK_OF_CALLED, STACK_OF_CALLER = (
+        4096,
+        0,
+        0,
+    )  # What is called by its contract has no stack.
     RETURN = 0
     VECTORS, WIDTH = 0, 16
     WORD = 4
@@ -47,10 +49,10 @@ class State(state.State):
 
     def enter(self):
         module, given = self.code.object, len(self.contract.arguments)
-        arguments = [self.general[name] for name in self.ARGUMENTS[:given]]
+        arguments = self.contract.arguments
         self._lay_out(module)
         function = module.code_at(self.address)
-        results = [] if self.contract.is_local else [4]
+        results = [4] if self.contract.has_result else []
         require(
             (function.parameters, function.results) == ([4] * given, results),
             "a function of another type",
@@ -64,12 +66,11 @@ class State(state.State):
     def _lay_out(self, module):
         """The stack, the data, and what the caller may use follow each other."""
         require(len(module.data) == 1, "the data of the module are not one segment")
-        [data] = module.data
-        addresses = [module.globals[0], data.address, data.address + len(data.content)]
+        addresses = [module.globals[0], module.first, module.first + module.size]
         addresses += [module.addresses.get(name, -1) for name in ("__data_end", "__heap_base")]
-        is_right = addresses[0] == State.STACK and addresses == sorted(addresses)
+        limits = [*addresses, MEMORY]
         require(
-            is_right and addresses[-1] <= MEMORY,
+            addresses[0] == State.STACK and limits == sorted(limits),
             f"the stack, the data and `__heap_base` lie at {addresses}",
         )
         require(module.mutable == {0}, "a global that is kept between calls")
@@ -143,11 +144,11 @@ class State(state.State):
         return self.is_valid(z3.ULT(term, 1 << 32))
 
     # Memory
-    def _place(self, address, count, aligned):
+    def _locate(self, address, count, aligned):
         """An address without a base is one of data, which lie where the module says."""
-        if not any(region.base.decl().name() in names(address) for region in self.regions.values()):
-            address = self.code.placed(address)
-        return super()._place(address, count, aligned)
+        if self.regions.keys().isdisjoint(names(address)):
+            address = self.code.runtime_address(address)
+        return super()._locate(address, count, aligned)
 
 
 # What each does with the number of operands before it, its numbers, and where it leads; and the
@@ -205,26 +206,26 @@ def _count(term, bits):
     return term.as_long() % bits
 
 
-computes("i32.add", "ii", ADD)
-computes("i32.sub", "ii", SUBTRACT)
-computes("i32.mul", "ii", MULTIPLY)
-computes("i32.and", "ii", AND)
-computes("i32.or", "ii", OR)
+computes("i32.add", "ii", add)
+computes("i32.sub", "ii", sub)
+computes("i32.mul", "ii", mul)
+computes("i32.and", "ii", and_)
+computes("i32.or", "ii", or_)
 computes("i32.shl", "in", lambda a, b: SHIFT_LEFT(a, _count(b, 32)))
 computes("i32.shr_u", "nn", lambda a, b: z3.LShR(a, _count(b, 32)))
 computes("i32.shr_s", "nn", lambda a, b: z3.ZeroExt(32, _lower(a) >> _count(b, 32)))
 computes("i64.shr_u", "ll", lambda a, b: z3.LShR(a, _count(b, 64)))
 computes("i32.wrap_i64", "l", lambda a: a)
 compares("i32.eqz", "n", lambda a: a == 0)
-compares("i32.eq", "nn", lambda a, b: a == b)
-compares("i32.ne", "nn", lambda a, b: a != b)
+compares("i32.eq", "nn", eq)
+compares("i32.ne", "nn", ne)
 compares("i32.lt_u", "nn", z3.ULT)
 compares("i32.le_u", "nn", z3.ULE)
 compares("i32.gt_u", "nn", z3.UGT)
 compares("i32.ge_u", "nn", z3.UGE)
 compares("i32.le_s", "nn", lambda a, b: _lower(a) <= _lower(b))
-accesses("i32.const", "", lambda s, numbers: word(numbers[0]))
-accesses("i64.const", "", lambda s, numbers: word(numbers[0]))
+for _name in ("i32.const", "i64.const"):
+    accesses(_name, "", lambda s, numbers: word(numbers[0]))
 accesses("v128.const", "", lambda s, numbers: numbers)
 
 
@@ -266,15 +267,12 @@ def select(s, height, numbers, targets):
     stands alone decides."""
     operands = [s.operand(height - below) for below in (3, 2, 1)]
     condition = simple(s.exact(s.get(operands[-1])) != 0)
-    known = [truth for truth in (True, False) if s.is_valid(condition == truth)]
-    if not known and not _is_alone(s, condition):
+    is_known = any(s.is_valid(condition == truth) for truth in (True, False))
+    if not is_known and not _is_alone(s, condition):
         s.next = s.address
         return Branch(condition, s.address)
     one, other, _ = map(s.take, operands)
-    if known:
-        s.put(operands[0], one if known[0] else other)
-    else:
-        s.put(operands[0], z3.If(condition, one, other))
+    s.put(operands[0], s.if_then_else(condition, one, other, is_asked=True))
 
 
 def _is_alone(s, condition):
@@ -347,44 +345,33 @@ loads("v128.load", 16, lambda data: data)
 loads("v128.load64_zero", 8, lambda data: data + [byte(0)] * 8)
 loads("v128.load8x8_u", 8, zero_extended)
 accesses("v128.load8_lane", "nv", _load_lane)
-stores("i32.store", "ni", lambda value: split(value)[:4])
-stores("i32.store8", "ni", lambda value: split(value)[:1])
-stores("i32.store16", "ni", lambda value: split(value)[:2])
+for _name, _size in {"i32.store": 4, "i32.store8": 1, "i32.store16": 2}.items():
+    stores(_name, "ni", lambda value, size=_size: split(value)[:size])
 # It has the results of others, where they are compared.
 stores("i64.store", "nl", split)
 stores("v128.store", "nv", lambda data: data)
-stores("v128.store8_lane", "nv", lambda data, index: data[index:][:1])
-stores("v128.store16_lane", "nv", lambda data, index: data[2 * index :][:2])
-stores("v128.store32_lane", "nv", lambda data, index: data[4 * index :][:4])
-stores("v128.store64_lane", "nv", lambda data, index: data[8 * index :][:8])
+for _size in (1, 2, 4, 8):
+    _lane = lambda data, index, size=_size: data[size * index :][:size]
+    stores(f"v128.store{8 * _size}_lane", "nv", _lane)
 
 
 # Vectors
-def _shift_lanes(a, b):
-    count = _count(b, 16)
-    return each(lambda part: z3.LShR(part, count), 2, a)
-
-
 def by_lanes(name, size, function):
     computes(name, "vv", lambda a, b: each(function, size, a, b))
 
 
-by_lanes("v128.and", 1, AND)
-by_lanes("v128.or", 1, OR)
-by_lanes("i8x16.add", 1, ADD)
-by_lanes("i8x16.sub", 1, SUBTRACT)
+by_lanes("v128.and", 1, and_)
+by_lanes("v128.or", 1, or_)
+by_lanes("i8x16.add", 1, add)
+by_lanes("i8x16.sub", 1, sub)
 by_lanes("i8x16.min_u", 1, MINIMUM)
 by_lanes("i8x16.max_u", 1, MAXIMUM)
-by_lanes("i16x8.mul", 2, MULTIPLY)
-computes("i16x8.shr_u", "vn", _shift_lanes)
-computes("i16x8.splat", "i", lambda a: split(z3.Extract(15, 0, a)) * 8)
-computes("i32x4.splat", "i", lambda a: split(_lower(a)) * 4)
+by_lanes("i16x8.mul", 2, mul)
+computes("i16x8.shr_u", "vn", lambda a, b: each(lambda x: z3.LShR(x, _count(b, 16)), 2, a))
+computes("i16x8.splat", "i", lambda a: split(a)[:2] * 8)
+computes("i32x4.splat", "i", lambda a: split(a)[:4] * 4)
 computes("i64x2.splat", "l", lambda a: split(a) * 2)
-computes(
-    "i8x16.swizzle",
-    "vv",
-    lambda a, b: [simple(z3.If(z3.ULT(index, 16), chosen(a, index), byte(0))) for index in b],
-)
+computes("i8x16.swizzle", "vv", looked_up)
 computes("i8x16.narrow_i16x8_u", "vv", lambda a, b: saturated(lanes(a + b, 2)))
 computes("i16x8.extend_low_i8x16_u", "v", lambda a: zero_extended(a[:8]))
 computes("i16x8.extend_high_i8x16_u", "v", lambda a: zero_extended(a[8:]))

@@ -2,7 +2,7 @@ use Rattle.std.proofs.Common.{◌∙◌, get_or, arith}
 use Rattle.std.proofs.lemmas.List.{take_all}
 use Rattle.const_hex.specs.Prelude.{AllDigits}
 use Rattle.const_hex_arch.proofs.lemmas.Digits.{value_not_found, digits_more}
-use Rattle.const_hex.proofs.codec.body.find_first_bad_from.Goals as goal
+use Rattle.const_hex.proofs.codec.body.find_first_invalid_from.Goals as goal
 
 pub returns-then-value_at-clause-bad : goal.returns-then-value_at-clause-bad
 returns-then-value_at-clause-bad c = λ _. record {

@@ -1,17 +1,13 @@
 """What the instructions of SSE and AVX do on x86-64, as x86_64.py has it of the others."""
 
+from operator import add, and_, lshift, or_, sub, xor
+
 import z3
 
 from execution.terms import byte, chosen, joined, simple
-from meanings.lanes import (
-    ADD,
-    AND,
-    AND_NOT,
+from semantics.lanes import (
     MINIMUM,
-    OR,
-    SUBTRACT,
     SUBTRACT_SATURATED,
-    XOR,
     each,
     lanes,
     saturated,
@@ -57,8 +53,9 @@ def shift_lanes(size, function):
     return handler
 
 
-def looked_up(table, index):
-    return simple(z3.If(z3.Extract(7, 7, index) == 1, byte(0), chosen(table, index)))
+def shuffled(table, indices):
+    """The entries at the lowest bits of some indices, and 0 for an index whose highest bit is 1."""
+    return [simple(z3.If(z3.Extract(7, 7, i) == 1, byte(0), chosen(table, i))) for i in indices]
 
 
 def move_vector(is_aligned):
@@ -112,7 +109,7 @@ def _are_zero(parts):
 
 def test_vector(s, one, other):
     a, b = s.data(one), s.data(other)
-    z, c = [_are_zero(map(function, a, b)) for function in (AND, AND_NOT)]
+    z, c = [_are_zero(map(function, a, b)) for function in (and_, lambda x, y: ~x & y)]
     s.flags = {"z": z, "c": c, "s": z3.BoolVal(False), "o": z3.BoolVal(False)}
 
 
@@ -122,11 +119,8 @@ def widen(s, to, source):
 
 def permute(s, to, source, control):
     data = s.data(source)
-    result = []
-    for bit in range(0, 8, 2):
-        first = 8 * (control.value >> bit & 3)
-        result += data[first : first + 8]
-    s.put_vector(to, result)
+    parts = [data[8 * (control.value >> bit & 3) :][:8] for bit in range(0, 8, 2)]
+    s.put_vector(to, sum(parts, []))
 
 
 def vzeroupper(s):
@@ -135,24 +129,24 @@ def vzeroupper(s):
 
 
 VECTORS = {
-    "paddb": by_lanes(1, ADD),
-    "paddw": by_lanes(2, ADD),
-    "psubb": by_lanes(1, SUBTRACT),
+    "paddb": by_lanes(1, add),
+    "paddw": by_lanes(2, add),
+    "psubb": by_lanes(1, sub),
     "psubusb": by_lanes(1, SUBTRACT_SATURATED),
     "pminub": by_lanes(1, MINIMUM),
-    "por": by_lanes(1, OR),
-    "pxor": by_lanes(1, XOR),
-    "psllw": shift_lanes(2, lambda a, count: a << count),
+    "por": by_lanes(1, or_),
+    "pxor": by_lanes(1, xor),
+    "psllw": shift_lanes(2, lshift),
     "psrlw": shift_lanes(2, z3.LShR),
     "punpckldq": by_halves(lambda a, b: a[:4] + b[:4] + a[4:8] + b[4:8]),
     "punpcklqdq": by_halves(lambda a, b: a[:8] + b[:8]),
-    "pshufb": by_halves(lambda a, b: [looked_up(a, index) for index in b]),
+    "pshufb": by_halves(shuffled),
     "packuswb": by_halves(lambda a, b: saturated(lanes(a + b, 2))),
     "movdqu": move_vector(False),
     "movdqa": move_vector(True),
     "movups": move_vector(False),
     "movaps": move_vector(True),
-    "xorps": by_lanes(1, XOR),
+    "xorps": by_lanes(1, xor),
     "movd": move_low(4),
     "movq": move_low(8),
     "pinsrw": insert(2),

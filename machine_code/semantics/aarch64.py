@@ -1,28 +1,25 @@
 """AArch64: its operands as `objdump` writes them, what each instruction does, and the procedure
 call standard.
 
-If a meaning were wrong, code would be proved that does something else. test_meanings.py compares
-each form that occurs with QEMU. An instruction is rejected unless the assembler, which knows
-ARMv8.0, makes the same bytes of its text.
+If the semantics were wrong, code would be proved that does something else. test_semantics.py
+compares each form that occurs with QEMU. An instruction is rejected unless the assembler, which
+knows ARMv8.0, makes the same bytes of its text.
 """
 
 import re
+from operator import add, and_, invert, lshift, mul, neg, or_, sub, xor
 
 import z3
 
 from execution import state
 from execution.paths import Branch
-from execution.terms import byte, chosen, joined, simple, split, word
-from meanings.lanes import (
-    ADD,
-    AND,
+from execution.terms import byte, joined, simple, split, word
+from reading import assembled
+from reading.image import AARCH64
+from semantics.lanes import (
     MINIMUM,
-    MULTIPLY,
-    OR,
     SHIFT_LEFT,
-    SUBTRACT,
     SUBTRACT_SATURATED,
-    XOR,
     Operand,
     bytes_of,
     conditions,
@@ -31,12 +28,11 @@ from meanings.lanes import (
     general,
     holds,
     jump_if,
+    lanes,
+    looked_up,
     set_if,
     sum_flags,
-    lanes,
 )
-from reading import assembled
-from reading.image import AARCH64
 from solver.questions import public, require
 
 # An address, registers in braces, or anything else without a comma.
@@ -60,14 +56,14 @@ def _operand(text):
         return Operand("vector", int(match[2]) * lane_size, int(match[1]), lane_size=lane_size)
     if match := re.fullmatch(r"\{?v(\d+)\.([bhsd])\}?\[(\d+)\]", text):
         size = SIZES[match[2]]
-        return Operand("element", size, int(match[1]), first=int(match[3]) * size)
+        return Operand("element", size, int(match[1]), offset=int(match[3]) * size)
     if match := re.fullmatch(rf"\[(x{NUMBER}|sp)(?:, (?:#(-?\d+)|(x{NUMBER})))?\](!?)", text):
         terms = [(name, 1) for name in (match[1], match[3]) if name]
         return Operand("memory", terms=terms, offset=int(match[2] or 0), is_moved=bool(match[4]))
     if match := re.fullmatch(r"(lsl|lsr) #(\d+)|(uxtw)", text):
         return Operand("shift", name=match[1] or match[3], value=int(match[2] or 0))
     if text in CONDITIONS:
-        return Operand("condition", name=text)
+        return Operand("condition", value=CONDITIONS[text])
     number = text.removeprefix("#")
     return Operand("number", value=int(number, 16 if number == text else 0))
 
@@ -109,7 +105,7 @@ class State(state.State):
     """The arguments are in these registers, and a call has left the address to return to in x30."""
 
     TOP = "sp"
-    STACK, STACK_OF_CALLED, STACK_OF_DISPATCH = 2000, 64, 2032
+    STACK, STACK_OF_CALLED, STACK_OF_CALLER, STACK_OF_DISPATCH = 2000, 64, 128, 2032
     RETURN = 0
     VECTORS, WIDTH = 32, 16
     GENERAL = *(f"x{number}" for number in range(31)), "sp"
@@ -151,7 +147,7 @@ class State(state.State):
         """The bytes of any register."""
         if o.kind == "general":
             return split(self.number(o))
-        return self.vectors[o.name][o.first or 0 :][: o.size]
+        return self.vectors[o.name][o.offset :][: o.size]
 
     def put(self, o, term):
         if o.name != "xzr":
@@ -164,7 +160,7 @@ class State(state.State):
             return self.put(o, joined(data))
         if o.kind == "element":
             old = self.vectors[o.name]
-            data = old[: o.first] + data + old[o.first + o.size :]
+            data = old[: o.offset] + data + old[o.offset + o.size :]
         self.vectors[o.name] = data + [byte(0)] * (16 - len(data))
 
 
@@ -183,6 +179,12 @@ CONDITIONS = conditions(
 def comparison_flags(a, b):
     """Of a difference. The carry says that nothing is borrowed."""
     return difference_flags(a, b) | {"c": z3.UGE(a, b)}
+
+
+def test_flags(a, b):
+    """Of the bits that two numbers have in common. There is no carry."""
+    both = a & b
+    return {"s": both < 0, "z": both == 0, "c": z3.BoolVal(False), "o": z3.BoolVal(False)}
 
 
 # General instructions
@@ -214,7 +216,7 @@ def shift(function):
 
 def select(function):
     def handler(s, to, one, other, condition):
-        is_one = holds(s, CONDITIONS[condition.name])
+        is_one = holds(s, condition.value)
         a = s.number(one, to.size)
         b = simple(function(s.number(other, to.size)))
         s.put(to, s.if_then_else(is_one, a, b, is_asked=True))
@@ -223,30 +225,29 @@ def select(function):
 
 
 # Vectors
-def same(*vectors):
-    """The vectors have the same lanes."""
+def require_lanes(*vectors):
     require(all(o.lane_size for o in vectors), "vectors are needed")
 
 
 def by_lanes(function):
     def handler(s, to, one, other):
-        same(to, one, other)
+        require_lanes(to, one, other)
         s.put_data(to, each(function, to.lane_size, s.data(one), s.data(other)))
 
     return handler
 
 
-def by_kind(on_general, on_vectors):
+def by_kind(function):
     def handler(s, to, *sources):
-        function = on_general if to.kind == "general" else on_vectors
-        return function(s, to, *sources)
+        of_kind = general if to.kind == "general" else by_lanes
+        of_kind(function)(s, to, *sources)
 
     return handler
 
 
 def shifted(function):
     def handler(s, to, source, count):
-        same(to, source)
+        require_lanes(to, source)
         s.put_data(to, each(lambda a: function(a, count.value), to.lane_size, s.data(source)))
 
     return handler
@@ -254,7 +255,7 @@ def shifted(function):
 
 def shift_left_and_insert(s, to, source, count):
     """The lower bits of each number stay as they were."""
-    same(to, source)
+    require_lanes(to, source)
     inserted = lambda a, old: a << count.value | old & (1 << count.value) - 1
     s.put_data(to, each(inserted, to.lane_size, s.data(source), s.data(to)))
 
@@ -278,35 +279,37 @@ def duplicate(s, to, source):
 
 
 def narrow(s, to, source):
-    numbers = lanes(s.data(source), source.lane_size)
-    s.put_data(to, bytes_of(z3.Extract(8 * to.lane_size - 1, 0, a) for a in numbers))
+    lower = lambda a: z3.Extract(8 * to.lane_size - 1, 0, a)
+    s.put_data(to, each(lower, source.lane_size, s.data(source)))
 
 
 def widen(s, to, source):
-    numbers = lanes(s.data(source), source.lane_size)
-    s.put_data(to, bytes_of(z3.ZeroExt(8 * (to.lane_size - source.lane_size), a) for a in numbers))
+    wide = lambda a: z3.ZeroExt(8 * (to.lane_size - source.lane_size), a)
+    s.put_data(to, each(wide, source.lane_size, s.data(source)))
 
 
-def mixed(function):
-    """An instruction that takes numbers of two vectors."""
+def every_second(first):
+    """Every second number of two vectors."""
 
     def handler(s, to, one, other):
-        same(to, one, other)
-        a, b = lanes(s.data(one), to.lane_size), lanes(s.data(other), to.lane_size)
-        s.put_data(to, bytes_of(function(a, b)))
+        require_lanes(to, one, other)
+        numbers = lanes(s.data(one) + s.data(other), to.lane_size)
+        s.put_data(to, bytes_of(numbers[first::2]))
 
     return handler
 
 
 def extract(s, to, one, other, first):
-    same(to, one, other)
+    require_lanes(to, one, other)
     s.put_data(to, (s.data(one) + s.data(other))[first.value :][: to.size])
 
 
 def look_up(s, to, table, indices):
-    entries = s.data(table)
-    found = [z3.If(z3.ULT(i, 16), chosen(entries, i), byte(0)) for i in s.data(indices)]
-    s.put_data(to, [*map(simple, found)])
+    s.put_data(to, looked_up(s.data(table), s.data(indices)))
+
+
+def form_address(s, to, target):
+    s.put(to, s.code.runtime_address(target.value))
 
 
 # Jumps
@@ -359,50 +362,51 @@ def load(size=None):
     return handler
 
 
-def store(size=None):
+def store_data(s, o, data):
     """One that moves the stack pointer first makes space for what it stores."""
+    address, moved = accessed(s, o)
+    s.general |= moved
+    s.store(address, data)
 
+
+def store(size=None):
     def handler(s, *operands):
         *sources, o = operands
-        address, moved = accessed(s, o)
-        s.general |= moved
-        s.store(address, [x for source in sources for x in s.data(source)[:size]])
+        store_data(s, o, [x for source in sources for x in s.data(source)[:size]])
 
     return handler
 
 
 def store_interleaved(s, one, other, o):
-    same(one, other)
+    require_lanes(one, other)
     pairs = zip(lanes(s.data(one), one.lane_size), lanes(s.data(other), other.lane_size))
-    address, moved = accessed(s, o)
-    s.general |= moved
-    s.store(address, bytes_of(number for pair in pairs for number in pair))
+    store_data(s, o, bytes_of(number for pair in pairs for number in pair))
 
 
 HANDLERS = {
-    "add": by_kind(general(ADD), by_lanes(ADD)),
-    "adds": general(ADD, sum_flags),
-    "cmn": general(ADD, sum_flags, is_kept=False),
-    "sub": by_kind(general(SUBTRACT), by_lanes(SUBTRACT)),
-    "subs": general(SUBTRACT, comparison_flags),
-    "cmp": general(SUBTRACT, comparison_flags, is_kept=False),
-    "and": by_kind(general(AND), by_lanes(AND)),
-    "orr": by_kind(general(OR), by_lanes(OR)),
-    "eor": general(XOR),
-    "neg": general(lambda a: -a),
-    "mvn": general(lambda a: ~a),
+    "add": by_kind(add),
+    "adds": general(add, sum_flags),
+    "cmn": general(add, sum_flags, is_kept=False),
+    "tst": general(and_, test_flags, is_kept=False),
+    "sub": by_kind(sub),
+    "subs": general(sub, comparison_flags),
+    "cmp": general(sub, comparison_flags, is_kept=False),
+    "and": by_kind(and_),
+    "orr": by_kind(or_),
+    "eor": general(xor),
+    "neg": general(neg),
+    "mvn": general(invert),
     "msub": general(lambda a, b, c: c - a * b),
     "umulh": upper_product,
     "movk": move_part,
     "bfxil": insert_bits,
     "lsl": shift(SHIFT_LEFT),
     "lsr": shift(z3.LShR),
-    "adr": lambda s, to, target: s.put(to, s.code.placed(target.value)),
-    "adrp": lambda s, to, target: s.put(to, s.code.placed(target.value)),
+    **dict.fromkeys(("adr", "adrp"), form_address),
     "nop": lambda s: None,
-    "cset": lambda s, to, condition: set_if(CONDITIONS[condition.name])(s, to),
+    "cset": lambda s, to, condition: set_if(condition.value)(s, to),
     "csel": select(lambda b: b),
-    "csinv": select(lambda b: ~b),
+    "csinv": select(invert),
     "b": lambda s, to: to.value,
     "bl": call,
     "ret": ret,
@@ -410,11 +414,11 @@ HANDLERS = {
     "cbnz": lambda s, source, to: Branch(simple(s.number(source) != 0), to.value),
     "tbz": jump_if_bit(0),
     "tbnz": jump_if_bit(1),
-    "mul": by_lanes(MULTIPLY),
+    "mul": by_lanes(mul),
     "umin": by_lanes(MINIMUM),
     "uqsub": by_lanes(SUBTRACT_SATURATED),
     "ushr": shifted(z3.LShR),
-    "shl": shifted(lambda a, count: a << count),
+    "shl": shifted(lshift),
     "sli": shift_left_and_insert,
     "movi": constant,
     "mov": move,
@@ -424,8 +428,8 @@ HANDLERS = {
     "uxtl": widen,
     "ext": extract,
     "tbl": look_up,
-    "uzp1": mixed(lambda a, b: (a + b)[::2]),
-    "uzp2": mixed(lambda a, b: (a + b)[1::2]),
+    "uzp1": every_second(0),
+    "uzp2": every_second(1),
     **dict.fromkeys(("ldr", "ldur", "ldp", "ld1"), load()),
     **dict.fromkeys(("ldrb", "ldurb"), load(1)),
     "ldrh": load(2),

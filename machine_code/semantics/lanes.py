@@ -1,12 +1,12 @@
 """What instructions of several processors have in common. A vector is a list of its bytes, the
-lowest first. Each meaning is compared with the processor by test_meanings.py."""
+lowest first. test_semantics.py compares each instruction with the processor."""
 
 from dataclasses import dataclass
 
 import z3
 
 from execution.paths import Branch
-from execution.terms import byte, joined, simple, split
+from execution.terms import byte, chosen, joined, simple, split
 from solver.questions import require
 
 
@@ -18,13 +18,13 @@ class Operand:
     size: int = None  # in bytes
     name: object = None
     value: int = None
-    # Of an address: registers with their scales, and what is added.
+    # Of an address: registers with their scales, and what is added. Where an element of a vector
+    # begins.
     terms: tuple = ()
     offset: int = 0
-    # On AArch64: the bytes of a vector's lane, where an element begins, whether an address is
-    # written back to its base, and what is added to the base afterwards.
+    # On AArch64: the bytes of a vector's lane, whether an address is written back to its base, and
+    # what is added to the base afterwards.
     lane_size: int = None
-    first: int = None
     is_moved: bool = False
     after: object = None
 
@@ -48,6 +48,11 @@ def zero_extended(data):
     return [part for value in data for part in (value, byte(0))]
 
 
+def looked_up(table, indices):
+    """The entries of a table of 16 bytes, and 0 for an index beyond it."""
+    return [simple(z3.If(z3.ULT(i, 16), chosen(table, i), byte(0))) for i in indices]
+
+
 def saturated(numbers):
     """Signed numbers as bytes: each one, or the nearest one that is a byte."""
 
@@ -59,13 +64,6 @@ def saturated(numbers):
 
 
 # By two numbers of any size.
-ADD = lambda a, b: a + b
-SUBTRACT = lambda a, b: a - b
-MULTIPLY = lambda a, b: a * b
-AND = lambda a, b: a & b
-OR = lambda a, b: a | b
-XOR = lambda a, b: a ^ b
-AND_NOT = lambda a, b: ~a & b
 MINIMUM = lambda a, b: z3.If(z3.ULT(a, b), a, b)
 MAXIMUM = lambda a, b: z3.If(z3.ULT(a, b), b, a)
 SUBTRACT_SATURATED = lambda a, b: z3.If(z3.ULT(a, b), z3.BitVecVal(0, a.size()), a - b)
@@ -85,14 +83,6 @@ def sum_flags(a, b):
 
 def difference_flags(a, b):
     return {"s": a - b < 0, "z": a == b, "c": z3.ULT(a, b), "o": (a ^ b) & (a ^ a - b) < 0}
-
-
-def logic_flags(function):
-    def flags(a, b):
-        result = simple(function(a, b))
-        return {"s": result < 0, "z": result == 0, "c": z3.BoolVal(False), "o": z3.BoolVal(False)}
-
-    return flags
 
 
 def conditions(known, opposites):

@@ -1,36 +1,31 @@
 """x86-64: its operands as `objdump` writes them, what each instruction does, and the System V ABI.
 
-If a meaning were wrong, code would be proved that does something else. test_meanings.py compares
-each form that occurs with the processor. An instruction is rejected unless the assembler, which
-knows what a CPU of the level has, makes the same bytes of its text.
+If the semantics were wrong, code would be proved that does something else. test_semantics.py
+compares each form that occurs with the processor. An instruction is rejected unless the assembler,
+which knows what a CPU of the level has, makes the same bytes of its text.
 """
 
 import re
+from operator import add, and_, invert, or_, sub, xor
 
 import z3
 
 from execution import state
 from execution.terms import byte, fresh_public, joined, simple, split
-from meanings.lanes import (
-    ADD,
-    AND,
-    OR,
+from reading import assembled
+from reading.image import X86_64
+from semantics.lanes import (
     SHIFT_LEFT,
-    SUBTRACT,
-    XOR,
     Operand,
     conditions,
     difference_flags,
     general,
     holds,
     jump_if,
-    logic_flags,
     set_if,
     sum_flags,
 )
-from meanings.x86_64_vectors import VECTOR_HANDLERS
-from reading import assembled
-from reading.image import X86_64
+from semantics.x86_64_vectors import VECTOR_HANDLERS
 from solver.questions import public, require
 
 # What a CPU has, by the levels of the x86-64 psABI, as GNU as names it.
@@ -42,19 +37,13 @@ LEVELS = {"v3": f"{V2}+xsave+avx+avx2+bmi+bmi2+f16c+fma+lzcnt+movbe", "dispatch"
 NOPS = "0f1f4000 0f1f440000 660f1f440000 0f1f8000000000 0f1f840000000000 660f1f840000000000".split()
 NOPS += ["66" * count + "2e0f1f840000000000" for count in range(1, 7)]
 SIZES = {"BYTE": 1, "WORD": 2, "DWORD": 4, "QWORD": 8, "XMMWORD": 16, "YMMWORD": 32}
-# The register that a name means, and how many of its bytes.
-GENERAL = {
-    f"r{_number}{_end}": (f"r{_number}", _size)
-    for _number in range(8, 16)
-    for _end, _size in (("", 8), ("d", 4), ("w", 2), ("b", 1))
-}
-for _name in ("ax", "bx", "cx", "dx", "si", "di", "bp", "sp"):
-    GENERAL |= {
-        f"r{_name}": (f"r{_name}", 8),
-        f"e{_name}": (f"r{_name}", 4),
-        _name: (f"r{_name}", 2),
-        f"{_name.removesuffix('x')}l": (f"r{_name}", 1),
-    }
+# The names of each register with its lowest 8, 4, 2 bytes, or 1.
+REGISTERS = [(f"r{n}", f"r{n}d", f"r{n}w", f"r{n}b") for n in range(8, 16)]
+REGISTERS += [
+    (f"r{n}", f"e{n}", n, f"{n.removesuffix('x')}l") for n in "ax bx cx dx si di bp sp".split()
+]
+# The register that a name is for, and how many of its bytes.
+GENERAL = {name: (names[0], size) for names in REGISTERS for name, size in zip(names, (8, 4, 2, 1))}
 
 
 def _operand(text):
@@ -112,10 +101,10 @@ class State(state.State):
     stack."""
 
     TOP = "rsp"
-    STACK, STACK_OF_CALLED, STACK_OF_DISPATCH = 1912, 72, 2040
+    STACK, STACK_OF_CALLED, STACK_OF_CALLER, STACK_OF_DISPATCH = 1912, 72, 128, 2040
     RETURN = 8
     VECTORS, WIDTH = 16, 32
-    GENERAL = tuple(dict.fromkeys(name for name, _ in GENERAL.values()))
+    GENERAL = [names[0] for names in REGISTERS]
     ARGUMENTS = "rdi", "rsi", "rdx", "rcx", "r8", "r9"
     RESULTS, BOOL = ("rax", "rdx"), 8
     CALLEE_SAVED = "rbx", "rbp", "r12", "r13", "r14", "r15"
@@ -137,7 +126,7 @@ class State(state.State):
     # Operands
     def address_of(self, o):
         if o.terms == [("rip", 1)]:
-            return simple(self.code.placed(self.next + o.offset))
+            return simple(self.code.runtime_address(self.next + o.offset))
         return super().address_of(o)
 
     def data(self, o, size=None):
@@ -193,6 +182,14 @@ CONDITIONS = conditions(
 
 
 # General instructions
+def logic(function, is_kept=True):
+    def flags(a, b):
+        result = simple(function(a, b))
+        return {"s": result < 0, "z": result == 0, "c": z3.BoolVal(False), "o": z3.BoolVal(False)}
+
+    return general(function, flags, is_kept)
+
+
 def by_one(function, flags):
     """The carry is as before."""
 
@@ -298,8 +295,8 @@ def cpuid(s):
     )
     for name in ("rax", "rbx", "rcx", "rdx"):
         is_number = (leaf.as_long(), name) == (1, "rbx")
-        answer = fresh_public(32) if is_number else reported("cpuid", leaf.as_long(), name)
-        s.general[name] = simple(z3.ZeroExt(32, answer))
+        value = fresh_public(32) if is_number else reported("cpuid", leaf.as_long(), name)
+        s.general[name] = simple(z3.ZeroExt(32, value))
 
 
 def xgetbv(s):
@@ -314,20 +311,18 @@ def xgetbv(s):
 
 
 HANDLERS = {
-    "add": general(ADD, sum_flags),
-    "sub": general(SUBTRACT, difference_flags),
-    "and": general(AND, logic_flags(AND)),
-    "or": general(OR, logic_flags(OR)),
-    "xor": general(XOR, logic_flags(XOR)),
-    "not": general(lambda a: ~a),
-    "cmp": general(SUBTRACT, difference_flags, is_kept=False),
-    "test": general(AND, logic_flags(AND), is_kept=False),
-    "inc": by_one(ADD, sum_flags),
-    "dec": by_one(SUBTRACT, difference_flags),
+    "add": general(add, sum_flags),
+    "sub": general(sub, difference_flags),
+    "and": logic(and_),
+    "or": logic(or_),
+    "xor": logic(xor),
+    "not": general(invert),
+    "cmp": general(sub, difference_flags, is_kept=False),
+    "test": logic(and_, is_kept=False),
+    "inc": by_one(add, sum_flags),
+    "dec": by_one(sub, difference_flags),
     "mul": multiply,
-    "mov": move(z3.ZeroExt),
-    "movabs": move(z3.ZeroExt),
-    "movzx": move(z3.ZeroExt),
+    **dict.fromkeys(("mov", "movabs", "movzx"), move(z3.ZeroExt)),
     "movsxd": move(z3.SignExt),
     "lea": lea,
     "shl": shift(SHIFT_LEFT),

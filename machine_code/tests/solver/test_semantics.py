@@ -1,16 +1,13 @@
-"""The meanings of instructions are compared with the processor, or with QEMU for AArch64: each form
-that occurs in the kernels and in the functions for C, and each other instruction that has a
-meaning."""
-
-import contextlib
+"""The semantics of instructions are compared with the processor, or with QEMU for AArch64: each
+form that occurs in the kernels and in the functions for C, and each other instruction that has
+semantics."""
 
 import pytest
-from build import linked
+from build import compiler_for, linked
 from processor import NOT_ALONE, Processor
-from programs import COMPILERS, edited, text_of
+from programs import edited, text_of
 
-FUNCTION = r"const_hex_(.*_check(_v[23])?|version)"
-# Instructions with a meaning that are not in each kernel of today.
+# Instructions with semantics that are not in each kernel of today.
 MORE = {
     "x86_64_v2": """.intel_syntax noprefix
         inc rax; dec ecx; cmovb rax, rcx; cmovne eax, ecx; paddb xmm0, xmm1; por xmm0, xmm1; pxor xmm0, xmm1;
@@ -46,22 +43,22 @@ MORE = {
 def processor(name):
     """What runs the instructions of a kernel and of MORE, or those of the functions for C."""
     if name.startswith("functions_"):
-        return Processor(edited(name, "version", "", ""), FUNCTION)
+        return Processor(edited(name, "version", "", ""), name)
     level = name.removeprefix("x86_64_")
     text = f'{text_of(level)}\n.section .text.more, "ax"\n{MORE[name]}\n'
-    return Processor(linked(text, COMPILERS[level]), FUNCTION)
+    return Processor(linked(text, compiler_for(level)), level)
 
 
 NAMES = ["x86_64_v2", "x86_64_v3", "functions_x86_64"], ["aarch64", "functions_aarch64"]
 
 
 @pytest.mark.parametrize("names", NAMES, ids=("x86-64", "AArch64"))
-def test_meanings(names):
+def test_semantics(names):
     compared = set()
     for name in names:
-        with contextlib.closing(processor(name)) as runner:
-            assert list(runner.differences()) == []
-            compared |= {i.mnemonic for i in runner.instructions}
-    missing = runner.meanings.HANDLERS.keys() - compared - {*NOT_ALONE}
+        runner = processor(name)
+        assert list(runner.differences()) == []
+        compared |= {i.mnemonic for i in runner.instructions}
+    missing = runner.semantics.HANDLERS.keys() - compared - {*NOT_ALONE}
     # by a condition, which all share
     assert [name for name in missing if not name.startswith(("j", "set", "cmov", "b."))] == []

@@ -1,6 +1,6 @@
 use Rattle.std.proofs.Common.{◌-◌, ◌≤◌, length, take}
 use Rattle.const_hex.specs.Prelude.{AllDigits}
-use Rattle.const_hex.proofs.codec.body.find_first_bad_from.Given as goal
+use Rattle.const_hex.proofs.codec.body.find_first_invalid_from.Given as goal
 
 abbrev pub invariant-digits : goal.invariant-digits
 invariant-digits l = AllDigits (take l.index l.text) × (l.index ≤ length l.text)

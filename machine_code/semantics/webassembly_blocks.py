@@ -73,6 +73,7 @@ class Reader:
         if mnemonic == "call":
             called = self.code.object.functions[numbers[0]]
             takes, gives = called.parameters, len(called.results)
+            targets = [Block(0, called.address)]
         if mnemonic.startswith("br"):
             targets = [self.blocks[-1 - depth] for depth in numbers]
         below = self.height - len(takes)
