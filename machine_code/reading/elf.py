@@ -26,10 +26,16 @@ def read(data):
     _reject_shared_pages(image)
     _reject_features(file)
     _reject_text_relocations(file)
+    # Symbols of other sections, such as those of debug information, have no address.
+    loaded = {
+        index
+        for index, section in enumerate(file.iter_sections())
+        if section["sh_flags"] & SH_FLAGS.SHF_ALLOC
+    }
     for section in file.iter_sections("SHT_SYMTAB"):
-        _read_symbols(image, section)
+        _read_symbols(image, section, loaded)
     for section in file.iter_sections("SHT_DYNSYM"):
-        _read_exported(image, section)
+        _read_exported(image, section, loaded)
     for relro in file.iter_segments("PT_GNU_RELRO"):
         image.choices -= {*range(relro["p_vaddr"], relro["p_vaddr"] + relro["p_memsz"])}
     return image
@@ -78,27 +84,27 @@ def _reject_text_relocations(file):
                 raise ValueError("text relocations (DT_TEXTREL): compile all code with -fPIC")
 
 
-def _read_symbols(image, section):
+def _read_symbols(image, section, loaded):
     for symbol in section.iter_symbols():
         # GNU ld adds a version, or a number that makes a name unique.
         name = symbol.name.replace("@", ".").partition(".")[0]
-        if _has_address(symbol, name):
+        if _has_address(symbol, name, loaded):
             image.add_symbol(name, symbol["st_value"], symbol["st_size"])
 
 
-def _read_exported(image, section):
+def _read_exported(image, section, loaded):
     """Adds what the loader finds by name, and what it looks for in other files."""
     for symbol in section.iter_symbols():
-        if _has_address(symbol, symbol.name) and symbol["st_info"]["bind"] != "STB_LOCAL":
+        if _has_address(symbol, symbol.name, loaded) and symbol["st_info"]["bind"] != "STB_LOCAL":
             image.add_exported(symbol.name, symbol["st_value"])
         elif symbol["st_shndx"] == "SHN_UNDEF":
             image.add_imported(symbol.name)
 
 
-def _has_address(symbol, name):
+def _has_address(symbol, name, loaded):
     kind, index = symbol["st_info"]["type"], symbol["st_shndx"]
     if kind in ("STT_SECTION", "STT_FILE", "STT_TLS") or index == "SHN_UNDEF" or not name:
         return False
     if name.startswith(PREFIX) and (kind == STT_GNU_IFUNC or index == "SHN_ABS"):
         raise ValueError(f"{name} is chosen by the loader (IFUNC), or absolute (SHN_ABS)")
-    return index != "SHN_ABS"
+    return index in loaded

@@ -19,6 +19,7 @@ from build import (
 )
 from contracts.names import FUNCTIONS
 from execution import proofs
+from reading import library
 
 VERSIONS = "V1 { global: const_hex_*; local: *; };"
 UNSHARED = "V1 { global: const_hex_*; local: const_hex_check_raw; };"
@@ -148,6 +149,12 @@ def test_honest_builds_are_read(make, tmp_path):
     assert len(contracts) == (45 if file.machine == 62 else 37)
     assert all(file.code_at(file.symbols[name]) for name, _ in contracts)
     assert [file.is_choice(address) for address in file.choices] == [True] * (file.machine == 62)
+
+
+def test_symbols_of_debug_information_have_no_address(tmp_path):
+    """Assemblers for AArch64 mark data there, too, at distances from the start of the section."""
+    make = with_source(".section .debug_info; .skip 12345; mark: .byte 0")
+    assert 12345 not in library.read(make(tmp_path).read_bytes()).starts
 
 
 def test_a_program_for_avx2_alone_is_read():
