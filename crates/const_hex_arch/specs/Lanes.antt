@@ -10,13 +10,13 @@ use Rattle.const_hex_arch.specs.Texts.{hex_value, IsDigit}
 abbrev pub AllNibbles : List ℕ → Type 0
 AllNibbles = AllByRecursion (λ n. n ≤ 15)
 
--- a lane has no mark: four of its bits are clear
-abbrev pub IsUnmarked : ℕ → Type 0
-IsUnmarked z = bit_at z 7 + bit_at z 6 + bit_at z 4 + bit_at z 3 ≡ 0
+-- a lane has no error bit: four of its bits are clear
+abbrev pub IsClear : ℕ → Type 0
+IsClear z = bit_at z 7 + bit_at z 6 + bit_at z 4 + bit_at z 3 ≡ 0
 
--- no lane has a mark
-abbrev pub AllUnmarked : List ℕ → Type 0
-AllUnmarked = AllByRecursion IsUnmarked
+-- no lane has an error bit
+abbrev pub AllClear : List ℕ → Type 0
+AllClear = AllByRecursion IsClear
 
 -- the halves of all bytes, the upper one first
 abbrev pub halves_of : List ℕ → List ℕ
@@ -39,10 +39,10 @@ as_value n = if nat_le n 15 then Some n else None
 abbrev pub IsValueOf : ℕ → ℕ → Type 0
 IsValueOf b n = IsDigit b → hex_value b ≡ Some n
 
--- if the byte is a digit, n is its value; the byte less 48, less n, has no mark if and only if the
+-- if the byte is a digit, n is its value; the byte less 48, less n, has no error bit if and only if the
 -- byte is a digit
 abbrev pub IsPartOf : ℕ → ℕ → Type 0
-IsPartOf b n = IsValueOf b n × (IsUnmarked (((b + 208) % 256 + (256 - n)) % 256) ↔ IsDigit b)
+IsPartOf b n = IsValueOf b n × (IsClear (((b + 208) % 256 + (256 - n)) % 256) ↔ IsDigit b)
 
 -- the byte less 48, but at most t, is such a part
 abbrev pub IsLimitOf : ℕ → ℕ → Type 0

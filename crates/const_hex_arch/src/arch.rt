@@ -24,16 +24,16 @@ use crate::output::Output;
 /// ```
 pub type FixedKernel = Lanes32;
 
-/// Writes a piece of text, by one call, or, if `single` is true, its two bytes by a call each.
+/// Writes a piece of text, by one call, or, if `byte_by_byte` is true, its two bytes by a call each.
 #[inline(always)]
-fn write_piece<O: Output>(piece: &[u8], single: bool, output: &mut O)
+fn write_piece<O: Output>(piece: &[u8], byte_by_byte: bool, output: &mut O)
     requires ascii { IsAscii piece.now }
     requires space { HasSpace (O.space output.old) (length piece.now) }
     requires size { IsKernelPiece piece.now }
-    requires pair { IsTrue single → length piece.now ≡ 2 }
+    requires pair { IsTrue byte_by_byte → length piece.now ≡ 2 }
     ensures { Writes O.step output.old piece.now output.new }
 {
-    if single {
+    if byte_by_byte {
         output.write_byte(piece[0]);
         output.write_byte(piece[1]);
     } else {

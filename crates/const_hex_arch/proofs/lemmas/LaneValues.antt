@@ -1,6 +1,6 @@
 -- Digits in vectors of any number of lanes: their values, the bytes that they make, and the tests of lanes. The numbers
 -- are those of lanes16.rt and lanes.rt, which docs/DESIGN.md explains under "Checking and decoding one vector": adding
--- 208 subtracts `0`, 143 (0x8F) is the part of a byte that looks up its limit, and 216 (0xD8) are the bits of a mark.
+-- 208 subtracts `0`, 143 (0x8F) is the part of a byte that looks up its limit, and 216 (0xD8) is the mask of the error bits.
 use Rattle.std.proofs.Common.{◌≡◌, ℕ, ◌+◌, ◌-◌, ◌%◌, ◌^◌, ◌<◌, ◌≤◌, Bool, true, false, cond, eqb, ltb, T, ◌||◌, List, [], ◌∷◌, map, length, replicate, get_or, bit_and, refl, ap, arith, w8, Fits, Option, Some, None, IsSome, is_none, eqb→eq, zero, suc, ◌*◌, ◌/◌, ◌++◌, take, drop, sym, ◌∙◌, le-leb, length-append, ◌↔◌, ltb→lt, bit_or, subst, IsTrue, is_some}
 use Rattle.std.specs.List.{AllZip}
 use Rattle.std.proofs.lemmas.Bool.{false≢true, agree_below, agree_below_at}
@@ -9,7 +9,7 @@ use Rattle.std.proofs.lemmas.List.Elements.{All-head, All-tail, All-nil, All-con
 use lib.Lanes.{zip2, sel_l, top, Each1, number_l, digits_l, fold_l}
 use Rattle.std.proofs.lemmas.Grind.{common_steps}
 use Rattle.std.proofs.lemmas.List.{map-append}
-use Rattle.const_hex_arch.specs.{hex_value, IsDigit, AllDigits, AllNibbles, as_value, IsValueOf, Spells, byte_pairs, IsUnmarked, AllUnmarked, IsPartOf, IsLimitOf}
+use Rattle.const_hex_arch.specs.{hex_value, IsDigit, AllDigits, AllNibbles, as_value, IsValueOf, Spells, byte_pairs, IsClear, AllClear, IsPartOf, IsLimitOf}
 use Rattle.const_hex_arch.proofs.lemmas.Standard.{every_below, every_pair, holds_below}
 use Rattle.const_hex_arch.proofs.lemmas.Digits.{digits_append}
 use Rattle.const_hex_arch.proofs.lemmas.Texts.{IsPair-of}
@@ -157,9 +157,9 @@ merge_spells n t u a b p q first second r is d =
 pub in_two : (n : ℕ) (u : List ℕ) → length u ≡ 2 * n → take n u ++ take n (drop n u) ≡ u
 in_two n u e = grind (arith, common_steps)
 
--- the bits that mark a lane
-abbrev mark_bits : ℕ → ℕ
-mark_bits z = bit_at z 7 + bit_at z 6 + bit_at z 4 + bit_at z 3
+-- how many error bits of a lane are set
+abbrev error_count : ℕ → ℕ
+error_count z = bit_at z 7 + bit_at z 6 + bit_at z 4 + bit_at z 3
 
 -- ---- the limits of 16 lanes, by a table of the low halves
 
@@ -181,22 +181,22 @@ module _ (table : List ℕ) where
   abbrev value_of : ℕ → ℕ
   value_of b = cond (ltb (minus_48 b) (limit b)) (minus_48 b) (limit b)
 
-  abbrev mark_of : ℕ → ℕ
-  mark_of b = (minus_48 b + (256 - value_of b)) % 256
+  abbrev error_bits_of : ℕ → ℕ
+  error_bits_of b = (minus_48 b + (256 - value_of b)) % 256
 
   -- the value of a digit is right
   abbrev is_right : ℕ → Bool
   is_right b = is_none (hex_value b) || same_value (hex_value b) (Some (value_of b))
 
-  abbrev is_unmarked : ℕ → Bool
-  is_unmarked b = eqb (mark_bits (mark_of b)) 0
+  abbrev is_clear : ℕ → Bool
+  is_clear b = eqb (error_count (error_bits_of b)) 0
 
-  -- of the 256 bytes, just the digits leave no mark
-  module _ (t : agree_below is_unmarked (λ b. is_some (hex_value b)) 256 ≡ true) (u : T (holds_below is_right 256)) where
+  -- of the 256 bytes, just the digits have no error bit
+  module _ (t : agree_below is_clear (λ b. is_some (hex_value b)) 256 ≡ true) (u : T (holds_below is_right 256)) where
     limit_at : (b : ℕ) → b < 256 → IsLimitOf b (limit b)
     limit_at b h = (
       same_if_some _ _ (every_below is_right 256 u b h),
-      same_test _ _ (agree_below_at is_unmarked (λ b. is_some (hex_value b)) 256 b t h),
+      same_test _ _ (agree_below_at is_clear (λ b. is_some (hex_value b)) 256 b t h),
     )
 
     -- from lane i on
@@ -233,50 +233,50 @@ values_of_parts [] [] z = tt
 values_of_parts (x ∷ v) (n ∷ ns) z = (z.0.0, values_of_parts v ns z.1)
 values_of_parts _ _ z = absurd z
 
--- the marks of lanes: there are none if and only if all lanes are digits
-pub unmarked_are_digits : (v ns : List ℕ) → AllZip IsPartOf v ns
-    → AllUnmarked (zip2 sub8 (minus_48_l (length v) v) ns) ↔ AllDigits v
-unmarked_are_digits [] [] z = (λ _. All-nil IsDigit, λ _. tt)
-unmarked_are_digits (b ∷ v) (n ∷ ns) z =
-    grind (arith, All-head IsDigit b v, All-tail IsDigit b v, All-cons IsDigit b v, unmarked_are_digits v ns z.1)
-unmarked_are_digits _ _ z = absurd z
+-- no lane has an error bit if and only if all lanes are digits
+pub clear_are_digits : (v ns : List ℕ) → AllZip IsPartOf v ns
+    → AllClear (zip2 sub8 (minus_48_l (length v) v) ns) ↔ AllDigits v
+clear_are_digits [] [] z = (λ _. All-nil IsDigit, λ _. tt)
+clear_are_digits (b ∷ v) (n ∷ ns) z =
+    grind (arith, All-head IsDigit b v, All-tail IsDigit b v, All-cons IsDigit b v, clear_are_digits v ns z.1)
+clear_are_digits _ _ z = absurd z
 
 -- a lane of two together
-both_unmarked : (y z : ℕ) → IsUnmarked (bit_or y z) ↔ (IsUnmarked y × IsUnmarked z)
-both_unmarked y z = let bits = bit_at_or y z in omega (arith, bits 7, bits 6, bits 4, bits 3)
+both_clear : (y z : ℕ) → IsClear (bit_or y z) ↔ (IsClear y × IsClear z)
+both_clear y z = let bits = bit_at_or y z in omega (arith, bits 7, bits 6, bits 4, bits 3)
 
-all_unmarked : (ys zs : List ℕ) → length ys ≡ length zs
-    → AllUnmarked (zip2 bit_or ys zs) ↔ (AllUnmarked ys × AllUnmarked zs)
-all_unmarked [] [] e = (λ h. (tt, tt), λ h. tt)
-all_unmarked (y ∷ ys) (z ∷ zs) e = grind (arith, both_unmarked y z, all_unmarked ys zs (omega arith))
-all_unmarked _ _ e = absurd (omega arith)
+all_clear : (ys zs : List ℕ) → length ys ≡ length zs
+    → AllClear (zip2 bit_or ys zs) ↔ (AllClear ys × AllClear zs)
+all_clear [] [] e = (λ h. (tt, tt), λ h. tt)
+all_clear (y ∷ ys) (z ∷ zs) e = grind (arith, both_clear y z, all_clear ys zs (omega arith))
+all_clear _ _ e = absurd (omega arith)
 
--- the marks of two texts joined, for the text of both
-pub joint_test : (ys zs t u : List ℕ) → length ys ≡ length zs → AllUnmarked ys ↔ AllDigits t
-    → AllUnmarked zs ↔ AllDigits u
-    → AllUnmarked (zip2 bit_or ys zs) ↔ AllDigits (t ++ u)
-joint_test ys zs t u e first second = grind (arith, all_unmarked ys zs e, digits_append t u)
+-- the error bits of two texts joined, for the text of both
+pub joint_test : (ys zs t u : List ℕ) → length ys ≡ length zs → AllClear ys ↔ AllDigits t
+    → AllClear zs ↔ AllDigits u
+    → AllClear (zip2 bit_or ys zs) ↔ AllDigits (t ++ u)
+joint_test ys zs t u e first second = grind (arith, all_clear ys zs e, digits_append t u)
 
 -- ---- one test of all lanes
 
-abbrev marked : ℕ → ℕ
-marked x = bit_and x 216
+abbrev masked : ℕ → ℕ
+masked x = bit_and x 216
 
-at_lane : (x : ℕ) → Fits w8 x → (marked x < 256) × ((marked x ≡ 0) ↔ IsUnmarked x)
+at_lane : (x : ℕ) → Fits w8 x → (masked x < 256) × ((masked x ≡ 0) ↔ IsClear x)
 at_lane x f = (
-  ltb→lt _ _ (every_below (λ x. ltb (marked x) 256) 256 tt x f.fits),
-  grind (arith, nat_tests, agree_below_at (λ x. eqb (marked x) 0) (λ x. eqb (mark_bits x) 0) 256 x refl f.fits),
+  ltb→lt _ _ (every_below (λ x. ltb (masked x) 256) 256 tt x f.fits),
+  grind (arith, nat_tests, agree_below_at (λ x. eqb (masked x) 0) (λ x. eqb (error_count x) 0) 256 x refl f.fits),
 )
 
-abbrev all_marked : List ℕ → List ℕ
-all_marked xs = zip2 bit_and xs (replicate (length xs) 216)
+abbrev all_masked : List ℕ → List ℕ
+all_masked xs = zip2 bit_and xs (replicate (length xs) 216)
 
 -- eight lanes as one number of 64 bits
-unmarked_numbers : (a n : ℕ) (xs : List ℕ) → length xs ≡ 8 * n → Each1 (Fits w8) xs
-    → (fold_l bit_or a (digits_l 18446744073709551616 n (number_l 256 (all_marked xs))) ≡ 0) ↔ ((a ≡ 0) × AllUnmarked xs)
-unmarked_numbers a zero [] e f = (λ h. (h, tt), λ h. h.0)
-unmarked_numbers a (suc n) (x0 ∷ x1 ∷ x2 ∷ x3 ∷ x4 ∷ x5 ∷ x6 ∷ x7 ∷ xs) e f =
-    let rest = number_l 256 (all_marked xs) in
+clear_numbers : (a n : ℕ) (xs : List ℕ) → length xs ≡ 8 * n → Each1 (Fits w8) xs
+    → (fold_l bit_or a (digits_l 18446744073709551616 n (number_l 256 (all_masked xs))) ≡ 0) ↔ ((a ≡ 0) × AllClear xs)
+clear_numbers a zero [] e f = (λ h. (h, tt), λ h. h.0)
+clear_numbers a (suc n) (x0 ∷ x1 ∷ x2 ∷ x3 ∷ x4 ∷ x5 ∷ x6 ∷ x7 ∷ xs) e f =
+    let rest = number_l 256 (all_masked xs) in
     let at0 = at_lane x0 f.0 in
     let at1 = at_lane x1 f.1.0 in
     let at2 = at_lane x2 f.1.1.0 in
@@ -285,18 +285,18 @@ unmarked_numbers a (suc n) (x0 ∷ x1 ∷ x2 ∷ x3 ∷ x4 ∷ x5 ∷ x6 ∷ x7 
     let at5 = at_lane x5 f.1.1.1.1.1.0 in
     let at6 = at_lane x6 f.1.1.1.1.1.1.0 in
     let at7 = at_lane x7 f.1.1.1.1.1.1.1.0 in
-    let number = number_l 256 (all_marked (x0 ∷ x1 ∷ x2 ∷ x3 ∷ x4 ∷ x5 ∷ x6 ∷ x7 ∷ xs)) in
+    let number = number_l 256 (all_masked (x0 ∷ x1 ∷ x2 ∷ x3 ∷ x4 ∷ x5 ∷ x6 ∷ x7 ∷ xs)) in
     let above : number / 18446744073709551616 ≡ rest = omega arith in
-    let here : (number % 18446744073709551616 ≡ 0) ↔ ((marked x0 + marked x1 + marked x2 + marked x3 + marked x4 + marked x5 + marked x6 + marked x7) ≡ 0) = omega arith in
-    let more = unmarked_numbers (bit_or a (number % 18446744073709551616)) n xs (omega arith) f.1.1.1.1.1.1.1.1 in
+    let here : (number % 18446744073709551616 ≡ 0) ↔ ((masked x0 + masked x1 + masked x2 + masked x3 + masked x4 + masked x5 + masked x6 + masked x7) ≡ 0) = omega arith in
+    let more = clear_numbers (bit_or a (number % 18446744073709551616)) n xs (omega arith) f.1.1.1.1.1.1.1.1 in
     rw above (grind (arith, here, at0, at1, at2, at3, at4, at5, at6, at7, more, le_or_l, le_or_r))
-unmarked_numbers a _ _ e f = absurd (omega arith)
+clear_numbers a _ _ e f = absurd (omega arith)
 
--- no lane has a mark if and only if all lanes AND 216, joined by OR in numbers of 64 bits, are 0
-pub are_unmarked : (n : ℕ) (xs : List ℕ) → (length xs ≡ 8 * n) × Each1 (Fits w8) xs
+-- no lane has an error bit if and only if all lanes AND 216, joined by OR in numbers of 64 bits, are 0
+pub are_clear : (n : ℕ) (xs : List ℕ) → (length xs ≡ 8 * n) × Each1 (Fits w8) xs
     → IsTrue (eqb (fold_l bit_or 0 (digits_l 18446744073709551616 n (number_l 256 (zip2 bit_and xs (replicate (8 * n) 216))))) 0)
-    ↔ AllUnmarked xs
-are_unmarked n xs f = rw (← f.0) (grind (arith, nat_tests, unmarked_numbers 0 n xs f.0 f.1))
+    ↔ AllClear xs
+are_clear n xs f = rw (← f.0) (grind (arith, nat_tests, clear_numbers 0 n xs f.0 f.1))
 
 -- the byte that two digits in the first lanes make
 pub joined : (h l : ℕ) → h < 16 → l < 16 → bit_or (h * 16 % 256) l ≡ 16 * h + l

@@ -60,7 +60,7 @@ impl<const N: usize, V: LaneOps<N> + LaneOps<16>> Kernel for ByLength<N, V> {
     #[inline(always)]
     #[tactic(auto, using(crate::proofs::lemmas::FirstInvalid::again))]
     fn decode_checked(input: &[u8], output: &mut [u8]) -> bool {
-        Self::decode_all(input, output) || long::decode_front::<N, V>(input, output)
+        Self::decode_all(input, output) || long::decode_before_invalid::<N, V>(input, output)
     }
 
     #[inline(always)]

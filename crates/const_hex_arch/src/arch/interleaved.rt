@@ -2,7 +2,7 @@
 
 ghost use Rattle.std.specs.Prelude.{◌≡◌, ◌↔◌, ◌<◌, ◌++◌, length, IsTrue};
 ghost use Rattle.std.specs.List.{AllZip};
-ghost use Rattle.const_hex_arch.specs.{hex_text, AllNibbles, AllUnmarked, byte_pairs, IsLimitOf};
+ghost use Rattle.const_hex_arch.specs.{hex_text, AllNibbles, AllClear, byte_pairs, IsLimitOf};
 
 use crate::arch::by_length::ByLength;
 use crate::arch::lanes::{LaneOps, Multiplying};
@@ -32,7 +32,7 @@ impl LaneOps<16> for Interleaving {
         let first = digits.swizzle_dyn(v >> u8x16::splat(4));
         let second = digits.swizzle_dyn(v & u8x16::splat(15));
         let (front, back) = first.interleave(second);
-        lanes16::join(front, back).copy_to_slice(output);
+        lanes16::concat_lanes(front, back).copy_to_slice(output);
     }
 
     #[inline(always)]
@@ -52,10 +52,10 @@ impl LaneOps<16> for Interleaving {
     }
 
     #[inline(always)]
-    fn are_unmarked(marks: u8x16) -> bool
-        ensures { IsTrue result ↔ AllUnmarked marks }
+    fn are_clear(error_bits: u8x16) -> bool
+        ensures { IsTrue result ↔ AllClear error_bits }
     {
-        <Multiplying as LaneOps<16>>::are_unmarked(marks)
+        <Multiplying as LaneOps<16>>::are_clear(error_bits)
     }
 
     ghost use Rattle.std.proofs.Common.{arith};
@@ -89,10 +89,10 @@ impl LaneOps<32> for Interleaving {
     }
 
     #[inline(always)]
-    fn are_unmarked(marks: u8x32) -> bool
-        ensures { IsTrue result ↔ AllUnmarked marks }
+    fn are_clear(error_bits: u8x32) -> bool
+        ensures { IsTrue result ↔ AllClear error_bits }
     {
-        <Multiplying as LaneOps<32>>::are_unmarked(marks)
+        <Multiplying as LaneOps<32>>::are_clear(error_bits)
     }
 
     ghost use Rattle.std.proofs.Common.{arith};

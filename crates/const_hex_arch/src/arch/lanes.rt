@@ -4,7 +4,7 @@
 
 ghost use Rattle.std.specs.Prelude.{◌≡◌, ◌*◌, ◌/◌, ◌++◌, ◌≤◌, ◌↔◌, length, map, IsTrue};
 ghost use Rattle.std.specs.List.{AllZip};
-ghost use Rattle.const_hex_arch.specs.{hex_value, hex_text, AllDigits, Spells, AllNibbles, AllUnmarked, byte_pairs, as_value, IsValueOf, IsPartOf, IsLimitOf};
+ghost use Rattle.const_hex_arch.specs.{hex_value, hex_text, AllDigits, Spells, AllNibbles, AllClear, byte_pairs, as_value, IsValueOf, IsPartOf, IsLimitOf};
 
 use std::simd::prelude::*;
 
@@ -25,9 +25,9 @@ pub trait LaneOps<const N: usize> {
         ensures { AllNibbles (first.entry ++ second.entry)
             → result ≡ byte_pairs (first.entry ++ second.entry) };
 
-    /// Whether every mark has the bits 7, 6, 4 and 3 clear.
-    fn are_unmarked(marks: Simd<u8, N>) -> bool
-        ensures { IsTrue result ↔ AllUnmarked marks.entry };
+    /// Whether the bits 7, 6, 4 and 3 of every lane are clear.
+    fn are_clear(error_bits: Simd<u8, N>) -> bool
+        ensures { IsTrue result ↔ AllClear error_bits.entry };
 
     /// A step has at least one byte, so that a loop ends, at most 32, so that shorter inputs have at most 32, and an
     /// even number, so that it has two halves.
@@ -66,7 +66,7 @@ pub(crate) fn unhex<const N: usize>(v: Simd<u8, N>) -> Simd<u8, N>
 }
 
 /// `min(lane - 48, limit)` for each lane. If the lane is a digit, this is its value. Otherwise it
-/// is a number by which [`marks`] rejects the lane.
+/// is a number by which [`error_bits`] rejects the lane.
 #[inline(always)]
 #[tactic(auto, using(crate::proofs::lemmas::LaneValues::parts_are))]
 pub(crate) fn values<const N: usize, V: LaneOps<N>>(v: Simd<u8, N>) -> Simd<u8, N>
@@ -75,14 +75,14 @@ pub(crate) fn values<const N: usize, V: LaneOps<N>>(v: Simd<u8, N>) -> Simd<u8, 
     (v - Simd::splat(0x30)).simd_min(V::look_up_limits(v))
 }
 
-/// A mark for each lane: the lane less 48, less its value. The lane is a digit if and only if the bits
-/// 7, 6, 4 and 3 (the mask `0xD8`) of its mark are clear. Marks of several vectors can be joined with `|`
-/// and tested at once.
+/// The error bits of each lane: the lane less 48, less its value. The lane is a digit if and only if
+/// the bits 7, 6, 4 and 3 (the mask `0xD8`) of this number are clear. The error bits of several vectors can
+/// be joined with `|` and tested at once.
 // `(v - 48).saturating_sub(limits)` is the same number. But then the limits of all vectors would
-// stay in registers beside the values until the marks are tested, and SSE has only 16 registers.
+// stay in registers beside the values until the error bits are tested, and SSE has only 16 registers.
 #[inline(always)]
-pub(crate) fn marks<const N: usize, V: LaneOps<N>>(v: Simd<u8, N>) -> Simd<u8, N>
-    ensures { AllUnmarked result ↔ AllDigits v.entry }
+pub(crate) fn error_bits<const N: usize, V: LaneOps<N>>(v: Simd<u8, N>) -> Simd<u8, N>
+    ensures { AllClear result ↔ AllDigits v.entry }
 {
     v - Simd::splat(0x30) - values::<N, V>(v)
 }
@@ -92,7 +92,7 @@ pub(crate) fn marks<const N: usize, V: LaneOps<N>>(v: Simd<u8, N>) -> Simd<u8, N
 pub(crate) fn are_digits<const N: usize, V: LaneOps<N>>(v: Simd<u8, N>) -> bool
     ensures { IsTrue result ↔ AllDigits v.entry }
 {
-    V::are_unmarked(marks::<N, V>(v))
+    V::are_clear(error_bits::<N, V>(v))
 }
 
 /// Whether every lane of both vectors is a digit, by one test.
@@ -103,22 +103,22 @@ pub(crate) fn are_all_digits<const N: usize, V: LaneOps<N>>(
 ) -> bool
     ensures { IsTrue result ↔ AllDigits (first.entry ++ second.entry) }
 {
-    V::are_unmarked(joint_marks::<N, V>(first, second))
+    V::are_clear(joint_error_bits::<N, V>(first, second))
 }
 
-/// The marks of two vectors, joined.
+/// The error bits of two vectors, joined.
 #[inline(always)]
-pub(crate) fn joint_marks<const N: usize, V: LaneOps<N>>(
+pub(crate) fn joint_error_bits<const N: usize, V: LaneOps<N>>(
     first: Simd<u8, N>,
     second: Simd<u8, N>,
 ) -> Simd<u8, N>
-    ensures { AllUnmarked result ↔ AllDigits (first.entry ++ second.entry) }
+    ensures { AllClear result ↔ AllDigits (first.entry ++ second.entry) }
 {
-    marks::<N, V>(first) | marks::<N, V>(second)
+    error_bits::<N, V>(first) | error_bits::<N, V>(second)
 }
 
 /// Decodes two vectors of digits to one vector of bytes. If some lane is not a digit, the result is
-/// unspecified: test the marks before you use it.
+/// unspecified: test the error bits before you use it.
 #[inline(always)]
 #[tactic(auto, using(crate::proofs::lemmas::LaneValues::values_of_parts, crate::proofs::lemmas::LaneValues::merge_spells))]
 pub(crate) fn decode<const N: usize, V: LaneOps<N>>(

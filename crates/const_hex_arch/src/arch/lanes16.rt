@@ -5,7 +5,7 @@
 
 ghost use Rattle.std.specs.Prelude.{◌≡◌, ◌↔◌, [], ◌∷◌, ◌++◌, length, map, IsTrue, IsNone, IfSome};
 ghost use Rattle.std.specs.List.{AllZip, concat, range_with_len};
-ghost use Rattle.const_hex_arch.specs.{hex_digit, hex_value, hex_text, AllDigits, Spells, AllNibbles, AllUnmarked, byte_pairs, halves_of, as_value, IsValueOf, IsLimitOf};
+ghost use Rattle.const_hex_arch.specs.{hex_digit, hex_value, hex_text, AllDigits, Spells, AllNibbles, AllClear, byte_pairs, halves_of, as_value, IsValueOf, IsLimitOf};
 
 use crate::arch::by_length::ByLength;
 use crate::arch::lanes::{self, LaneOps, Multiplying};
@@ -14,10 +14,10 @@ use std::simd::prelude::*;
 /// For each low half of a byte the limit: no digit with this low half has a greater value.
 // `byte - 48` is the value of `0` to `9`, and more than the value of a letter. For a low half that
 // a letter has (1 to 6), the limit is the value of the letter, so the minimum of both is the value
-// of every digit. The mark is `byte - 48 - value`: 0 for `0` to `9`, 7 for `A` to `F` and 39 for
-// `a` to `f`, none of which has a bit of 0xD8. Every other byte leaves a mark that has one. For a
+// of every digit. The error bits are `byte - 48 - value`: 0 for `0` to `9`, 7 for `A` to `F` and 39 for
+// `a` to `f`, none of which has a bit of 0xD8. Every other byte leaves a number that has one. For a
 // low half that only a decimal digit has (0, 7, 8, 9), the limit is one more than its value. With
-// the value itself, `P`, `W`, `X` and `Y` would leave the mark 32, and pass as digits.
+// the value itself, `P`, `W`, `X` and `Y` would leave the number 32, and pass as digits.
 const LIMITS: [u8; 16] = [1, 10, 11, 12, 13, 14, 15, 8, 9, 10, 0, 0, 0, 0, 0, 0];
 
 /// The digits in lowercase, and in uppercase.
@@ -37,7 +37,7 @@ fn in_both_halves(lanes: [u8; 16]) -> u8x32
     ensures { result ≡ lanes ++ lanes }
 {
     let half = u8x16::from_array(lanes);
-    join(half, half)
+    concat_lanes(half, half)
 }
 
 /// Two digits for each lane, in order: the text of the first 8 lanes, and the text of the last 8.
@@ -149,15 +149,15 @@ impl LaneOps<16> for Multiplying {
     fn merge(first: u8x16, second: u8x16) -> u8x16
         ensures { AllNibbles (first ++ second) → result ≡ byte_pairs (first ++ second) }
     {
-        pack(join(first, second))
+        pack(concat_lanes(first, second))
     }
 
     // In lanes of 64 bits: for AArch64, LLVM joins those of 8 bits by five instructions more.
     #[inline(always)]
-    fn are_unmarked(marks: u8x16) -> bool
-        ensures { IsTrue result ↔ AllUnmarked marks }
+    fn are_clear(error_bits: u8x16) -> bool
+        ensures { IsTrue result ↔ AllClear error_bits }
     {
-        u64x2::from_le_bytes(marks & u8x16::splat(0xD8)).reduce_or() == 0
+        u64x2::from_le_bytes(error_bits & u8x16::splat(0xD8)).reduce_or() == 0
     }
 
     ghost use Rattle.std.proofs.Common.{arith};
@@ -219,7 +219,7 @@ fn decode_flagged(text: [u8x16; 2]) -> (u8x16, bool)
 
 /// The lanes of both vectors, in order.
 #[inline(always)]
-pub(crate) fn join(first: u8x16, second: u8x16) -> u8x32
+pub(crate) fn concat_lanes(first: u8x16, second: u8x16) -> u8x32
     ensures { result ≡ first ++ second }
 {
     first.shuffle(

@@ -5,7 +5,7 @@
 
 ghost use Rattle.std.specs.Prelude.{◌≡◌, ◌↔◌, [], ◌∷◌, ◌++◌, length, map, IsTrue, IsNone, IfSome};
 ghost use Rattle.std.specs.List.{AllZip, concat};
-ghost use Rattle.const_hex_arch.specs.{hex_value, hex_text, AllDigits, Spells, AllNibbles, AllUnmarked, byte_pairs, as_value, IsValueOf, IsLimitOf};
+ghost use Rattle.const_hex_arch.specs.{hex_value, hex_text, AllDigits, Spells, AllNibbles, AllClear, byte_pairs, as_value, IsValueOf, IsLimitOf};
 
 use crate::arch::by_length::ByLength;
 use crate::arch::lanes::{self, LaneOps, Multiplying};
@@ -107,29 +107,29 @@ impl LaneOps<32> for Multiplying {
     }
 
     // In halves of 16 lanes, for which the mask costs nothing. With AVX2 the compiler makes one shuffle
-    // of both. `merge` and `are_unmarked` use 32 lanes, since the compiler would keep halves there.
+    // of both. `merge` and `are_clear` use 32 lanes, since the compiler would keep halves there.
     #[inline(always)]
     fn look_up_limits(v: u8x32) -> u8x32
         ensures { AllZip IsLimitOf v result }
     {
         let first = <Multiplying as LaneOps<16>>::look_up_limits(v.extract::<0, 16>());
         let second = <Multiplying as LaneOps<16>>::look_up_limits(v.extract::<16, 16>());
-        lanes16::join(first, second)
+        lanes16::concat_lanes(first, second)
     }
 
     #[inline(always)]
     fn merge(first: u8x32, second: u8x32) -> u8x32
         ensures { AllNibbles (first ++ second) → result ≡ byte_pairs (first ++ second) }
     {
-        pack(join(first, second))
+        pack(concat_lanes(first, second))
     }
 
     // In lanes of 64 bits: for AArch64, LLVM joins those of 8 bits by five instructions more.
     #[inline(always)]
-    fn are_unmarked(marks: u8x32) -> bool
-        ensures { IsTrue result ↔ AllUnmarked marks }
+    fn are_clear(error_bits: u8x32) -> bool
+        ensures { IsTrue result ↔ AllClear error_bits }
     {
-        u64x4::from_le_bytes(marks & u8x32::splat(0xD8)).reduce_or() == 0
+        u64x4::from_le_bytes(error_bits & u8x32::splat(0xD8)).reduce_or() == 0
     }
 
     ghost use Rattle.std.proofs.Common.{arith};
@@ -165,7 +165,7 @@ fn decode_flagged(text: [u8x32; 2]) -> (u8x32, bool)
 
 /// The lanes of both vectors, in order.
 #[inline(always)]
-fn join(first: u8x32, second: u8x32) -> u8x64
+fn concat_lanes(first: u8x32, second: u8x32) -> u8x64
     ensures { result ≡ first ++ second }
 {
     first.shuffle(

@@ -105,7 +105,7 @@ pub(crate) fn decode_digits<const N: usize, V: LaneOps<N>>(text: &[u8], output: 
 // Not inlined: with this body the public decoders would be too large to be inlined.
 #[cold]
 #[inline(never)]
-pub(crate) fn decode_front<const N: usize, V: LaneOps<N> + LaneOps<16>>(
+pub(crate) fn decode_before_invalid<const N: usize, V: LaneOps<N> + LaneOps<16>>(
     text: &[u8],
     output: &mut [u8],
 ) -> bool

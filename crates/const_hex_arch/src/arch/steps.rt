@@ -3,7 +3,7 @@
 //! `V` has the `N` lanes of a step.
 
 ghost use Rattle.std.specs.Prelude.{◌≡◌, ◌*◌, ◌↔◌, IsTrue, false, length};
-ghost use Rattle.const_hex_arch.specs.{hex_text, AllDigits, Spells, AllUnmarked};
+ghost use Rattle.const_hex_arch.specs.{hex_text, AllDigits, Spells, AllClear};
 
 use crate::arch::lanes::{self, LaneOps};
 use std::simd::prelude::*;
@@ -34,7 +34,7 @@ pub(crate) fn check_two_steps<const N: usize, V: LaneOps<N>>(text: &[u8]) -> boo
     requires { length text.now ≡ 2 * N }
     ensures { IsTrue result ↔ AllDigits text.now }
 {
-    V::are_unmarked(marks_of_two_steps::<N, V>(text))
+    V::are_clear(error_bits_of_two_steps::<N, V>(text))
 }
 
 /// As `check_step`, for the text of four steps, by one test.
@@ -44,17 +44,17 @@ pub(crate) fn check_four_steps<const N: usize, V: LaneOps<N>>(text: &[u8]) -> bo
     ensures { IsTrue result ↔ AllDigits text.now }
 {
     let (front, back) = text.split_at(2 * N);
-    V::are_unmarked(marks_of_two_steps::<N, V>(front) | marks_of_two_steps::<N, V>(back))
+    V::are_clear(error_bits_of_two_steps::<N, V>(front) | error_bits_of_two_steps::<N, V>(back))
 }
 
-/// Joined marks of the text of two steps. They are clear if and only if each byte is a digit.
+/// Joined error bits of the text of two steps. They are clear if and only if each byte is a digit.
 #[inline(always)]
 #[tactic(auto, using(crate::proofs::lemmas::LaneValues::in_two))]
-fn marks_of_two_steps<const N: usize, V: LaneOps<N>>(text: &[u8]) -> Simd<u8, N>
+fn error_bits_of_two_steps<const N: usize, V: LaneOps<N>>(text: &[u8]) -> Simd<u8, N>
     requires { length text.now ≡ 2 * N }
-    ensures { AllUnmarked result ↔ AllDigits text.now }
+    ensures { AllClear result ↔ AllDigits text.now }
 {
-    lanes::joint_marks::<N, V>(Simd::from_slice(text), Simd::from_slice(&text[N..]))
+    lanes::joint_error_bits::<N, V>(Simd::from_slice(text), Simd::from_slice(&text[N..]))
 }
 
 /// Decodes the text of a step into the output and returns true. If some byte is not a digit,
@@ -101,7 +101,7 @@ pub(crate) fn decode_two_steps<const N: usize, V: LaneOps<N>>(
 }
 
 /// Decodes the digits of a step.
-// The test has already computed these values for the marks. The compiler merges both computations.
+// The test has already computed these values for the error bits. The compiler merges both computations.
 #[inline(always)]
 pub(crate) fn decode_vector<const N: usize, V: LaneOps<N>>(text: &[u8]) -> Simd<u8, N>
     requires text { length text.now ≡ 2 * N }

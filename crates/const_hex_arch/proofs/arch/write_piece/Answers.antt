@@ -3,13 +3,13 @@ use Rattle.const_hex_arch.proofs.lemmas.Runs.{one_written, Writes-append}
 use Rattle.const_hex_arch.proofs.lemmas.Steps.{two_bytes}
 use Rattle.const_hex_arch.proofs.arch.write_piece.Goals as goal
 
-pub returns-then-single : goal.returns-then-single
-returns-then-single g c =
+pub returns-then-byte_by_byte : goal.returns-then-byte_by_byte
+returns-then-byte_by_byte g c =
     let step = g.O.Output.step in
     let piece = c.args.piece.now in
-    rw (two_bytes piece (c.requires.pair c.if-single.true))
+    rw (two_bytes piece (c.requires.pair c.if-byte_by_byte.true))
     (Writes-append step _ (slice_index_or piece 0 0 ∷ []) _ (slice_index_or piece 1 0 ∷ []) _
-    (one_written step _ _ _ c.write_byte.ensures (omega arith)) (one_written step _ _ _ c.write_byte-then-single.ensures (omega arith)))
+    (one_written step _ _ _ c.write_byte.ensures (omega arith)) (one_written step _ _ _ c.write_byte-then-byte_by_byte.ensures (omega arith)))
 
-pub returns-else-single : goal.returns-else-single
-returns-else-single g c = one_written g.O.Output.step _ _ _ c.write.ensures c.requires.size
+pub returns-else-byte_by_byte : goal.returns-else-byte_by_byte
+returns-else-byte_by_byte g c = one_written g.O.Output.step _ _ _ c.write.ensures c.requires.size

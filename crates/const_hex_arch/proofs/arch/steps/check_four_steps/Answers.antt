@@ -6,5 +6,5 @@ use Rattle.const_hex_arch.proofs.arch.steps.check_four_steps.Goals as goal
 
 pub returns : goal.returns
 returns g c =
-    let test = joint_test _ _ _ _ (omega arith) c.marks_of_two_steps.ensures c.marks_of_two_steps-2.ensures in
-    rw (parts _ c.split_at.ensures.front c.split_at.ensures.back) at (through c.are_unmarked.ensures test)
+    let test = joint_test _ _ _ _ (omega arith) c.error_bits_of_two_steps.ensures c.error_bits_of_two_steps-2.ensures in
+    rw (parts _ c.split_at.ensures.front c.split_at.ensures.back) at (through c.are_clear.ensures test)

@@ -12,5 +12,5 @@ swizzle-second c = masked_ok 15 tt 1 16 c.args.v refl c.fits-v
 pub returns : goal.returns
 returns c =
     let text = woven_text c.args.upper c.args.v c.fits-v in
-    put_chunk_whole _ _ (omega (arith, c.requires, ap length c.join.ensures)) ∙ c.join.ensures
+    put_chunk_whole _ _ (omega (arith, c.requires, ap length c.concat_lanes.ensures)) ∙ c.concat_lanes.ensures
     ∙ rw c.digits_row-digits.ensures text

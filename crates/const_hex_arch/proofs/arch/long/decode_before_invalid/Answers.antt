@@ -1,6 +1,6 @@
 use Rattle.std.proofs.Common.{refl, arith}
 use Rattle.const_hex_arch.proofs.lemmas.Steps.{decoded_step, refused_step, spells_rest, refused_rest}
-use Rattle.const_hex_arch.proofs.arch.long.decode_front.Goals as goal
+use Rattle.const_hex_arch.proofs.arch.long.decode_before_invalid.Goals as goal
 
 pub loop-output-preserved : goal.loop-output-preserved
 loop-output-preserved g c =

@@ -1,6 +1,6 @@
 use Rattle.std.proofs.Common.{arith, length-append}
 use Rattle.std.proofs.lemmas.Simd.{pick_l_whole}
-use Rattle.const_hex_arch.proofs.arch.lanes32.join.Goals as goal
+use Rattle.const_hex_arch.proofs.arch.lanes32.concat_lanes.Goals as goal
 
 pub returns : goal.returns
 returns c = pick_l_whole 0 _ 64 (simp length-append (omega arith))

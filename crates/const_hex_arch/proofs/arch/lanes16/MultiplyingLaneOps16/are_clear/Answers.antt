@@ -1,0 +1,5 @@
+use Rattle.const_hex_arch.proofs.lemmas.LaneValues.{are_clear}
+use Rattle.const_hex_arch.proofs.arch.lanes16.MultiplyingLaneOps16.are_clear.Goals as goal
+
+pub returns : goal.returns
+returns c = are_clear 2 c.args.error_bits c.fits-error_bits

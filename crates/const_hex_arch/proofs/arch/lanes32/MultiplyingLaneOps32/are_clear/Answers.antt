@@ -1,0 +1,5 @@
+use Rattle.const_hex_arch.proofs.lemmas.LaneValues.{are_clear}
+use Rattle.const_hex_arch.proofs.arch.lanes32.MultiplyingLaneOps32.are_clear.Goals as goal
+
+pub returns : goal.returns
+returns c = are_clear 4 c.args.error_bits c.fits-error_bits
