@@ -17,14 +17,16 @@ mod steps;
 use crate::arch::lanes32::Lanes32;
 use crate::output::Output;
 
-/// The kernel of every call that does not name one. It is named here and nowhere else.
+/// The kernel of every call that does not name one. It is named here and nowhere else. On x86-64 it is made for builds with
+/// AVX2, and slower than `Lanes16` without it.
 ///
 /// ```rust
 /// assert!(rt; FixedKernel::check(b"6b697769"));
 /// ```
 pub type FixedKernel = Lanes32;
 
-/// Writes a piece of text, by one call, or, if `byte_by_byte` is true, its two bytes by a call each.
+/// Writes a piece of text, by one call, or, if `byte_by_byte` is true, its two bytes by a call each: so do kernels without
+/// vectors in const-hex, and an output sees each call.
 #[inline(always)]
 fn write_piece<O: Output>(piece: &[u8], byte_by_byte: bool, output: &mut O)
     requires ascii { IsAscii piece.now }

@@ -123,7 +123,7 @@ pub fn value_at(b: u8) -> u8
 /// assert!(rt; !is_digit(b'g'));
 /// ```
 // Constant time: `is_ascii_hexdigit` would be compiled to branches on the byte. Three times a decimal digit, or five
-// times the place of a letter, is below 30.
+// times the place of a letter, is below 30. For smaller bytes the subtraction wraps, and the product is far above.
 #[inline(always)]
 pub fn is_digit(byte: u8) -> bool
     ensures { IsTrue result ↔ IsDigit byte }

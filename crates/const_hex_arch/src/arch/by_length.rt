@@ -9,7 +9,8 @@ use crate::arch::lanes::LaneOps;
 use crate::arch::{Kernel, long, short, steps};
 use std::marker::PhantomData;
 
-/// A kernel whose steps have `N` lanes, and 16 for what is shorter. `V` has the operations on their vectors.
+/// A kernel whose steps have `N` lanes. Inputs that are too short for them take vectors of 16 lanes. `V` has the operations on
+/// vectors.
 ///
 /// ```rust
 /// let mut text = [0; 8];
@@ -30,7 +31,8 @@ impl<const N: usize, V: LaneOps<N> + LaneOps<16>> Kernel for ByLength<N, V> {
 
     #[inline(always)]
     fn fill(input: &[u8], upper: bool, output: &mut [u8]) {
-        // First the length of many identifiers, which one step fills.
+        // 16 bytes first: many identifiers have this length, which takes one step.
+        // Up to 32 bytes in pairs of 16 also where N is 32: a step of 32 lanes would fit one length alone.
         if input.len() == 16 {
             steps::fill_step::<16, V>(input, upper, output);
         } else if input.len() < 16 {
@@ -42,8 +44,8 @@ impl<const N: usize, V: LaneOps<N> + LaneOps<16>> Kernel for ByLength<N, V> {
         }
     }
 
-    // Not `always`: `decode_body` calls `CheckFirst::<K>` in a branch that is never taken for this kernel. With all of
-    // `check` in that branch, the decoders would be too large to be inlined.
+    // Not `always`: `decode_body` calls `CheckFirst::<K>` in a branch that is never taken for this kernel. LLVM counts
+    // that branch before it removes it, and with all of `check` in it, the decoders would be too large to be inlined.
     #[inline]
     fn check(input: &[u8]) -> bool {
         if input.len() < 16 {
@@ -55,8 +57,8 @@ impl<const N: usize, V: LaneOps<N> + LaneOps<16>> Kernel for ByLength<N, V> {
         }
     }
 
-    /// Before an invalid character all whole steps are decoded, as const-hex decodes them, and of a remainder of less than
-    /// 16 bytes all pairs.
+    /// All whole steps before an invalid character are decoded, and of a remainder of less than 16 bytes all pairs before it.
+    /// So a caller finds the same bytes there as after const-hex.
     #[inline(always)]
     #[tactic(auto, using(crate::proofs::lemmas::FirstInvalid::again))]
     fn decode_checked(input: &[u8], output: &mut [u8]) -> bool {
@@ -66,8 +68,8 @@ impl<const N: usize, V: LaneOps<N> + LaneOps<16>> Kernel for ByLength<N, V> {
     #[inline(always)]
     #[tactic(auto, using(crate::proofs::lemmas::FirstInvalid::none_decoded, std::proofs::lemmas::List::take_all))]
     fn decode_all(input: &[u8], output: &mut [u8]) -> bool {
-        // The text as long as the output needs it: so a function that is not inlined, such as `read` of const_hex_c, takes
-        // no length of the text.
+        // Cut to the length that the output implies: so a function that is not inlined, such as `read` of const_hex_c, takes no
+        // length of the text.
         let text = &input[..2 * output.len()];
         if output.len() <= 16 {
             short::decode::<V>(text, output)
@@ -81,7 +83,7 @@ impl<const N: usize, V: LaneOps<N> + LaneOps<16>> Kernel for ByLength<N, V> {
     #[inline(always)]
     fn decode_unchecked(input: &[u8], output: &mut [u8]) {
         if output.len() < N {
-            // It checks them once more, and returns true.
+            // They are checked once more: short inputs have one body. It returns true.
             Self::decode_all(input, output);
         } else {
             long::decode_digits::<N, V>(input, output);

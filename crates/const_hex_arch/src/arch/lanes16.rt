@@ -114,8 +114,7 @@ pub fn unhex(v: u8x16) -> u8x16
 
 /// The kernel for vectors of 16 lanes. It encodes 16 bytes, checks 16 characters and decodes 32
 /// characters at a time. The remainder is encoded, checked and decoded together with what stands
-/// before it, as one more vector that overlaps the last one. If the remainder of a text has an
-/// invalid character, the pairs before that are decoded.
+/// before it, as one more vector that overlaps the last one.
 ///
 /// ```rust
 /// let mut bytes = [0; 4];
@@ -152,7 +151,7 @@ impl LaneOps<16> for Multiplying {
         pack(concat_lanes(first, second))
     }
 
-    // In lanes of 64 bits: for AArch64, LLVM joins those of 8 bits by five instructions more.
+    // Reduced as lanes of 64 bits: for AArch64, LLVM takes five instructions more for lanes of 8 bits.
     #[inline(always)]
     fn are_clear(error_bits: u8x16) -> bool
         ensures { IsTrue result ↔ AllClear error_bits }

@@ -88,7 +88,8 @@ pub fn unhex(v: u8x32) -> u8x32
 /// The kernel for vectors of 32 lanes. It encodes 32 bytes, checks 32 characters and decodes 64
 /// characters at a time. The remainder is encoded, checked and decoded together with what stands
 /// before it, as one more vector that overlaps the last one. Vectors of 16 lanes take up to 32 bytes
-/// to encode or characters to check, and up to 16 bytes to decode. On x86-64 it needs AVX2.
+/// to encode or characters to check, and up to 16 bytes to decode. On x86-64 it is made for AVX2: without it, LLVM
+/// makes two vectors of each.
 ///
 /// ```rust
 /// let mut bytes = [0; 4];
@@ -124,7 +125,7 @@ impl LaneOps<32> for Multiplying {
         pack(concat_lanes(first, second))
     }
 
-    // In lanes of 64 bits: for AArch64, LLVM joins those of 8 bits by five instructions more.
+    // Reduced as lanes of 64 bits: for AArch64, LLVM takes five instructions more for lanes of 8 bits.
     #[inline(always)]
     fn are_clear(error_bits: u8x32) -> bool
         ensures { IsTrue result ↔ AllClear error_bits }

@@ -26,7 +26,8 @@ pub(crate) fn fill<const N: usize, V: LaneOps<N>>(input: &[u8], upper: bool, out
     steps::fill_step::<N, V>(&input[start..], upper, &mut output[2 * start..]);
 }
 
-/// Whether every byte is a digit. The text has at least one step. Four steps share one test while more are left.
+/// Whether every byte is a digit. The text has at least one step. Four steps share one test while more than four are
+/// left.
 // The first step stands before the loops, so that LLVM keeps its constants in registers there.
 #[inline(always)]
 pub(crate) fn check<const N: usize, V: LaneOps<N>>(text: &[u8]) -> bool
@@ -54,8 +55,8 @@ pub(crate) fn check<const N: usize, V: LaneOps<N>>(text: &[u8]) -> bool
     steps::check_step::<N, V>(&text[text.len() - N..])
 }
 
-/// Decodes the text to at least one step of bytes and returns true. Two steps share one test while more are left, so as
-/// many vectors as in `check`. A test that fails ends the call, which returns false. The steps before it are decoded then.
+/// Decodes the text to at least one step of bytes and returns true. Two steps share one test while more than two are
+/// left: they have as many vectors as four steps of `check`. A test that fails ends the call, which returns false. The steps before it are decoded then.
 #[inline(always)]
 pub(crate) fn decode<const N: usize, V: LaneOps<N>>(text: &[u8], output: &mut [u8]) -> bool
     requires size { length text.now ≡ 2 * length output.old }
@@ -101,7 +102,8 @@ pub(crate) fn decode_digits<const N: usize, V: LaneOps<N>>(text: &[u8], output: 
 }
 
 /// Decodes a text with an invalid character as const-hex does, and returns false: step by step until one is invalid, of
-/// which nothing is written. Only what is too short for a step is decoded by 16 lanes, and then by pairs.
+/// which nothing is written. What is too short for a step of N lanes is decoded by at most one of 16, and then by pairs. The
+/// result is true if another process has removed the invalid character from shared memory in between.
 // Not inlined: with this body the public decoders would be too large to be inlined.
 #[cold]
 #[inline(never)]

@@ -1,6 +1,6 @@
 //! Short inputs, by two loads: one at the start and one at the end, which may overlap. So some bytes are taken twice.
 //!
-//! `V` has the operations on vectors. Digits of fewer than 16 bytes are made in the same way for each `V`.
+//! `V` has the operations on vectors. The text of at most 8 bytes is one vector, which one shuffle fills for each `V`.
 
 ghost use Rattle.std.specs.Prelude.{◌≡◌, [], ◌∷◌, ◌*◌, ◌-◌, ◌<◌, ◌≤◌, ◌++◌, ◌↔◌, length, take, drop, IsTrue, false};
 ghost use Rattle.const_hex_arch.specs.{AllDigits, Spells, hex_text};
@@ -17,6 +17,7 @@ pub(crate) fn fill(bytes: &[u8], upper: bool, output: &mut [u8])
     requires short { length bytes.now < 16 }
     ensures { output.new ≡ hex_text upper bytes.now }
 {
+    // One byte first, where a test takes the greatest part of the time.
     if bytes.len() == 1 {
         fill_end::<1>(bytes, upper, output);
     } else if bytes.len() >= 8 {
@@ -42,7 +43,7 @@ fn fill_ends<const H: usize>(bytes: &[u8], upper: bool, output: &mut [u8])
     fill_end::<H>(&bytes[start..], upper, &mut output[2 * start..]);
 }
 
-/// Fills the output with the text of `H` bytes, by one vector.
+/// Fills the output with the text of exactly `H` bytes, by one vector.
 #[inline(always)]
 fn fill_end<const H: usize>(bytes: &[u8], upper: bool, output: &mut [u8])
     requires half { H ≤ 8 }
@@ -144,7 +145,7 @@ fn decode_ends<const H: usize, V: LaneOps<16>>(text: &[u8], output: &mut [u8]) -
     let ends = load_ends(text, 2 * H);
     let are_digits = lanes::are_digits::<16, V>(ends);
     if are_digits {
-        // Of two vectors it makes one. The first half is enough.
+        // It merges two vectors into one. This one comes twice, and only the first half of the result is needed.
         let bytes = lanes::decode::<16, V>(ends, ends).to_array();
         copy_ends(&bytes[..2 * H], H, output);
     }

@@ -45,11 +45,13 @@ impl Output for SliceOutput<'_> {
     /// How many bytes of the slice are not written yet.
     #[inline(always)]
     fn remaining(&self) -> Option<usize> {
+        // `count` is never greater, which no invariant of the struct says.
         Some(self.slice.len().saturating_sub(self.count))
     }
 
     #[inline(always)]
     fn write(&mut self, bytes: &[u8]) {
+        // There is space for more than 0 bytes only if `count` is less than the length.
         if bytes.is_empty() {
             return;
         }

@@ -7,8 +7,8 @@ use crate::sink::{Sink, SinkError};
 use std::alloc::{AllocError, Global};
 use std::marker::Model;
 
-/// Keeps a copy of each piece. Refuses the call with a given number, or a piece that it cannot
-/// allocate.
+/// Keeps a copy of each piece, for tests and examples. Refuses the call with a given number, or a piece that
+/// it cannot allocate.
 ///
 /// Contracts see it as the pieces that it accepted, the number, and whether it has refused.
 ///
