@@ -22,8 +22,8 @@ const MIDDLE: usize = 1024;
 /// Bytes that are written as text, in uppercase or lowercase, with or without `0x` before it.
 ///
 /// Each piece has at most 4096 bytes, and each but the last at least 4033: the buffer is written when the next
-/// bytes do not fit, which are at most 64. No call follows an
-/// error. An empty text makes no call. Only the sink allocates.
+/// bytes do not fit, which are at most 64. No call follows an error. An empty text makes no call. Only the sink
+/// allocates.
 ///
 /// ```rust
 /// let mut sink = PieceSink::new(rt.alloc(), 0);
