@@ -1,6 +1,6 @@
 use Rattle.std.proofs.Common.{false, arith}
 use Rattle.const_hex.specs.Prelude.{AreBytes}
-use Rattle.const_hex_tests.proofs.examples.store.copy_array.Goals as goal
+use Rattle.const_hex_tests.proofs.examples.store.round_trip_array.Goals as goal
 
 pub returns : goal.returns
 returns c =

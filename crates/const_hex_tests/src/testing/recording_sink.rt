@@ -1,35 +1,35 @@
-//! A sink that notes each call.
+//! A sink that records each call.
 
 ghost use Rattle.std.specs.Prelude.{◌≡◌, false, None, refl};
 
 use const_hex::{Sink, SinkError};
 use std::alloc::{AllocError, Global};
 
-/// Notes the piece of each call: also of the one that it refuses, and of any that follows.
+/// Records the piece of each call, also of the call that fails and of any later one.
 #[derive(Drop)]
-pub struct Noting {
+pub struct RecordingSink {
     alloc: Global,
     /// The pieces, in the order of the calls.
     pub pieces: Vec<String>,
-    refuse_at: usize,
+    fail_at: usize,
     refused: bool,
 }
 
-impl Noting {
-    /// Refuses the call of that number, counted from 1, or none if the number is 0.
-    pub fn new(alloc: Global, refuse_at: usize) -> Noting
+impl RecordingSink {
+    /// A sink whose call number `fail_at` fails, counted from 1. With 0 no call fails.
+    pub fn new(alloc: Global, fail_at: usize) -> RecordingSink
         ensures { result.refused ≡ false }
     {
-        Noting {
+        RecordingSink {
             alloc,
             pieces: Vec::new(alloc),
-            refuse_at,
+            fail_at,
             refused: false,
         }
     }
 
-    fn note(&mut self, piece: &str) -> Result<(), AllocError>
-        ensures refuse_at { self.new.refuse_at ≡ self.old.refuse_at }
+    fn push_piece(&mut self, piece: &str) -> Result<(), AllocError>
+        ensures fail_at { self.new.fail_at ≡ self.old.fail_at }
         ensures refused { self.new.refused ≡ self.old.refused }
     {
         let copy = piece.to_string(self.alloc)?;
@@ -38,8 +38,8 @@ impl Noting {
     }
 }
 
-impl Sink for Noting {
-    ghost step = { λ s piece t. t.refuse_at ≡ s.refuse_at };
+impl Sink for RecordingSink {
+    ghost step = { λ s piece t. t.fail_at ≡ s.fail_at };
 
     ghost is_refused = { λ s. s.refused };
 
@@ -50,7 +50,7 @@ impl Sink for Noting {
     }
 
     fn write_str(&mut self, s: &str) -> Result<(), SinkError> {
-        if self.note(s).is_err() || self.pieces.len() == self.refuse_at {
+        if self.push_piece(s).is_err() || self.pieces.len() == self.fail_at {
             self.refused = true;
             return Err(SinkError);
         }

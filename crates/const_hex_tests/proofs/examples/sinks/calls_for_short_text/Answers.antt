@@ -3,7 +3,7 @@ use Rattle.std.proofs.lemmas.List.{length-take}
 use Rattle.const_hex.specs.Prelude.{Offers}
 use Rattle.const_hex.specs.Sinks.{hex_bytes, PieceState, PieceStep, count_of_calls}
 use Rattle.const_hex_arch.proofs.lemmas.Texts.{length-full_text}
-use Rattle.const_hex_tests.proofs.examples.sinks.calls_of_short.Goals as goal
+use Rattle.const_hex_tests.proofs.examples.sinks.calls_for_short_text.Goals as goal
 
 -- a piece takes one call
 calls-of-piece : (s : PieceState) (p : List ℕ) (m : PieceState) → s.refused ≡ false → PieceStep s p m

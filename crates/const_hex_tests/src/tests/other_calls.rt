@@ -1,4 +1,4 @@
-//! One run of each call that neither the table of test vectors nor an example makes. Contracts say the same of all input.
+//! One test of each function that neither a test vector nor an example calls. Its contract covers all other inputs.
 
 use const_hex::{
     Buffer, BufferedOutput, BytesToHexChars, Output, PieceSink, SinkOutput, SliceOutput, digit_at,
