@@ -1,3 +1,4 @@
+-- Proofs of open goals: `c` has the facts that are known at a goal.
 use Rattle.std.proofs.Common.{◌≡◌, ◌+◌, ◌≤◌, ℕ, Bool, List, [], ◌∷◌, length, true, false, arith, length-append, refl, ap, take}
 use Rattle.std.proofs.lemmas.List.{length-take}
 use Rattle.const_hex.specs.Prelude.{Offers}

@@ -1,3 +1,4 @@
+-- Proofs of open goals: `c` has the facts that are known at a goal.
 use Rattle.std.proofs.Common.{true, arith}
 use Rattle.const_hex.specs.Prelude.{AreBytes}
 use Rattle.const_hex_tests.proofs.examples.store.round_trip.Goals as goal
