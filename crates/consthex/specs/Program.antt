@@ -73,28 +73,28 @@ TakesMemory Check x = Checks (without_newline x) (Ok tt)
 
 -- ---- what a run reads and writes
 --
--- `input_before` and `input_after` are the bytes that the reader still has, before and after the run; `output_before`
--- and `output_after` are those that the writer holds. They are None if a contract cannot know them.
+-- `in_before` and `in_after` are the bytes that the reader still has, before and after the run; `out_before`
+-- and `out_after` are those that the writer holds. They are None if a contract cannot know them.
 
 -- the reader was read to its end, and x is what was read
 abbrev pub ReadsAll : Option (List ℕ) → Option (List ℕ) → List ℕ → Type 0
-ReadsAll input_before input_after x = Consumes input_before input_after x × IsAtEnd input_after
+ReadsAll in_before in_after x = Consumes in_before in_after x × IsAtEnd in_after
 
 -- the reader was read to its end, and r is the mode's result for what was read
 abbrev pub Answers : Mode → Option (List ℕ) → Option (List ℕ) → Result (List ℕ) RunError → Type 0
-Answers m input_before input_after r = (x : List ℕ) × ReadsAll input_before input_after x × Answer m x r
+Answers m in_before in_after r = (x : List ℕ) × ReadsAll in_before in_after x × Answer m x r
 
 -- what a run in the mode did that ended with this exit status: with 0, the whole result for the input was written;
 -- with 1, the result is an error of the text; with 3, at most a beginning of the result was written; with 1 and 4,
 -- nothing was written
 abbrev pub Ends : Mode → ℕ → Option (List ℕ) → Option (List ℕ) → Option (List ℕ) → Option (List ℕ) → Type 0
-Ends m status input_before input_after output_before output_after =
-    (status ≡ 0 → (bs : List ℕ) × Answers m input_before input_after (Ok bs) × Appends output_before output_after bs)
-    × (status ≡ 1 → (e : FromHexError) × Answers m input_before input_after (Err (Text e))
-    × Keeps output_before output_after)
-    × (status ≡ 3 → Keeps output_before output_after ⊎ ((bs : List ℕ) × Answers m input_before input_after (Ok bs)
-    × WritesBeginning output_before output_after bs))
-    × (status ≡ 4 → Keeps output_before output_after)
+Ends m status in_before in_after out_before out_after =
+    (status ≡ 0 → (bs : List ℕ) × Answers m in_before in_after (Ok bs) × Appends out_before out_after bs)
+    × (status ≡ 1 → (e : FromHexError) × Answers m in_before in_after (Err (Text e))
+    × Keeps out_before out_after)
+    × (status ≡ 3 → Keeps out_before out_after ⊎ ((bs : List ℕ) × Answers m in_before in_after (Ok bs)
+    × WritesBeginning out_before out_after bs))
+    × (status ≡ 4 → Keeps out_before out_after)
 
 -- ---- the message and the exit status of an error
 

@@ -10,11 +10,11 @@ use Rattle.consthex.specs.declared.error.RunError.TheVariants.{Text, WriteFailed
 
 -- a run that failed with an error ends with the error's status
 pub ends_failed : (m : Mode) (r : Result Unit RunError) (e : RunError)
-    (input_before input_after output_before output_after : Option (List ℕ)) → r ≡ Err e
-    → ((f : FromHexError) → r ≡ Err (Text f) → Answers m input_before input_after (Err (Text f)))
+    (in_before in_after out_before out_after : Option (List ℕ)) → r ≡ Err e
+    → ((f : FromHexError) → r ≡ Err (Text f) → Answers m in_before in_after (Err (Text f)))
     → (r ≡ Err WriteFailed
-    → (bs : List ℕ) × Answers m input_before input_after (Ok bs) × WritesBeginning output_before output_after bs)
-    → OnErr r (r ≢ Err WriteFailed → Keeps output_before output_after)
-    → Ends m (status_of e) input_before input_after output_before output_after
-ends_failed m r e input_before input_after output_before output_after has_failed text partly_written unchanged =
+    → (bs : List ℕ) × Answers m in_before in_after (Ok bs) × WritesBeginning out_before out_after bs)
+    → OnErr r (r ≢ Err WriteFailed → Keeps out_before out_after)
+    → Ends m (status_of e) in_before in_after out_before out_after
+ends_failed m r e in_before in_after out_before out_after has_failed text partly_written unchanged =
     grind arith

@@ -1,3 +1,4 @@
+-- Proofs of open goals: `c` has the facts that are known at a goal, `g` the type parameters and their traits' members.
 use Rattle.std.proofs.Common.{◌≡◌, ◌⊎◌, ◌∷◌, [], Bool, ℕ, List, codes, false, inl, inr, refl, true}
 use Rattle.hexfilter_core.specs.Dumps.{Groups, IgnoresLines, mirror}
 use Rattle.hexfilter_core.specs.Options.{AreFor, WritesGroups, is_separator}

@@ -1,3 +1,4 @@
+-- Proofs of open goals: `c` has the facts that are known at a goal, `g` the type parameters and their traits' members.
 use Rattle.std.proofs.Common.{◌≡◌, List, ℕ, Some, Option, true, false, refl, Bor, option_copied}
 use Rattle.hexfilter_core.proofs.lemmas.Runs.{ends}
 use Rattle.hexfilter_core.proofs.process.run_on.Goals as goal
@@ -21,7 +22,7 @@ returns-in-Ok-clause-file g c = λ n named.
       refl,
       (
         g.H.File.Read.remaining c.run-in-Ok.new.input,
-        rw (written, opened, ← bytes) (ends c.args.mode _ _ _ _ c.run-in-Ok.result ran.ok ran.text ran.begun),
+        rw (written, opened, ← bytes) (ends c.args.mode _ _ _ _ c.run-in-Ok.result ran.ok ran.text ran.partly_written),
       ),
     )
 

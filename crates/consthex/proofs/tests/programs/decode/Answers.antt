@@ -16,22 +16,22 @@ mode_is_decode words is_decode _ named = grind (arith, sym is_decode ∙ named)
 
 -- a run on these arguments ends as one in the mode Decode does
 ends_decode : (words : List (List ℕ)) (status : ℕ)
-    (input_before input_after output_before output_after : Option (List ℕ)) → words ≡ codes "decode" ∷ []
+    (in_before in_after out_before out_after : Option (List ℕ)) → words ≡ codes "decode" ∷ []
     → (status ≢ 2
-    → (m : Mode) × (words ≡ word_of m ∷ []) × Ends m status input_before input_after output_before output_after)
-    → status ≢ 2 → Ends Decode status input_before input_after output_before output_after
-ends_decode words status input_before input_after output_before output_after is_decode ran not_two =
+    → (m : Mode) × (words ≡ word_of m ∷ []) × Ends m status in_before in_after out_before out_after)
+    → status ≢ 2 → Ends Decode status in_before in_after out_before out_after
+ends_decode words status in_before in_after out_before out_after is_decode ran not_two =
     let (m, named, ends) = ran not_two in rw (mode_is_decode words is_decode m named) at ends
 
 -- after a failed read or write, nothing was written, or a beginning of the decoded bytes
-partly_written : (input_before input_after output_before output_after : Option (List ℕ))
-    → Keeps output_before output_after
-    ⊎ ((bs : List ℕ) × Answers Decode input_before input_after (Ok bs) × WritesBeginning output_before output_after bs)
-    → Keeps output_before output_after
-    ⊎ ((x : List ℕ) × (y : List ℕ) × (n : ℕ) × Consumes input_before input_after x × Reads (strip_last 10 x) (Ok y)
-    × Appends output_before output_after (take n y))
-partly_written input_before input_after output_before output_after (inl unchanged) = inl unchanged
-partly_written input_before input_after output_before output_after
+partly_written : (in_before in_after out_before out_after : Option (List ℕ))
+    → Keeps out_before out_after
+    ⊎ ((bs : List ℕ) × Answers Decode in_before in_after (Ok bs) × WritesBeginning out_before out_after bs)
+    → Keeps out_before out_after
+    ⊎ ((x : List ℕ) × (y : List ℕ) × (n : ℕ) × Consumes in_before in_after x × Reads (strip_last 10 x) (Ok y)
+    × Appends out_before out_after (take n y))
+partly_written in_before in_after out_before out_after (inl unchanged) = inl unchanged
+partly_written in_before in_after out_before out_after
     (inr (y, (x, (read, end), (small, reads)), (n, wrote))) = inr (x, y, n, read, reads, wrote)
 
 pub returns : goal.returns

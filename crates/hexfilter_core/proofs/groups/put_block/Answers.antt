@@ -1,6 +1,7 @@
+-- Proofs of open goals: `c` has the facts that are known at a goal.
 use Rattle.std.proofs.Common.{arith}
 use Rattle.hexfilter_core.proofs.lemmas.Groups.{puts_one}
-use Rattle.hexfilter_core.proofs.groups.put_step.Goals as goal
+use Rattle.hexfilter_core.proofs.groups.put_block.Goals as goal
 
 pub returns-clause-groups : goal.returns-clause-groups
 returns-clause-groups c =

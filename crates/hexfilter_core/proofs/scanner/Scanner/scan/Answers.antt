@@ -1,11 +1,12 @@
+-- Proofs of open goals: `c` has the facts that are known at a goal.
 use Rattle.std.proofs.Common.{◌≡◌, ◌+◌, ◌-◌, ◌<◌, length, length-drop, length-take, arith, option_to_list, take, drop}
 use Rattle.hexfilter_core.proofs.lemmas.Texts.{added_byte, added_run}
-use Rattle.hexfilter_core.proofs.scanner.Scanner.text.Goals as goal
+use Rattle.hexfilter_core.proofs.scanner.Scanner.scan.Goals as goal
 
 pub runs-preserved-then-count-eq-LANES : goal.runs-preserved-then-count-eq-LANES
 runs-preserved-then-count-eq-LANES c =
     let i = c.runs.invariant in
-    let ran = c.run-count.ensures in
+    let ran = c.copy_run-count.ensures in
     let chunk = c.args.chunk.now in
     let done = c.runs.done in
     let size : length (take (length chunk - done) (drop done chunk)) ≡ length chunk - done =
@@ -14,7 +15,7 @@ runs-preserved-then-count-eq-LANES c =
       within = omega (arith, ran.within, size);
       fewer = omega arith;
       so_far = λ x is.
-          added_run _ _ _ x _ _ c.runs.end done (i.so_far x is) _ c.run-count.result _ i.within
+          added_run _ _ _ x _ _ c.runs.end done (i.so_far x is) _ c.copy_run-count.result _ i.within
           (omega (arith, space)) (omega (arith, ran.length, ran.within, size, space)) ran.added;
     }
 
@@ -22,9 +23,9 @@ pub runs-preserved : goal.runs-preserved
 runs-preserved c =
     let chunk = c.args.chunk.now in
     let done = c.runs.done in
-    let n = c.run-count.result in
+    let n = c.copy_run-count.result in
     let i = c.runs.invariant in
-    let ran = c.run-count.ensures in
+    let ran = c.copy_run-count.ensures in
     let inside : done + n < length chunk = omega arith in
     let size : length (take (length chunk - done) (drop done chunk)) ≡ length chunk - done =
     simp (length-take, length-drop) (omega arith) in
@@ -34,7 +35,7 @@ runs-preserved c =
       so_far = λ x is.
           let run = added_run _ _ _ x chunk _ c.runs.end done (i.so_far x is) _ n _ i.within (omega (arith, space))
           (omega (arith, ran.length, ran.within, size, space)) ran.added in
-          added_byte _ _ _ x chunk _ (c.runs.end + n) (done + n) run _ (option_to_list c.next-added.result)
+          added_byte _ _ _ x chunk _ (c.runs.end + n) (done + n) run _ (option_to_list c.scan_byte-added.result)
           c.put-end.result inside c.put-end.ensures.front
-          (c.next-added.ensures _ run.scanned);
+          (c.scan_byte-added.ensures _ run.scanned);
     }

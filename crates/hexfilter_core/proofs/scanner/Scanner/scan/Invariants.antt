@@ -1,6 +1,7 @@
+-- Loop invariant and measure: `l` has the live variables.
 use Rattle.std.proofs.Common.{◌-◌, ◌≤◌, List, ℕ, length, take}
 use Rattle.hexfilter_core.specs.Stages.{HasAdded, HasScanned}
-use Rattle.hexfilter_core.proofs.scanner.Scanner.text.Given as goal
+use Rattle.hexfilter_core.proofs.scanner.Scanner.scan.Given as goal
 
 abbrev pub invariant-runs : goal.invariant-runs
 invariant-runs l = record {
