@@ -1,4 +1,4 @@
-//! The whole program, from its arguments to its exit status.
+//! The complete program, from its arguments to its exit status.
 
 ghost use Rattle.std.specs.Prelude.{◌≡◌, ◌≢◌, ◌≤◌, ◌∷◌, [], map, string_bytes};
 ghost use Rattle.std.specs.Process.{exit_status};

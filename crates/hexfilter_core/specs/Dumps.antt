@@ -1,7 +1,7 @@
 -- A hex dump: the text of bytes in groups, as it is written, and an input that is read as such a text.
 use Rattle.std.specs.Prelude.{◌≡◌, ℕ, ◌+◌, ◌-◌, ◌*◌, ◌/◌, ◌^◌, ◌==◌, nat_le, nat_lt, ◌<◌, min, ◌&&◌, ◌||◌, not, Bool, true, false, if◌then◌else◌, List, [], ◌∷◌, ◌++◌, length, take, Option, Some, None}
 use Rattle.std.specs.Io.KnownBytes.{IsAtEnd}
-pub use Rattle.const_hex.specs.Prelude.{IsOdd, body_of, counted, AllDigits, Spells, full_text}
+pub use Rattle.const_hex.specs.Prelude.{IsOdd, body_of, saturated, AllDigits, Spells, full_text}
 pub use Rattle.const_hex.specs.declared.error.FromHexError.{FromHexError}
 pub use Rattle.const_hex.specs.declared.error.FromHexError.TheVariants.{OddLength, InvalidStringLength, InvalidHexCharacter, NoMemory}
 pub use Rattle.hexfilter_core.specs.declared.mode.Groups.{Groups}
@@ -134,7 +134,7 @@ pub record FirstInvalid (r : Reading) (x y : List ℕ) (c i : ℕ) (location : O
   pub rest_is_short : length rest < chunk_size
   pub bytes : SpellsPairs (text_of r front) y
   pub invalid : AllDigits (body_of (text_of r (front ++ c ∷ []))) → ⊥
-  pub position : i ≡ counted (length front)
+  pub position : i ≡ saturated (length front)
   pub located : IsLocationAfter r front location
 
 -- the error of an input of which x was read, and whose text decodes to y before the error: an odd number of digits, at

@@ -1,6 +1,6 @@
 -- What a run has written for the chunks that it has read.
 use Rattle.std.specs.Prelude.{◌≡◌, ◌<◌, ◌≤◌, ◌++◌, Bool, true, ℕ, List, Option, None, Some, length}
-pub use Rattle.const_hex.specs.Prelude.{HasRead, counted}
+pub use Rattle.const_hex.specs.Prelude.{HasRead, saturated}
 pub use Rattle.const_hex.specs.declared.codec.decoder.Decoder.{Decoder}
 use Rattle.hexfilter_core.specs.Dumps.{Groups, IsLocation, Reading, column_after_all, encoded, full_text, groups_from, leaves_out, text_of}
 use Rattle.hexfilter_core.specs.Runs.{Decode, Encode, IsErrorOf, Makes, Mode, RunError, written}
@@ -27,7 +27,7 @@ pub record HasWritten (r : Reading) (d : Decoder) (t z : List ℕ) : Type 0 wher
 pub record HasDecoded (r : Reading) (s : Stage) (x z : List ℕ) : Type 0 where
   pub text : HasWritten r s.decoder (text_of r x) z
   pub scanned : HasScanned r s.scanner x
-  pub count : s.bytes_read ≡ counted (length x)
+  pub count : s.bytes_read ≡ saturated (length x)
 
 -- the bytes x were read and z was written; the rest is the text of the bytes that follow
 pub record HasEncoded (prefix upper : Bool) (g : Groups) (s : Stage) (x z : List ℕ) : Type 0 where

@@ -7,7 +7,7 @@ ghost use Rattle.std.specs.IoError.{error_kind};
 ghost use Rattle.std.specs.Process.{exit_status};
 ghost use Rattle.std.specs.declared.io.Error.{Error};
 ghost use Rattle.std.specs.declared.io.ErrorKind.TheVariants.{Interrupted};
-ghost use Rattle.const_hex.specs.Prelude.{AllDigits, IsOdd, Reads, Spells, body_of, counted, full_text};
+ghost use Rattle.const_hex.specs.Prelude.{AllDigits, IsOdd, Reads, Spells, body_of, saturated, full_text};
 ghost use Rattle.hexfilter_core.specs.Dumps.{FromHexError, Groups, IgnoresLines, InvalidHexCharacter, OddLength, Location, mirror};
 ghost use Rattle.hexfilter_core.specs.Options.{AreFor};
 ghost use Rattle.hexfilter_core.specs.Runs.{Decode, Encode, Read, Text, Write};
@@ -39,12 +39,12 @@ fn decode<R: Read, W: Write>(input: &mut R, output: &mut W) -> Result<(), RunErr
         × IsAtEnd (R.remaining input.new) × IsOdd (length x) × AllDigits (body_of x)
         × Spells (take (2 * (length (body_of x) / 2)) (body_of x)) y
         × Appends (W.contents output.old) (W.contents output.new) y) }
-    // Up to the invalid character there are digits alone, and all whole pairs of them were decoded. After it, less than
-    // 16 KiB were read.
+    // Before the invalid character there are only digits, and all pairs of them were decoded. After it, less than 16 KiB
+    // were read.
     ensures invalid { (c i : ℕ) (location : Option Location) → result ≡ Err (Text (InvalidHexCharacter c i) location)
         → (location ≡ None) × ((x : List ℕ) × (rest : List ℕ) × (y : List ℕ)
         × Consumes (R.remaining input.old) (R.remaining input.new) (x ++ c ∷ rest) × (length rest < 16384)
-        × (i ≡ counted (length x)) × AllDigits (body_of x) × (AllDigits (body_of (x ++ c ∷ [])) → ⊥)
+        × (i ≡ saturated (length x)) × AllDigits (body_of x) × (AllDigits (body_of (x ++ c ∷ [])) → ⊥)
         × Spells (take (2 * (length (body_of x) / 2)) (body_of x)) y
         × Appends (W.contents output.old) (W.contents output.new) y) }
     ensures partly_written { OnErr result ((x : List ℕ) × (y : List ℕ)

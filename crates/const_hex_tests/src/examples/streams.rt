@@ -2,7 +2,7 @@
 
 ghost use Rattle.std.specs.Prelude.{◌≡◌, ◌≢◌, ◌/◌, ◌<◌, ◌++◌, ◌↔◌, ℕ, drop, take, length, IfOk, IfErr, IfSome, OnOk, Some, Ok, Err};
 ghost use Rattle.const_hex.specs.Prelude.{error_of, body_of, AllDigits, Reads};
-ghost use Rattle.const_hex.specs.Results.{NamesFirstBad};
+ghost use Rattle.const_hex.specs.Results.{NamesFirstInvalid};
 ghost use Rattle.const_hex.specs.declared.error.FromHexError.{FromHexError};
 ghost use Rattle.const_hex.specs.declared.error.FromHexError.TheVariants.{InvalidHexCharacter, InvalidStringLength, OddLength};
 
@@ -26,7 +26,7 @@ pub fn check_chunks(
 
 /// Checks a text in one chunk. An error reports its first invalid character.
 pub fn check_chunk(text: &[u8]) -> Result<(), FromHexError>
-    ensures character { (c i : ℕ) → result ≡ Err (InvalidHexCharacter c i) → NamesFirstBad text.now c i }
+    ensures character { (c i : ℕ) → result ≡ Err (InvalidHexCharacter c i) → NamesFirstInvalid text.now c i }
     ensures digits { OnOk result (AllDigits (body_of text.now)) }
     ensures not_odd { result ≢ Err OddLength }
 {

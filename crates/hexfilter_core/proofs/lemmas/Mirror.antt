@@ -5,7 +5,7 @@ use Rattle.std.proofs.lemmas.Bool.Decides.{nat_tests}
 use Rattle.std.proofs.lemmas.List.Elements.{All-cons, All-head, All-nil, All-tail, All-weaker}
 use Rattle.std.specs.Io.KnownBytes.{Appends, Consumes}
 use Rattle.const_hex.proofs.lemmas.Decoding.{body-longer}
-use Rattle.const_hex.proofs.lemmas.Reading.{one_answer}
+use Rattle.const_hex.proofs.lemmas.Reading.{result_unique}
 use Rattle.const_hex.proofs.lemmas.RoundTrip.{Reads-full_text}
 use Rattle.const_hex.specs.Prelude.{AreBytes, IsEven, Reads, body_of, AllDigits, IsDigit, full_text, hex_text, prefix_of}
 use Rattle.const_hex_arch.proofs.lemmas.Digits.{digits_append}
@@ -109,7 +109,7 @@ module _ (prefix up i : Bool) (g : Groups) (ignores : IgnoresLines i g) (bytes :
       → RunsToEnd (Decode (mirror i g)) (Some x) in_after out_before out_after → Appends out_before out_after bytes
   decoded_again x in_after out_before out_after is (y, z, consumed, end, (found, reads, same), wrote) =
       let whole = Consumes-all (Some x) in_after y [] y consumed end refl in
-      let again : found ≡ bytes = cc (one_answer _ (Ok found) (Ok bytes) reads (read y (whole ∙ is))) in
+      let again : found ≡ bytes = cc (result_unique _ (Ok found) (Ok bytes) reads (read y (whole ∙ is))) in
       rw (same ∙ again) at wrote
 
   -- and never rejected

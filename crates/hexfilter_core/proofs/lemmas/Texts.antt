@@ -7,7 +7,7 @@ use Rattle.std.proofs.lemmas.Bool.Decides.{nat_tests}
 use Rattle.std.proofs.lemmas.List.{append-nil, length-take, length-take-le, take-append-drop, take-append-le, take-take, take_all, take_min, take_more}
 use Rattle.std.proofs.lemmas.List.Elements.{All-head, All-tail}
 use Rattle.const_hex.proofs.lemmas.Decoding.{body-longer, body-shorter, read_digits, read_front}
-use Rattle.const_hex.specs.Prelude.{HasRead, counted, waiting_digit}
+use Rattle.const_hex.specs.Prelude.{HasRead, saturated, pending_digit}
 use Rattle.const_hex_arch.proofs.lemmas.Texts.{Spells-length, Spells-parts}
 use Rattle.hexfilter_core.specs.Stages.{Decoder, HasAdded, HasDecoded, HasMade, HasScanned, HasWritten, Reaches, Scanner, Stage}
 use Rattle.hexfilter_core.specs.Dumps.{FromHexError, HasError, InvalidHexCharacter, IsLocation, OddLength, Location, Reading, SpellsBeginning, SpellsPairs, body_of, encoded, column_after, column_after_all, is_whitespace, leaves_out, text_from, text_of, text_of_byte}
@@ -83,7 +83,7 @@ plain_added r s x u h is = record {
 -- a further part is decoded
 pub decoded_more : (r : Reading) (old new : Stage) (s : Scanner) (x part text y z : List ℕ)
     → HasDecoded r old x y → HasAdded r s x part text → HasWritten r new.decoder (text_of r x ++ text) (y ++ z)
-    → new.scanner ≡ s → new.bytes_read ≡ counted (old.bytes_read + length part) → HasDecoded r new (x ++ part) (y ++ z)
+    → new.scanner ≡ s → new.bytes_read ≡ saturated (old.bytes_read + length part) → HasDecoded r new (x ++ part) (y ++ z)
 decoded_more r old new s x part text y z has more wrote is e = record {
   text = rw more.text wrote;
   scanned = rw is more.scanned;
@@ -167,9 +167,9 @@ module _ (r : Reading) (d : Decoder) (x y : List ℕ) (has : HasRead d (text_of 
 
   pub pairs : SpellsPairs (text_of r x) y
   pairs =
-      let twice = Spells-length has.pairs y has.given in
-      let whole = ap length has.whole ∙ length-append has.pairs (waiting_digit d) in
-      let few : length (waiting_digit d) ≤ 1 = grind arith in
+      let twice = Spells-length has.pairs y has.decoded in
+      let whole = ap length has.body ∙ length-append has.pairs (pending_digit d) in
+      let few : length (pending_digit d) ≤ 1 = grind arith in
       let same : 2 * (length (body_of (text_of r x)) / 2) ≡ 2 * length y = omega (arith, twice, whole, few) in
       (read_digits d (text_of r x) y has, rw same spelled)
 

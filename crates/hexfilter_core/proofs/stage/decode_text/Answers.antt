@@ -15,7 +15,7 @@ returns-in-Ok-clause-ok c = λ t z has.
 
 pub returns-in-Err-clause-err : goal.returns-in-Err-clause-err
 returns-in-Err-clause-err c =
-    λ t z has space. grind (arith, digits_no_bad, c.in-Err.ensures.answer t has.bytes has.read)
+    λ t z has space. grind (arith, digits_no_bad, c.in-Err.ensures.outcome t has.bytes has.read)
 
 pub returns-clause-ok : goal.returns-clause-ok
 returns-clause-ok c = λ t z has.
@@ -26,4 +26,4 @@ returns-clause-ok c = λ t z has.
 
 pub returns-clause-err : goal.returns-clause-err
 returns-clause-err c = λ t z has space.
-    grind (arith, digits_no_bad, c.decode.ensures.answer t has.bytes has.read, c.decode.ensures.enough space)
+    grind (arith, digits_no_bad, c.decode.ensures.outcome t has.bytes has.read, c.decode.ensures.enough space)
