@@ -203,7 +203,7 @@ fn encode_and_decode<H: Host, W: Write>(
     output: &mut W,
 ) -> (ExitCode, ExitCode)
     requires empty { text.old.items ≡ [] }
-    requires asked { (prefix : Bool) × (upper : Bool) × (ignores : Bool) × (g : Groups) × IgnoresLines ignores g
+    requires arguments { (prefix : Bool) × (upper : Bool) × (ignores : Bool) × (g : Groups) × IgnoresLines ignores g
         × AreFor (Encode prefix upper g) (map string_bytes write.now)
         × AreFor (Decode (mirror ignores g)) (map string_bytes read.now) }
     ensures written { (exit_status result.0 ≡ 0) ⊎ (exit_status result.0 ≡ 3) }

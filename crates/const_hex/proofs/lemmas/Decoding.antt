@@ -188,7 +188,7 @@ ends_even d t bs r other =
 
 -- there is a pending digit
 pub ends_odd : (d : Decoder) (t bs : List ℕ) → HasRead d t bs → d.state ≡ 1 → IsOdd (length t)
-ends_odd d t bs r is =
+ends_odd d t bs r state_eq =
     let one : length (pending_digit d) ≡ 1 = grind arith in
     let size = ap length r.body ∙ length-append r.pairs (pending_digit d) in
     omega (arith, Spells-length r.pairs bs r.decoded, one, size, body-parity t)

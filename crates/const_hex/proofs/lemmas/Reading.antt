@@ -37,7 +37,7 @@ ChecksText-from_Checks t (Ok u) h =
     record { outcome = h; accepts = (λ _. h, λ _. refl); unique = λ s k. check_result_unique t s (Ok u) k h }
 ChecksText-from_Checks t (Err e) h = record {
   outcome = h;
-  accepts = (λ gone. absurd (cc gone), λ reads. absurd (cc (check_result_unique t (Ok tt) (Err e) reads h)));
+  accepts = (λ is_ok. absurd (cc is_ok), λ reads. absurd (cc (check_result_unique t (Ok tt) (Err e) reads h)));
   unique = λ s k. check_result_unique t s (Err e) k h;
 }
 
@@ -59,6 +59,9 @@ sized_accepts n t (Ok bs) h = (
   λ _. refl,
 )
 sized_accepts n t (Err e) h =
-    (λ gone. absurd (cc gone), λ is. absurd (grind (arith, digits_no_bad, body-parity, is_text-parts n t is)))
+    (
+      λ is_ok. absurd (cc is_ok),
+      λ accepted. absurd (grind (arith, digits_no_bad, body-parity, is_text-parts n t accepted)),
+    )
 
 pub ruleset checked = (Reads-digits, Spells-no_bad)

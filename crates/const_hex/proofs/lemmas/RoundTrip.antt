@@ -67,8 +67,8 @@ Decodes-from items t (Err f) ok err odd = record {
   err = err;
   odd = odd;
   round_trip = λ prefix up bs h e.
-      let other = λ (is : f ≢ NoMemory).
-      result_unique t (Err f) (Ok bs) (err is) (Reads-full_text t prefix up bs h e) in
+      let other = λ (not_memory : f ≢ NoMemory).
+      result_unique t (Err f) (Ok bs) (err not_memory) (Reads-full_text t prefix up bs h e) in
       grind (arith, other);
   canonical = tt;
   agree = λ u bs k. tt;

@@ -39,8 +39,8 @@ location_after_line_part p (b ∷ x) h =
 pub location_after_run : (x u : List ℕ) (p : Location) (count column : ℕ) → IsLocation x p → length u ≡ count
     → All (λ b. b ≢ 10) u → column ≡ (p.column + count) % 2 ^ 64
     → IsLocation (x ++ u) (record { line = p.line; column = column })
-location_after_run x u p count column is size plain e = λ short.
-    let before = is (omega (arith, short, length-append x u)) in
+location_after_run x u p count column located size plain e = λ short.
+    let before = located (omega (arith, short, length-append x u)) in
     let more = location_after_line_part (after x) u plain in
     let few = (location_bounds start x (omega arith)).1 in
     rw (location_after-append start x u)
@@ -50,9 +50,9 @@ location_after_run x u p count column is size plain e = λ short.
 pub location_after_newline : (x : List ℕ) (p : Location) (line : ℕ) → IsLocation x p → line ≡ (p.line + 1) % 2 ^ 64
     → IsLocation (x ++ 10 ∷ []) (record { line = line; column = 1 })
 unfolding location_after
-location_after_newline x p line is e = λ short.
+location_after_newline x p line located e = λ short.
     let size = length-append x (10 ∷ []) in
-    let before = is (omega (arith, short, size)) in
+    let before = located (omega (arith, short, size)) in
     let few = (location_bounds start x (omega arith)).0 in
     rw (location_after-append start x (10 ∷ []))
     (omega (arith, short, e, before.0, few, size), refl)
@@ -69,8 +69,8 @@ pub location_in_line : (x lines line : List ℕ) (p : Location) → IsLocation x
     → length x < 2 ^ 64 - 1 → All (λ b. b ≢ 10) line
     → (p.line ≡ 2 + count_by (λ b. b == 10) lines) × (p.column ≡ 1 + length line)
 unfolding location_after
-location_in_line x lines line p is cut short plain =
-    let here = is short in
+location_in_line x lines line p located cut short plain =
+    let here = located short in
     let whole : after x ≡ location_after (location_after_byte (after lines) 10) line =
     ap (location_after start) cut ∙ location_after-append start lines (10 ∷ line) in
     let last = location_after_line_part (location_after_byte (after lines) 10) line plain in (

@@ -67,7 +67,7 @@ by_separator i n s t true e plain ignores =
     let newline : s ≡ 10 = grind (arith, nat_tests, e) in
     rw newline (lines_read i n 0 t (λ some. ignores (grind (arith, nat_tests, e, some))) (omega arith) plain)
 by_separator i n s t false e plain ignores =
-    rw e (groups_read i n s 0 t (omega arith) (λ is. grind (arith, nat_tests, e, is)) plain)
+    rw e (groups_read i n s 0 t (omega arith) (λ newline. grind (arith, nat_tests, e, newline)) plain)
 
 one_digit : (c d : ℕ) (v : List ℕ) (b : Bool) → ((c == 48) && (d == 120 || d == 88)) ≡ b
     → AllDigits (if b then v else c ∷ d ∷ v) → AllDigits (c ∷ [])
@@ -100,21 +100,21 @@ not_decoded r whole in_after x y bytes _ location read fails reads = fails
 module _ (prefix up i : Bool) (g : Groups) (ignores : IgnoresLines i g) (bytes : List ℕ) (are : AreBytes bytes) where
   -- the encoded text decodes to the bytes
   read : (x : List ℕ) → x ≡ encoded prefix up g bytes → Reads (text_of (mirror i g) x) (Ok bytes)
-  read x is =
-      Reads-full_text _ prefix up bytes are (ap (text_of (mirror i g)) is
+  read x text_eq =
+      Reads-full_text _ prefix up bytes are (ap (text_of (mirror i g)) text_eq
       ∙ by_separator i g.size g.separator _ _ refl (text_plain_chars prefix up bytes are) ignores)
 
   -- the bytes are decoded again
   pub decoded_again : (x : List ℕ) (in_after out_before out_after : Option (List ℕ)) → x ≡ encoded prefix up g bytes
       → RunsToEnd (Decode (mirror i g)) (Some x) in_after out_before out_after → Appends out_before out_after bytes
-  decoded_again x in_after out_before out_after is (y, z, consumed, end, (found, reads, same), wrote) =
+  decoded_again x in_after out_before out_after text_eq (y, z, consumed, end, (found, reads, same), wrote) =
       let whole = Consumes-all (Some x) in_after y [] y consumed end refl in
-      let again : found ≡ bytes = cc (result_unique _ (Ok found) (Ok bytes) reads (read y (whole ∙ is))) in
+      let again : found ≡ bytes = cc (result_unique _ (Ok found) (Ok bytes) reads (read y (whole ∙ text_eq))) in
       rw (same ∙ again) at wrote
 
   -- and never rejected
   pub never_rejected : (x : List ℕ) (in_after out_before out_after : Option (List ℕ)) (e : FromHexError)
       (location : Option Location) → x ≡ encoded prefix up g bytes
       → RunsToError (Decode (mirror i g)) (Some x) in_after out_before out_after e location → ⊥
-  never_rejected x in_after out_before out_after e location is (y, z, consumed, (found, fails, same), wrote) =
-      not_decoded (mirror i g) x in_after y found bytes e location consumed fails (read x is)
+  never_rejected x in_after out_before out_after e location text_eq (y, z, consumed, (found, fails, same), wrote) =
+      not_decoded (mirror i g) x in_after y found bytes e location consumed fails (read x text_eq)

@@ -5,7 +5,7 @@ use Rattle.hexfilter_core.specs.Runs.{Mode, RunError, Text, Decode, Encode, Ends
 use Rattle.std.proofs.KnownBytes.{Appends-nil, Consumes-all, Consumes-nil}
 
 pub same_value : {V E : Type 0} (f g : E) → ◌≡◌ {A = Result V E} (Err f) (Err g) → f ≡ g
-same_value f g is = cc
+same_value f g eq = cc
 
 -- the contract of a run, by its exit status
 pub ends : (m : Mode) (in_before in_after out_before out_after : Option (List ℕ)) (r : Result Unit RunError)
@@ -20,7 +20,7 @@ ends m in_before in_after out_before out_after r done text partly_written = sear
 
 -- after a failed write the exit status is 3
 pub failed : {P : Type 0} (r : Result Unit RunError) → IfErr r IsFailedWrite → P → OnErr r ((status_of r ≡ 3) × P)
-failed r is p = grind arith
+failed r failed_write p = grind arith
 
 nothing_made : (m : Mode) → MakesBeginning m [] []
 unfolding text_from
@@ -52,6 +52,6 @@ not_rejected m status in_before in_after out_before out_after (done, text, partl
 pub text_written : (prefix up : Bool) (g : Groups) (bytes in_after out_before out_after : List ℕ) → out_before ≡ []
     → RunsToEnd (Encode prefix up g) (Some bytes) (Some in_after) (Some out_before) (Some out_after)
     → out_after ≡ encoded prefix up g bytes
-text_written prefix up g bytes in_after out_before out_after none (x, y, read, end, is, wrote) =
-    wrote ∙ ap (λ l. l ++ y) none ∙ is
+text_written prefix up g bytes in_after out_before out_after none (x, y, read, end, output_eq, wrote) =
+    wrote ∙ ap (λ l. l ++ y) none ∙ output_eq
     ∙ ap (encoded prefix up g) (Consumes-all (Some bytes) (Some in_after) x [] x read end refl)

@@ -66,12 +66,12 @@ text_plain r (b ∷ x) h = grind (arith, nat_tests, h, text_plain r x h)
 
 pub plain_added : (r : Reading) (s : Scanner) (x u : List ℕ) → leaves_out r ≡ false → HasScanned r s x
     → HasAdded r s x u u
-plain_added r s x u h is = record {
+plain_added r s x u h has = record {
   text = text_plain r (x ++ u) h ∙ ap (λ l. l ++ u) (sym (text_plain r x h));
   scanned = record {
     column = omega (
       arith,
-      is.column,
+      has.column,
       no_groups r h,
       column_bound r 0 x (omega arith),
       column_bound r 0 (x ++ u) (omega arith),
@@ -83,11 +83,12 @@ plain_added r s x u h is = record {
 -- a further part is decoded
 pub decoded_more : (r : Reading) (old new : Stage) (s : Scanner) (x part text y z : List ℕ)
     → HasDecoded r old x y → HasAdded r s x part text → HasWritten r new.decoder (text_of r x ++ text) (y ++ z)
-    → new.scanner ≡ s → new.bytes_read ≡ saturated (old.bytes_read + length part) → HasDecoded r new (x ++ part) (y ++ z)
-decoded_more r old new s x part text y z has more wrote is e = record {
+    → new.scanner ≡ s → new.bytes_read ≡ saturated (old.bytes_read + length part)
+    → HasDecoded r new (x ++ part) (y ++ z)
+decoded_more r old new s x part text y z has more wrote scanner_eq read_eq = record {
   text = rw more.text wrote;
-  scanned = rw is more.scanned;
-  count = omega (arith, has.count, e, length-append x part);
+  scanned = rw scanner_eq more.scanned;
+  count = omega (arith, has.count, read_eq, length-append x part);
 }
 
 -- a byte above the space is neither whitespace nor a newline
@@ -100,13 +101,13 @@ pub high_added : (r : Reading) (s : Scanner) (column : ℕ) (location : Location
     → (0 < r.groups.size → s.column + length u ≤ r.groups.size) → column ≡ min (s.column + length u) r.groups.size
     → (IsLocation x s.location → All (λ b. b ≢ 10) u → IsLocation (x ++ u) location)
     → HasAdded r (record { column = column; location = location }) x u u
-high_added r s column location x u is above fits at goes =
-    let run = text_of_run r s.column u (omega (arith, is.column, column_bound r 0 x (omega arith))) fits
+high_added r s column location x u has above fits at goes =
+    let run = text_of_run r s.column u (omega (arith, has.column, column_bound r 0 x (omega arith))) fits
     (λ k d inside. (high r.ignore_whitespace _ (above k d inside)).0) in record {
-      text = text-append r 0 x u ∙ ap (λ t. text_of r x ++ t) (rw is.column at run.0);
+      text = text-append r 0 x u ∙ ap (λ t. text_of r x ++ t) (rw has.column at run.0);
       scanned = record {
-        column = at ∙ sym (column-append r 0 x u ∙ ap (λ k. column_after_all r k u) (sym is.column) ∙ run.1);
-        location = λ some. goes (is.location some) (λ k d inside. (high r.ignore_whitespace _ (above k d inside)).1);
+        column = at ∙ sym (column-append r 0 x u ∙ ap (λ k. column_after_all r k u) (sym has.column) ∙ run.1);
+        location = λ some. goes (has.location some) (λ k d inside. (high r.ignore_whitespace _ (above k d inside)).1);
       };
     }
 
@@ -189,10 +190,11 @@ take_written c bytes k = grind (arith, take_all)
 
 -- a beginning of a beginning is a beginning
 pub fewer_made : (m : Mode) (x y : List ℕ) (k : ℕ) → MakesBeginning m x y → MakesBeginning m x (take k y)
-fewer_made (Encode prefix upper g) x y k (rest, is) =
-    (drop k y ++ rest, is ∙ ap (λ l. l ++ rest) (sym (take-append-drop k y)) ∙ append_assoc (take k y) (drop k y) rest)
-fewer_made (Decode r) x y k (bytes, spelled, is) =
-    (take k bytes, fewer_spelled r x bytes k spelled, ap (take k) is ∙ take_written r.is_check bytes k)
+fewer_made (Encode prefix upper g) x y k (rest, output_eq) =
+    let split = ap (λ l. l ++ rest) (sym (take-append-drop k y)) in
+    (drop k y ++ rest, output_eq ∙ split ∙ append_assoc (take k y) (drop k y) rest)
+fewer_made (Decode r) x y k (bytes, spelled, output_eq) =
+    (take k bytes, fewer_spelled r x bytes k spelled, ap (take k) output_eq ∙ take_written r.is_check bytes k)
 
 -- what all pairs of digits decode to is a beginning, whatever follows
 pairs_begin : (r : Reading) (x more y : List ℕ) → SpellsPairs (text_of r x) y → SpellsBeginning r (x ++ more) y
@@ -233,9 +235,9 @@ pub reached_begun : (m : Mode) (s : Stage) (in_after : Option (List ℕ)) (n : �
     → Reaches m s in_after n x y o → MakesBeginning m x y
 reached_begun (Encode prefix upper g) s in_after zero x y None (more, end) = ([], sym (end refl) ∙ sym (append-nil y))
 reached_begun (Decode r) s in_after zero x y None (more, end) =
-    let (bytes, reads, is) = end refl in (bytes, read_begun r x bytes reads, is)
+    let (bytes, reads, output_eq) = end refl in (bytes, read_begun r x bytes reads, output_eq)
 reached_begun m s in_after (suc n) x y None (more, end) = so_far_made m s x y (more (omega arith))
 reached_begun (Encode prefix upper g) s in_after n x y (Some (Text e location)) h = absurd h
-reached_begun (Decode r) s in_after n x y (Some (Text e location)) (bytes, fails, is) =
-    (bytes, error_begun r in_after x bytes e location fails, is)
+reached_begun (Decode r) s in_after n x y (Some (Text e location)) (bytes, fails, output_eq) =
+    (bytes, error_begun r in_after x bytes e location fails, output_eq)
 reached_begun m s in_after n x y (Some e) h = absurd h

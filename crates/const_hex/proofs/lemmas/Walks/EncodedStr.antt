@@ -162,13 +162,13 @@ module _ {M : Type 1} (𝓤 : Ura M) (𝓛 : Logic 𝓤) (𝓜 : Model 𝓤 𝓛
       (λ ws. split ! $ drop ! $ split ! $ heard ! _ (λ same. split ! $ heard ! _ (λ long.
       split ! $ heard ! _ (λ filled. split ! $ heard ! _ (λ ascii. heard ! _ (λ kept.
       -- [the tokens; the slice; the input; the locals]
-      move ! (1 ∷ []) $ peeks ! Out (Is Out) (shows 𝓛 Out) s (v ∷ []) (λ is.
-      rewrite ! 0 (λ (vs : List Val). ‵ (Out.own_val s vs)) is.0.0 refl $
-      lands_as ! (ap only is.0.0) refl (tt, (tt, (record { fits = is.0.1.0 }, tt))) $
+      move ! (1 ∷ []) $ peeks ! Out (Is Out) (shows 𝓛 Out) s (v ∷ []) (λ repr.
+      rewrite ! 0 (λ (vs : List Val). ‵ (Out.own_val s vs)) repr.0.0 refl $
+      lands_as ! (ap only repr.0.0) refl (tt, (tt, (record { fits = repr.0.1.0 }, tt))) $
       sets ! (addr ! (from ! (fld ! refl (hop ! (look_in_at ! 3 (sub ! 0 refl (whole !))) (stop !))))) refl (tt, tt) $
       sets ! (agg !
       (and_then ! (get ! refl) (and_then ! (get_in ! (fld ! refl (stop !)) (sub ! 1 refl (whole !))) (no_more !)))) refl
-      (tt, (tt, (record { fits = is.0.1.0 }, tt))) $
+      (tt, (tt, (record { fits = repr.0.1.0 }, tt))) $
       move ! (1 ∷ []) $ split ! $ move ! (1 ∷ []) $ split ! $ move ! (3 ∷ 0 ∷ []) $
       use2 𝓛 (later
       (‵ (Bytes.own_val (as_bor s) (mut_slice_vals s)) ⊛ ‵ (fres s.ghost_name ((coded_list u8.coded).code s.now)) ⊛ ‵
@@ -192,10 +192,10 @@ module _ {M : Type 1} (𝓤 : Ura M) (𝓛 : Logic 𝓤) (𝓜 : Model 𝓤 𝓛
       (λ r. split ! $ split ! $ move ! (2 ∷ []) $ pick !
       (λ ws'. split ! $ drop ! $ split ! $ heard ! _ (λ fits. split ! $ heard ! _ (λ lent. heard ! _ (λ error.
       -- [the tokens; the result; how the slice ends; the locals]
-      move ! (1 ∷ []) $ peeks ! Returned (Is Returned) (shows 𝓛 Returned) r (v' ∷ []) (λ is'.
+      move ! (1 ∷ []) $ peeks ! Returned (Is Returned) (shows 𝓛 Returned) r (v' ∷ []) (λ repr'.
       let text_laws = of_field (str-field loan) (str-laws loan) refl (copy_shared (str-field loan) (str-copy loan)) in
       let typed = (((result_laws (str-field loan).row refusal.the_row text_laws refusal_laws.the_row_laws).lawful
-      𝓛).typed r _ is').0 in
+      𝓛).typed r _ repr').0 in
       lands_as ! refl refl typed $
       returns ! (look_at ! 0 refl) $ free_all ! refl $
       suffices ! _

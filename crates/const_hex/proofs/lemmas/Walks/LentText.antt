@@ -53,7 +53,7 @@ slice_input = record {
   val = λ κs x. slice_val x.ref_ptr (length x.now);
   reports = λ κs. shr_slice_Tells (named 1) κs.1.0 u8;
   ty = slice_ty (ty_ref (named 1) imm (ty_int w8));
-  typed = λ κs x is. (tt, (tt, (record { fits = is.0.1.0 }, tt)));
+  typed = λ κs x repr. (tt, (tt, (record { fits = repr.0.1.0 }, tt)));
 }
 
 module _ (n p len : ℕ) where
@@ -68,23 +68,23 @@ module _ (n p len : ℕ) where
     val = λ κs x. vptr x.ref_ptr.0 x.ref_ptr.1;
     reports = λ κs. shr_Tells (named 1) κs.1.0 A;
     ty = ty_ref (named 1) imm (pointee A.written);
-    typed = λ κs x is. (tt, tt);
+    typed = λ κs x repr. (tt, tt);
   }
 
   abbrev B : RattleType
   B = the_row (param 0 (number n)) (param 1 (number p)) (param 2 (number len))
 
-  abbrev lender : Slot 5
-  lender = RefMutOf (0 ∷ []) tt (plain (λ κs. B)) (λ κs. tt)
+  abbrev receiver : Slot 5
+  receiver = RefMutOf (0 ∷ []) tt (plain (λ κs. B)) (λ κs. tt)
 
   module _ (I : Input) (up : Bool) where
     -- the signature of the call, and that of the function
     abbrev pub Fills : Ended
-    Fills = ended_of (lender ∷ I.slot ∷ plain (λ κs. bool) ∷ []) (no, (yes, (yes, tt)))
+    Fills = ended_of (receiver ∷ I.slot ∷ plain (λ κs. bool) ∷ []) (no, (yes, (yes, tt)))
         (plain (λ κs. lent.the_row (named_lft 5 0 tt κs)))
 
     abbrev pub Lends : Ended
-    Lends = ended_of (lender ∷ I.slot ∷ []) (no, (yes, tt)) (StrRefOf (0 ∷ []) tt)
+    Lends = ended_of (receiver ∷ I.slot ∷ []) (no, (yes, tt)) (StrRefOf (0 ∷ []) tt)
 
     abbrev code_of : Callee → Fn
     code_of fills = record {
@@ -120,8 +120,8 @@ module _ (n p len : ℕ) where
           → Meets 𝓛 Lends.signature (𝓡.run (𝓡.env self)) (closing 𝓛 Lends passed_on)
       passes_on self fills unfolded fills_met =
           let 𝓣 = tables 𝓤 𝓛.H 𝓜 𝓡 𝓡.env in
-          let hs : Stays Lends.signature.params Lends.kept = (stays lender no, (stays I.slot yes, tt)) in
-          proved 𝓛 Lends hs passed_on 𝓜 𝓡 (goes 𝓛 lender no, (goes 𝓛 I.slot yes, tt)) self (code_of fills) unfolded
+          let hs : Stays Lends.signature.params Lends.kept = (stays receiver no, (stays I.slot yes, tt)) in
+          proved 𝓛 Lends hs passed_on 𝓜 𝓡 (goes 𝓛 receiver no, (goes 𝓛 I.slot yes, tt)) self (code_of fills) unfolded
           (λ κs. (mut_vals, ((λ x. I.val κs x ∷ []), tt))) (λ κs. (mut_Tells (named 0) κs.0 B, (I.reports κs, tt)))
           (λ κs qs bounds a g are.
           let loan = named_lft 5 0 tt κs in let L = lent.the_type loan in let laws = lent_laws.the_laws loan in
@@ -131,8 +131,8 @@ module _ (n p len : ℕ) where
           let z : G.Ghost = ((κs, qs, bounds, (a.0, (a.1.0, (up, tt))), (vs0, (vs1, (bool_vals up, tt)))), g) in
           let at = c κs z.0.3 in
           let tokens = raw (alive 𝓛 Lends.signature κs qs) in
-          qed 𝓛 ((tokens ⊛ ‵ ((lender.row κs).own_val a.0 vs0) ⊛ ‵ ((I.slot.row κs).own_val a.1.0 vs1) ⊛ ‵ ftrue) ∷ raw
-          (at.requires g) ∷ []) ∵
+          qed 𝓛 ((tokens ⊛ ‵ ((receiver.row κs).own_val a.0 vs0) ⊛ ‵ ((I.slot.row κs).own_val a.1.0 vs1) ⊛ ‵ ftrue)
+          ∷ raw (at.requires g) ∷ []) ∵
           split ! $ move ! (1 ∷ []) $ split ! $ move ! (1 ∷ []) $ split ! $ move ! (1 ∷ []) $
           owned ! bool _ (bool_Makes 𝓛) up (bool_vals up) refl $ join ! $
           move ! (1 ∷ 0 ∷ []) $ join ! $ move ! (1 ∷ 0 ∷ []) $ join ! $ move ! (1 ∷ 0 ∷ []) $ join ! $
@@ -148,9 +148,9 @@ module _ (n p len : ℕ) where
           -- [what is left of the parameters; what is ensured; the tokens; the struct; the locals]
           fsplit ! $ move ! (1 ∷ []) $ fsplit ! $ move ! (1 ∷ []) $ drop ! $ nothing ! $ move ! (1 ∷ 0 ∷ []) $ fjoin ! $
           move ! (1 ∷ 0 ∷ []) $ fjoin ! $
-          move ! (3 ∷ []) $ peeks ! Filled (Is Filled) (shows 𝓛 Filled) d (v ∷ []) (λ is.
-          let typed = (((str-laws loan).lawful 𝓛).typed d.text _ (owed L laws d _ is).0).0 in
-          lands_as ! (ap only (tells L laws d _ is)) refl (tt, (typed.1, tt)) $
+          move ! (3 ∷ []) $ peeks ! Filled (Is Filled) (shows 𝓛 Filled) d (v ∷ []) (λ repr.
+          let typed = (((str-laws loan).lawful 𝓛).typed d.text _ (owed L laws d _ repr).0).0 in
+          lands_as ! (ap only (tells L laws d _ repr)) refl (tt, (typed.1, tt)) $
           sets ! (of_opd ! (get_in ! (fld ! refl (stop !)) (sub ! 0 refl (whole !)))) refl typed $
           use1 𝓛 (‵ (Text.own_val d.text _) ⊛ ‵ ftrue)
           (takes 𝓛 (shape L) (spells L.parts laws) (tellss L.parts laws) (d.text, tt) (v ∷ [])) $

@@ -21,13 +21,14 @@ nothing_written (Some x) (Some z) y none wrote = wrote ∙ ap (λ l. x ++ l) non
 nothing : (status : ℕ) (in_before in_after out_before out_after : Option (List ℕ))
     → Ends (Decode plain) status in_before in_after out_before out_after → Keeps out_before out_after
 nothing status in_before in_after out_before out_after (done, text, partly_written, inl zero) =
-    let (x, y, read, end, (bytes, reads, is), wrote) = done zero in nothing_written out_before out_after y is wrote
+    let (x, y, read, end, (bytes, reads, output_eq), wrote) = done zero in
+    nothing_written out_before out_after y output_eq wrote
 nothing status in_before in_after out_before out_after (done, text, partly_written, inr (inl one)) =
-    let (e, location, (x, y, read, (bytes, fails, is), wrote)) = text one in
-    nothing_written out_before out_after y is wrote
+    let (e, location, (x, y, read, (bytes, fails, output_eq), wrote)) = text one in
+    nothing_written out_before out_after y output_eq wrote
 nothing status in_before in_after out_before out_after (done, text, partly_written, inr (inr three)) =
-    let (x, y, read, (bytes, spelled, is), wrote) = partly_written three in
-    nothing_written out_before out_after y is wrote
+    let (x, y, read, (bytes, spelled, output_eq), wrote) = partly_written three in
+    nothing_written out_before out_after y output_eq wrote
 
 pub returns : goal.returns
 unfolding with_arguments
@@ -35,13 +36,13 @@ returns g c =
     let ends = ends_always _ (Decode plain) _ _ _ _ _
     (c.program.ensures.input (Decode plain) None (rw c.requires refl) refl) in record {
       done = λ zero.
-          let (x, y, read, end, (bytes, reads, is), wrote) = ends.0 zero in
+          let (x, y, read, end, (bytes, reads, output_eq), wrote) = ends.0 zero in
           let same : Reads x (Ok bytes) = rw (text_plain plain x refl) at reads in (x, bytes, read, end, same);
-      rejected = λ x y is reads one.
+      rejected = λ x y remaining_eq reads one.
           let (e, location, (z, w, read, (bytes, fails, same), wrote)) = ends.1 one in
           let in_after = g.R.Read.remaining c.program.new.input in
           not_decoded plain x in_after z bytes y e location
-          (subst (λ (in_before : Option (List ℕ)). Consumes in_before in_after z) is read)
+          (subst (λ (in_before : Option (List ℕ)). Consumes in_before in_after z) remaining_eq read)
           fails (rw (text_plain plain x refl) reads);
       nothing = nothing _ _ _ _ _ ends;
     }

@@ -12,20 +12,21 @@ plain = record { is_check = false; ignore_whitespace = false; groups = record { 
 pub returns-clause-ok : goal.returns-clause-ok
 returns-clause-ok g c =
     on_ok_weaker c.run.result (λ done.
-    let (x, y, read, end, (bytes, reads, is), wrote) = done in
-    let same : Reads x (Ok bytes) = rw (text_plain plain x refl) at reads in (x, y, read, end, rw is same, wrote))
+    let (x, y, read, end, (bytes, reads, output_eq), wrote) = done in
+    let same : Reads x (Ok bytes) = rw (text_plain plain x refl) at reads in
+    (x, y, read, end, rw output_eq same, wrote))
     c.run.ensures.ok
 
 pub returns-clause-odd : goal.returns-clause-odd
-returns-clause-odd g c = λ location is.
-    let (x, y, read, (bytes, fails, same), wrote) = c.run.ensures.text OddLength location is in
+returns-clause-odd g c = λ location result_eq.
+    let (x, y, read, (bytes, fails, same), wrote) = c.run.ensures.text OddLength location result_eq in
     let odd : IsOdd (length x) = rw (text_plain plain x refl) at fails.2 in
     let pairs = rw (text_plain plain x refl) at fails.3 in
     (fails.0, (x, y, read, fails.1, odd, pairs.0, rw same pairs.1, wrote))
 
 pub returns-clause-invalid : goal.returns-clause-invalid
-returns-clause-invalid g c = λ b i location is.
-    let (x, y, read, (bytes, fails, same), wrote) = c.run.ensures.text (InvalidHexCharacter b i) location is in
+returns-clause-invalid g c = λ b i location result_eq.
+    let (x, y, read, (bytes, fails, same), wrote) = c.run.ensures.text (InvalidHexCharacter b i) location result_eq in
     let pairs = rw (text_plain plain fails.front refl) at fails.bytes in
     let no_digit = rw (text_plain plain (fails.front ++ b ∷ []) refl) at fails.invalid in (
       fails.located,
@@ -46,6 +47,6 @@ returns-clause-invalid g c = λ b i location is.
 pub returns-clause-partly_written : goal.returns-clause-partly_written
 returns-clause-partly_written g c =
     on_err_weaker c.run.result (λ part.
-    let (x, y, read, (bytes, spelled, is), wrote) = part in
+    let (x, y, read, (bytes, spelled, output_eq), wrote) = part in
     let partly_written : Spells (take (2 * length bytes) (body_of x)) bytes = rw (text_plain plain x refl) at spelled in
-    (x, y, read, rw is partly_written, wrote)) c.run.ensures.partly_written
+    (x, y, read, rw output_eq partly_written, wrote)) c.run.ensures.partly_written

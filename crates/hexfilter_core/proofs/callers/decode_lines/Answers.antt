@@ -4,8 +4,8 @@ use Rattle.hexfilter_core.specs.Dumps.{InvalidHexCharacter}
 use Rattle.hexfilter_core.proofs.callers.decode_lines.Goals as goal
 
 pub returns : goal.returns
-returns g c = λ b i location is.
-    let (x, y, read, (bytes, fails, same), wrote) = c.run.ensures.text (InvalidHexCharacter b i) location is in
+returns g c = λ b i location result_eq.
+    let (x, y, read, (bytes, fails, same), wrote) = c.run.ensures.text (InvalidHexCharacter b i) location result_eq in
     let (p, at, here) = fails.located in
     (
       p,

@@ -19,9 +19,11 @@ unfolding with_arguments
 returns g c =
     let m : Mode = Encode false false plain in
     let ends = ends_always _ m _ _ _ _ _ (c.program.ensures.input m None (rw c.requires refl) refl) in record {
-      done = λ zero. let (x, y, read, end, is, wrote) = ends.0 zero in (x, read, end, rw (is ∙ text x) at wrote);
+      done = λ zero.
+          let (x, y, read, end, output_eq, wrote) = ends.0 zero in (x, read, end, rw (output_eq ∙ text x) at wrote);
       partly_written = λ three.
-          let (x, y, read, (rest, is), wrote) = ends.2 three in (x, y, rest, read, sym (text x) ∙ is, wrote);
+          let (x, y, read, (rest, output_eq), wrote) = ends.2 three in
+          (x, y, rest, read, sym (text x) ∙ output_eq, wrote);
       statuses = not_rejected m _ _ _ _ _ ends
           (λ e location rejected. let (x, y, read, fails, wrote) = rejected in fails);
     }

@@ -11,7 +11,7 @@ use Rattle.hexfilter_core.proofs.callers.encode_and_decode.Goals as goal
 
 pub returns : goal.returns
 returns g c =
-    let (prefix, up, ignores, groups, lines, write, read) = c.requires.asked in
+    let (prefix, up, ignores, groups, lines, write, read) = c.requires.arguments in
     let m : Mode = Encode prefix up groups in
     let n : Mode = Decode (mirror ignores groups) in
     let bytes = c.args.bytes.now in

@@ -5,7 +5,7 @@ use Rattle.hexfilter_core.proofs.process.run_on.Goals as goal
 
 same_name : (name : Option (Bor (List ℕ))) (b : Bor (List ℕ)) (n : List ℕ) → name ≡ Some b → option_copied name ≡ Some n
     → b.now ≡ n
-same_name name b n is named = cc
+same_name name b n name_eq named = cc
 
 pub returns-then-is_output-clause-file : goal.returns-then-is_output-clause-file
 returns-then-is_output-clause-file g c = λ n named.

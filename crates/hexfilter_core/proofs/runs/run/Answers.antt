@@ -31,12 +31,13 @@ returns-in-Some g c =
     let more = Appends-trans _ _ _ y _ wrote c.in_ok-write_piece.ensures.ok in
     let made = c.process_chunk-end.ensures.made x y (Some []) has (λ none. refl) in record {
       ok = search rules;
-      text = λ e location is.
+      text = λ e location result_eq.
           let fails = rw c.in-Some.is at
           (c.process_chunk-end.ensures.made x y (g.R.Read.remaining c.read_chunk.new.input) has
-          (λ none. c.in_ok-count.ensures.end (omega (arith, none, length-take c.in_ok-count.count c.read_chunk.new.buffer, c.in_ok-count.ensures.bound))
+          (λ none. c.in_ok-count.ensures.end
+          (omega (arith, none, length-take c.in_ok-count.count c.read_chunk.new.buffer, c.in_ok-count.ensures.bound))
           (omega (arith, c.read_chunk.auto.buffer)))) in
-          (_, _, bytes, rw (same_value _ _ is) at fails, more);
+          (_, _, bytes, rw (same_value _ _ result_eq) at fails, more);
       partly_written = (_, _, bytes, reached_begun _ _ (Some []) _ _ _ _ made, more);
       retried = let fails = rw c.in-Some.is at made in grind (arith, fails);
     }

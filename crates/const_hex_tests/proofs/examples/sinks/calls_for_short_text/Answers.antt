@@ -9,8 +9,8 @@ use Rattle.const_hex_tests.proofs.examples.sinks.calls_for_short_text.Goals as g
 -- a piece takes one call
 calls-of-piece : (s : PieceState) (p : List ℕ) (m : PieceState) → s.refused ≡ false → PieceStep s p m
     → (refused : Bool) → m.refused ≡ refused → count_of_calls m ≤ count_of_calls s + 1
-calls-of-piece s p m going step true is = rw (step.kept is, is, going) omega (arith)
-calls-of-piece s p m going step false is = rw (step.accepted is, is, going, length-append) omega (arith)
+calls-of-piece s p m going step true eq = rw (step.kept eq, eq, going) omega (arith)
+calls-of-piece s p m going step false eq = rw (step.accepted eq, eq, going, length-append) omega (arith)
 
 -- there are no more calls than pieces
 calls-of-pieces : (s : PieceState) (ps : List (List ℕ)) (t : PieceState) → Offers PieceStep (λ s. s.refused) s ps t

@@ -5,10 +5,10 @@ use Rattle.const_hex.specs.Decoding.{NamesInvalidSaturated}
 use Rattle.const_hex_tests.proofs.examples.streams.check_chunk.Goals as goal
 
 pub returns-clause-character : goal.returns-clause-character
-returns-clause-character c = λ b i is.
+returns-clause-character c = λ b i result_eq.
     let text = c.args.text.now in
     let (n, (p, first, character, index), at) : NamesInvalidSaturated text b i =
-    rw is at (c.check.ensures.outcome [] [] c.new-decoder.ensures.starts) in
+    rw result_eq at (c.check.ensures.outcome [] [] c.new-decoder.ensures.starts) in
     (p, first, character, omega (arith, at, index, first.within, body-shorter text))
 
 pub returns-clause-digits : goal.returns-clause-digits

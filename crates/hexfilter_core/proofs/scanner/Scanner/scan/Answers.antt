@@ -14,8 +14,8 @@ runs-preserved-then-count-eq-LANES c =
     let space = c.runs.auto.output in record {
       within = omega (arith, ran.within, size);
       fewer = omega arith;
-      so_far = λ x is.
-          added_run _ _ _ x _ _ c.runs.end done (i.so_far x is) _ c.copy_run-count.result _ i.within
+      so_far = λ x has.
+          added_run _ _ _ x _ _ c.runs.end done (i.so_far x has) _ c.copy_run-count.result _ i.within
           (omega (arith, space)) (omega (arith, ran.length, ran.within, size, space)) ran.added;
     }
 
@@ -32,8 +32,8 @@ runs-preserved c =
     let space = c.runs.auto.output in record {
       within = omega arith;
       fewer = omega (arith, c.put-end.ensures.within);
-      so_far = λ x is.
-          let run = added_run _ _ _ x chunk _ c.runs.end done (i.so_far x is) _ n _ i.within (omega (arith, space))
+      so_far = λ x has.
+          let run = added_run _ _ _ x chunk _ c.runs.end done (i.so_far x has) _ n _ i.within (omega (arith, space))
           (omega (arith, ran.length, ran.within, size, space)) ran.added in
           added_byte _ _ _ x chunk _ (c.runs.end + n) (done + n) run _ (option_to_list c.scan_byte-added.result)
           c.put-end.result inside c.put-end.ensures.front

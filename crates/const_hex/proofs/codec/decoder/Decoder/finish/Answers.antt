@@ -6,7 +6,7 @@ use Rattle.const_hex.proofs.codec.decoder.Decoder.finish.Goals as goal
 pub returns-then-self-eq-PENDING-clause-ok : goal.returns-then-self-eq-PENDING-clause-ok
 returns-then-self-eq-PENDING-clause-ok c = λ t bs r.
     let odd = ends_odd c.args.self t bs r c.if-self-eq-PENDING.true in
-    (λ gone. cc, λ reads. absurd (omega (arith, odd, reads.0)))
+    (λ is_ok. cc, λ reads. absurd (omega (arith, odd, reads.0)))
 
 pub returns-then-self-eq-PENDING-clause-odd : goal.returns-then-self-eq-PENDING-clause-odd
 returns-then-self-eq-PENDING-clause-odd c = search (rules, ends_odd)
@@ -17,4 +17,4 @@ returns-clause-ok c = λ t bs r. (λ _. ends_even c.args.self t bs r c.if-self-e
 pub returns-clause-odd : goal.returns-clause-odd
 returns-clause-odd c = λ t bs r.
     let even = (ends_even c.args.self t bs r c.if-self-eq-PENDING.false).0 in
-    (λ gone. cc, λ odd. absurd (omega (arith, odd, even)))
+    (λ is_ok. cc, λ odd. absurd (omega (arith, odd, even)))
