@@ -55,12 +55,12 @@ fn set(text: &mut [u8], index: usize, byte: u8) {
 }
 
 /// Compares the number of bytes that stay decoded after an invalid byte at each position of a text.
-pub(crate) fn fronts(line: &mut Line<'_>) -> AllocResult<()> {
-    for_each_kernel!(compare_fronts(line)?);
+pub(crate) fn decoded_before_error(line: &mut Line<'_>) -> AllocResult<()> {
+    for_each_kernel!(compare_decoded_before_error(line)?);
     Ok(())
 }
 
-fn compare_fronts<K: Kernel>(line: &mut Line<'_>, kernel: KernelCase) -> AllocResult<()> {
+fn compare_decoded_before_error<K: Kernel>(line: &mut Line<'_>, kernel: KernelCase) -> AllocResult<()> {
     let start = prefix_length(line.input);
     let bytes = decode_by_std(line.alloc, line.input.get(start..).unwrap_or(&[]))?;
     let mut text = line.input.to_vec(line.alloc)?;
@@ -100,8 +100,8 @@ fn compare_invalid_bytes<K: Kernel>(
     Ok(())
 }
 
-/// Whether each call with a kernel returns this error, and an output that was filled with 0xEE then holds `expected`. The
-/// same for `FixedKernel`, which is tested beside `Lanes32`.
+/// Whether each call with a kernel returns this error, and an output that was filled with 0xEE then holds `expected`.
+/// `FixedKernel` is tested together with `Lanes32`.
 fn is_expected<K: Kernel>(
     alloc: Global,
     text: &[u8],

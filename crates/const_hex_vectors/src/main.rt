@@ -109,7 +109,7 @@ fn run_question(line: &mut Line<'_>, question: &str, number: usize) -> AllocResu
         "json-into" => Ok(decoding::read_json_into(line, number)),
         "json-message" => Ok(decoding::read_json_message(line)),
         "each-byte" => Ok(kernels::each_byte(line)),
-        "fronts" => kernels::fronts(line),
+        "fronts" => kernels::decoded_before_error(line),
         "pieces" => calls::pieces(line),
         "calls" => calls::calls(line, number),
         "values-of-block" => Ok(lanes::values(line)),

@@ -63,13 +63,13 @@ Answer m x (Err NoMemory) = ⊥
 
 -- the mode may allocate for the input x: `decode` only if the length is even, and `check` only
 -- if the text is accepted
-abbrev pub TakesMemory : Mode → List ℕ → Type 0
-TakesMemory Encode x = ⊤
-TakesMemory EncodeUpper x = ⊤
-TakesMemory EncodePrefixed x = ⊤
-TakesMemory EncodeUpperPrefixed x = ⊤
-TakesMemory Decode x = IsEven (length (without_newline x))
-TakesMemory Check x = Checks (without_newline x) (Ok tt)
+abbrev pub MayAllocate : Mode → List ℕ → Type 0
+MayAllocate Encode x = ⊤
+MayAllocate EncodeUpper x = ⊤
+MayAllocate EncodePrefixed x = ⊤
+MayAllocate EncodeUpperPrefixed x = ⊤
+MayAllocate Decode x = IsEven (length (without_newline x))
+MayAllocate Check x = Checks (without_newline x) (Ok tt)
 
 -- ---- what a run reads and writes
 --

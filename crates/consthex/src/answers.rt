@@ -4,7 +4,7 @@ ghost use Rattle.std.specs.Prelude.{◌≡◌, ◌≢◌, ◌≤◌, ◌<◌, �
 ghost use Rattle.const_hex.specs.Prelude.{IsOdd, Reads, full_text, text_length};
 ghost use Rattle.const_hex.specs.declared.error.FromHexError.{FromHexError};
 ghost use Rattle.const_hex.specs.declared.error.FromHexError.TheVariants.{OddLength};
-ghost use Rattle.consthex.specs.Program.{Answer, TakesMemory, without_newline, newline, limit};
+ghost use Rattle.consthex.specs.Program.{Answer, MayAllocate, without_newline, newline, limit};
 ghost use Rattle.consthex.specs.declared.error.RunError.TheVariants.{Text, TooLong, NoMemory};
 ghost use Rattle.consthex.specs.declared.mode.Mode.TheVariants.{Decode, Check};
 
@@ -30,7 +30,7 @@ pub fn answer(alloc: Global, mode: Mode, input: &[u8]) -> Result<Vec<u8>, RunErr
     ensures ok { IfOk result (λ v. Answer mode input.now (Ok v.items)) }
     ensures err { IfErr result (λ e. e ≢ NoMemory → Answer mode input.now (Err e)) }
     ensures too_long { (result ≡ Err TooLong) ↔ (limit < length input.now) }
-    ensures no_memory { result ≡ Err NoMemory → TakesMemory mode input.now }
+    ensures no_memory { result ≡ Err NoMemory → MayAllocate mode input.now }
     // In every mode, `RunError::Text` is returned only for a text that cannot be decoded.
     ensures invalid { (e : FromHexError) → result ≡ Err (Text e)
         → Reads (without_newline input.now) (Err e) }

@@ -4,7 +4,7 @@ ghost use Rattle.std.specs.Prelude.{◌≡◌, ◌≢◌, ◌≤◌, ◌<◌, �
 ghost use Rattle.std.specs.Io.KnownBytes.{Appends, Consumes, Keeps};
 ghost use Rattle.const_hex.specs.declared.error.FromHexError.{FromHexError};
 ghost use Rattle.const_hex.specs.Prelude.{WritesBeginning, IsOdd};
-ghost use Rattle.consthex.specs.Program.{limit, without_newline, ReadsAll, Answer, Answers, TakesMemory};
+ghost use Rattle.consthex.specs.Program.{limit, without_newline, ReadsAll, Answer, Answers, MayAllocate};
 ghost use Rattle.consthex.specs.declared.mode.Mode.TheVariants.{Check, Decode};
 ghost use Rattle.const_hex.specs.declared.error.FromHexError.TheVariants.{OddLength};
 ghost use Rattle.consthex.specs.declared.error.RunError.TheVariants.{NoMemory, Text, WriteFailed, TooLong};
@@ -77,7 +77,7 @@ pub fn run_bytes<W: Write>(
         × Appends (W.contents output.old) (W.contents output.new) bs) }
     // Unless memory or the writer fails, an error is the result of the mode.
     ensures err { IfErr result (λ e. e ≢ NoMemory → e ≢ WriteFailed → Answer mode input.now (Err e)) }
-    ensures no_memory { result ≡ Err NoMemory → TakesMemory mode input.now }
+    ensures no_memory { result ≡ Err NoMemory → MayAllocate mode input.now }
     // An odd length never leads to `NoMemory`.
     ensures odd { (mode ≡ Decode) ⊎ (mode ≡ Check) → length input.now ≤ limit
         → IsOdd (length (without_newline input.now)) → result ≡ Err (Text OddLength) }

@@ -77,7 +77,7 @@ pub trait Host: Eprint {
 /// Does what the arguments after the program's name ask for, with `input` and `output` as standard input and output.
 /// Returns the exit status: 0 if that succeeds, 1 if the text cannot be decoded, 2 if the arguments are not valid, and
 /// 3 if a read or a write fails, or if the input is the file that standard output goes to. An error is one line on
-/// standard error, but none if the reader of standard output is gone.
+/// standard error, but none if standard output is a broken pipe.
 ///
 /// ```rust
 /// fn main(rt: HostRuntime) -> ExitCode {
@@ -113,11 +113,11 @@ pub fn program<H: Host, R: Read, W: Write>(
         → (exit_status result ≡ 2) × (input.new ≡ input.old) × (output.new ≡ output.old) }
 {
     match request_of(arguments) {
-        Ok(Request::Help) => end(host, None, print(HELP, output)),
-        Ok(Request::Version) => end(host, None, print(VERSION, output)),
+        Ok(Request::Help) => report_outcome(host, None, print(HELP, output)),
+        Ok(Request::Version) => report_outcome(host, None, print(VERSION, output)),
         Ok(Request::Run(mode, file)) => {
             let name = file_name(arguments, file);
-            end(host, name, run_on(host, mode, name, input, output))
+            report_outcome(host, name, run_on(host, mode, name, input, output))
         }
         Err(error) => report_usage_error(host, arguments, error),
     }
@@ -192,9 +192,9 @@ fn print<W: Write>(text: &str, output: &mut W) -> Result<(), RunError>
     flush(output)
 }
 
-/// Ends a run on the file with that name, or on standard input. Prints its error, unless the reader of standard output
-/// is gone, and returns the exit status.
-fn end(host: &impl Eprint, name: Option<&str>, outcome: Result<(), RunError>) -> ExitCode
+/// Prints the error of a run on the file with that name, or on standard input, unless standard output is a broken pipe.
+/// Returns the exit status.
+fn report_outcome(host: &impl Eprint, name: Option<&str>, outcome: Result<(), RunError>) -> ExitCode
     ensures { exit_status result ≡ status_of outcome }
 {
     let error = match outcome {

@@ -105,7 +105,7 @@ pub(crate) fn find_first_invalid<K: Kernel>(text: &[u8]) -> (u8, usize)
     } else {
         skip_halves::<K>(text)
     };
-    find_first_invalid_from(text, skip_fours(text, start))
+    find_first_invalid_from(text, skip_digits_by_four(text, start))
 }
 
 /// An index before which all bytes are digits, found by binary search: the kernel checks the first half of the text,
@@ -116,17 +116,17 @@ fn skip_halves<K: Kernel>(text: &[u8]) -> usize
     ensures digits { AllDigits (take result text.now) }
     ensures within { result ≤ length text.now }
 {
-    let start = skip_run::<K>(text, 0, text.len() / 2);
-    let start = skip_run::<K>(text, start, text.len() / 4);
-    let start = skip_run::<K>(text, start, text.len() / 8);
-    let start = skip_run::<K>(text, start, text.len() / 16);
-    let start = skip_run::<K>(text, start, text.len() / 32);
-    skip_run::<K>(text, start, text.len() / 64)
+    let start = skip_if_digits::<K>(text, 0, text.len() / 2);
+    let start = skip_if_digits::<K>(text, start, text.len() / 4);
+    let start = skip_if_digits::<K>(text, start, text.len() / 8);
+    let start = skip_if_digits::<K>(text, start, text.len() / 16);
+    let start = skip_if_digits::<K>(text, start, text.len() / 32);
+    skip_if_digits::<K>(text, start, text.len() / 64)
 }
 
 /// Skips `size` bytes from `start` on, if all of them are digits. Returns the new index.
 #[inline(always)]
-fn skip_run<K: Kernel>(text: &[u8], start: usize, size: usize) -> usize
+fn skip_if_digits<K: Kernel>(text: &[u8], start: usize, size: usize) -> usize
     requires digits { AllDigits (take start text.now) }
     requires within { start + size ≤ length text.now }
     ensures digits { AllDigits (take result text.now) }
@@ -166,7 +166,7 @@ pub(crate) fn find_first_invalid_from(text: &[u8], start: usize) -> (u8, usize)
 /// invalid byte. Returns the index there.
 // With `last` as the bound of the loop, LLVM removes the bounds checks in Rust, too.
 #[inline(always)]
-fn skip_fours(text: &[u8], start: usize) -> usize
+fn skip_digits_by_four(text: &[u8], start: usize) -> usize
     requires { AllDigits (take start text.now) × start ≤ length text.now }
     ensures digits { AllDigits (take result text.now) }
     ensures within { result ≤ length text.now }

@@ -2,8 +2,8 @@
 use Rattle.std.proofs.Common.{◌+◌, ◌≤◌, length, take, refl, arith}
 use Rattle.const_hex.specs.Prelude.{AllDigits}
 use Rattle.const_hex.proofs.lemmas.Searching.{two_more}
-use Rattle.const_hex.proofs.codec.body.skip_fours.Goals as goal
-use Rattle.const_hex.proofs.codec.body.skip_fours.Goals.{Else-not-are_digits}
+use Rattle.const_hex.proofs.codec.body.skip_digits_by_four.Goals as goal
+use Rattle.const_hex.proofs.codec.body.skip_digits_by_four.Goals.{Else-not-are_digits}
 
 -- four bytes are left
 long : (c : Else-not-are_digits) → c.fours.index + 4 ≤ length c.args.text.now
