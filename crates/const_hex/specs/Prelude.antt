@@ -4,7 +4,7 @@ pub use Rattle.const_hex_arch.specs.Sinks.{Offers, Streams, ReportsCut, reported
 pub use Rattle.const_hex_arch.specs.Texts.{AllDigits, FirstBad, IsDigit, value_or_nil, hex_value, Spells, hex_digit, Partial, full_text, text_length, prefix_of}
 unfoldable pub use Rattle.const_hex_arch.specs.Texts.{hex_text}
 pub use Rattle.const_hex.specs.Buffers.{blank_text, buffer_text}
-pub use Rattle.const_hex.specs.Decoding.{counted, position_of, HasRead, NamesCounted, error_of, waiting_digit, zero_decoder, ChecksChunk, DecodesChunk, ReadsOn, ChecksOn}
+pub use Rattle.const_hex.specs.Decoding.{saturated, position_of, HasRead, NamesInvalidSaturated, error_of, pending_digit, zero_decoder, ChecksChunk, DecodesChunk, ReadsOn, ChecksOn}
 pub use Rattle.const_hex.specs.Messages.{shown, message_text, message_of}
 pub use Rattle.const_hex.specs.Results.{body_of, IsOdd, Reads, lowered, ReadsSized, Checks, ChecksText, IsEven, is_text_of, AreBytes, Decodes, DecodesToArray, all_digits, DecodesToSlice, DecodesToFront, EncodesToSlice, Encodes, ReadsWithin, LeavesOutput}
 pub use Rattle.const_hex.specs.TypeLaws.{body-parity, ReadsSized-faithful, ReadsOwned-faithful, ReadsThrough-faithful, ReadsSigned-faithful, ReadsAs-faithful}

@@ -1,4 +1,4 @@
--- What is returned for a text: its prefix, and the bytes or the error.
+-- The results for a text: its prefix, and the bytes or the error.
 use Rattle.std.specs.Prelude.{◌≡◌, ℕ, ◌+◌, ◌-◌, ◌==◌, nat_le, ◌&&◌, ◌||◌, if◌then◌else◌, List, [], ◌∷◌, length, map, slice_index, ◌*◌, ◌%◌, ◌≢◌, ◌<◌, ◌≤◌, Bool, Result, Ok, Err, ◌++◌, ◌↔◌, true, false, String, string_bytes, take, drop, IfOk, IfErr, OnOk, OnErr, IsOk, IsTrue, MatchResult, is_some}
 use Rattle.const_hex_arch.specs.Texts.{FirstBad, hex_value, Spells, Partial, hex_text, full_text}
 use Rattle.const_hex.specs.declared.error.FromHexError.{FromHexError}
@@ -17,9 +17,9 @@ body_of (c ∷ d ∷ u) = if (c == 48) && (d == 120 || d == 88) then u else c �
 abbrev pub lowered : List ℕ → List ℕ
 lowered u = map (λ b. if nat_le 65 b && nat_le b 70 then b + 32 else b) u
 
--- c is the first byte after the prefix of t that is not a digit, and index its position in t
-abbrev pub NamesFirstBad : List ℕ → ℕ → ℕ → Type 0
-NamesFirstBad t c index =
+-- c is the first byte after the prefix of t that is not a digit, and `index` is its position in t
+abbrev pub NamesFirstInvalid : List ℕ → ℕ → ℕ → Type 0
+NamesFirstInvalid t c index =
     (p : ℕ) × FirstBad (body_of t) p × (c ≡ slice_index (body_of t) p) × (index ≡ p + (length t - length (body_of t)))
 
 -- ---- the results for a text
@@ -40,7 +40,7 @@ abbrev pub Reads : List ℕ → Result (List ℕ) FromHexError → Type 0
 Reads t (Ok bs) = IsEven (length t) × Spells (body_of t) bs
 Reads t (Err OddLength) = IsOdd (length t)
 Reads t (Err InvalidStringLength) = ⊥
-Reads t (Err (InvalidHexCharacter c i)) = IsEven (length t) × NamesFirstBad t c i
+Reads t (Err (InvalidHexCharacter c i)) = IsEven (length t) × NamesFirstInvalid t c i
 Reads t (Err NoMemory) = ⊥
 
 -- the result when t is read as n bytes: if the length is not odd, a body of another length is
@@ -76,14 +76,14 @@ abbrev pub Checks : List ℕ → Result Unit FromHexError → Type 0
 Checks t (Ok u) = (bs : List ℕ) × Reads t (Ok bs)
 Checks t (Err e) = Reads t (Err e)
 
--- what an error for t leaves of an output that held `old`
+-- what an output that held `old` holds after an error for t
 abbrev pub LeavesOutput : List ℕ → List ℕ → List ℕ → FromHexError → Type 0
 LeavesOutput t old new OddLength = new ≡ old
 LeavesOutput t old new InvalidStringLength = new ≡ old
 LeavesOutput t old new (InvalidHexCharacter c i) = Partial old (body_of t) new
 LeavesOutput t old new NoMemory = ⊥
 
--- ---- what the functions of the codec promise; functions that differ only by a kernel share a record
+-- ---- the contracts of the functions of the codec; functions that differ only in the kernel share a record
 
 -- `encode`: the text is two digits for each byte
 pub record Encodes {A E : Type 0} (up : Bool) (bs : List ℕ) (r : Result (String A) E) : Type 0 where
@@ -132,7 +132,7 @@ pub record DecodesToFront (t old new : List ℕ) (r : Result ℕ FromHexError) :
 
 -- `decode_to_array`: the result for the text t and n bytes
 pub record DecodesToArray (n : ℕ) (t : List ℕ) (r : Result (List ℕ) FromHexError) : Type 0 where
-  pub answer : ReadsSized t n r
+  pub outcome : ReadsSized t n r
   -- for a constant text this is computed, which proves that an `unwrap` succeeds
   pub accepts : IsOk r ↔ IsTrue (is_text_of n t)
   -- what was encoded of n bytes is decoded to the same bytes
@@ -146,7 +146,7 @@ pub record DecodesToArray (n : ℕ) (t : List ℕ) (r : Result (List ℕ) FromHe
 
 -- `check`: the result for the text t
 pub record ChecksText (t : List ℕ) (r : Result Unit FromHexError) : Type 0 where
-  pub answer : Checks t r
+  pub outcome : Checks t r
   pub accepts : IsOk r ↔ ((bs : List ℕ) × Reads t (Ok bs))
   -- this is the only result that meets `Checks`
   pub unique : (s : Result Unit FromHexError) → Checks t s → s ≡ r

@@ -1,4 +1,4 @@
--- Lemmas for the laws of types that are read from text.
+-- Lemmas for the law of `FromHex`.
 use Rattle.std.proofs.Common.{inl, inr, sym, ◌∙◌, arith, ◌≡◌, ℕ, suc, ◌*◌, ◌%◌, ◌<◌, ◌≢◌, Bool, List, [], ◌∷◌, length, map, ℤ, Result, Ok, Err, refl}
 use Rattle.std.proofs.lemmas.Bool.{cases_eq}
 use Rattle.std.proofs.lemmas.Bool.Decides.{nat_tests}
@@ -24,7 +24,7 @@ Reads-some t =
           let even : IsEven (length t) = omega arith in
           elim (digits_or_bad (body_of t)) [
             | inl a ↦ let (bs, s) = Spells-some (body_of t) (body-parity t ∙ even) a in (Ok bs, (even, s))
-            | inr (p, bad) ↦ (Err (InvalidHexCharacter _ _), (even, (p, bad, refl, refl)))
+            | inr (p, invalid) ↦ (Err (InvalidHexCharacter _ _), (even, (p, invalid, refl, refl)))
           ]
     ]
 

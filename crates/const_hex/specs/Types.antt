@@ -1,4 +1,4 @@
--- Types that are read from text, or written as it: what they return, and their law.
+-- Types that can be decoded from text, or encoded as it: their results, and the law of `FromHex`.
 use Rattle.std.specs.Prelude.{ℕ, ◌-◌, nat_lt, if◌then◌else◌, ℤ, pos, negsuc, ◌≡◌, Bool, true, false, ◌⊎◌, List, length, map, Result, Ok, Err, Option, Some, codes, ◌∷◌, None}
 use Rattle.const_hex.specs.Results.{Reads, IsEven, IsOdd}
 use Rattle.const_hex.specs.declared.error.FromHexError.{FromHexError}
@@ -93,7 +93,7 @@ json_message message (Hex e) = message e
 
 -- ---- the characters that are left in an iterator over the text of bytes
 
--- the second digit of a byte whose first was returned, if there is one, and then the characters of the rest
+-- the second digit of a byte whose first digit was returned, if there is one, and then the characters of the rest
 abbrev pub with_low : Option ℕ → List ℕ → List ℕ
 with_low None xs = xs
 with_low (Some c) xs = c ∷ xs
@@ -102,6 +102,6 @@ with_low (Some c) xs = c ∷ xs
 abbrev pub chars_left : {upper : ℕ} → Bool → BytesToHexChars upper → List ℕ
 chars_left up s = with_low s.low (hex_text up s.bytes.now)
 
--- the bounds on a number of items that is known
+-- the size hint for exactly n items
 abbrev pub exactly : ℕ → ℕ × Option ℕ
 exactly n = (n, Some n)

@@ -28,7 +28,7 @@ printed_text prefix up d = full_text prefix up (display_bytes d)
 abbrev pub sink_formatter : {W : Type 0} → FormatterSink W → Formatter W
 sink_formatter s = s.formatter.now
 
--- which loan of a formatter a sink has
+-- the identity of the borrow of a sink's formatter
 abbrev pub formatter_name : {W : Type 0} → FormatterSink W → GName
 formatter_name s = s.formatter.ghost_name
 
@@ -36,7 +36,7 @@ formatter_name s = s.formatter.ghost_name
 abbrev pub formatter_failed : {W : Type 0} → FormatterSink W → Bool
 formatter_failed s = s.failed
 
--- the same formatter writes the piece if it does not fail; its options do not matter
+-- the same formatter has written the piece if it has not failed; its options do not matter
 pub record FormatterStep {W : Type 0} (took : W → List ℕ → W → Type 0) (s : FormatterSink W) (piece : List ℕ)
     (t : FormatterSink W) : Type 0 where
   pub same_formatter : formatter_name t ≡ formatter_name s
@@ -53,7 +53,7 @@ WritesBeginning held holds bs = (n : ℕ) × Appends held holds (take n bs)
 abbrev pub sink_writer : {W : Type 0} → WriteSink W → W
 sink_writer s = s.writer.now
 
--- which loan of a writer a sink has
+-- the identity of the borrow of a sink's writer
 abbrev pub writer_name : {W : Type 0} → WriteSink W → GName
 writer_name s = s.writer.ghost_name
 
@@ -65,8 +65,8 @@ first_error s = s.error
 abbrev pub has_failed : {W : Type 0} → WriteSink W → Bool
 has_failed s = is_some s.error
 
--- the same writer has written the text if it did not fail, and a beginning of the text if it failed, by
--- an error other than that of an interrupted call; for an empty text nothing changes
+-- the same writer has written the text if it has not failed, or a beginning of the text if it has failed, with
+-- an error other than that of an interrupted call; an empty text changes nothing
 pub record WriteStep {W : Type 0} (contents : W → Option (List ℕ)) (s : WriteSink W) (text : List ℕ)
     (t : WriteSink W) : Type 0 where
   pub same_writer : writer_name t ≡ writer_name s

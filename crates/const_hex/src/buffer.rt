@@ -32,7 +32,7 @@ pub struct Buffer<const N: usize, const PREFIX: bool, const LEN: usize> {
     text: AsciiArray<LEN>,
 }
 
-/// The text that a buffer lends, in a struct: so its clause `after` has a generated proof.
+/// A borrow of a buffer's text, in a struct: for a function that returns it the prover generates the proof of `after`.
 #[derive(Drop)]
 pub(crate) struct Lent<'a> {
     text: &'a str,
@@ -129,7 +129,7 @@ impl<const N: usize, const PREFIX: bool, const LEN: usize> Buffer<N, PREFIX, LEN
         self
     }
 
-    /// Writes the whole text over what the buffer holds, and lends it.
+    /// Overwrites the buffer with the text, and returns it.
     #[inline]
     fn write_text(&mut self, input: &[u8], upper: bool) -> Lent<'_>
         requires fits { LEN ≡ text_length PREFIX N }
@@ -145,7 +145,7 @@ impl<const N: usize, const PREFIX: bool, const LEN: usize> Buffer<N, PREFIX, LEN
     }
 
     /// As `write_text`, for an array.
-    // For `format` and `format_upper`, whose proofs follow the steps of a call with an array.
+    // For `format` and `format_upper`, whose manual proofs need a call with an array.
     #[inline]
     fn write_array(&mut self, input: &[u8; N], upper: bool) -> Lent<'_>
         requires { LEN ≡ text_length PREFIX N }
@@ -156,7 +156,7 @@ impl<const N: usize, const PREFIX: bool, const LEN: usize> Buffer<N, PREFIX, LEN
         self.write_text(input, upper)
     }
 
-    /// Writes the text of the input, in lowercase, and lends it.
+    /// Writes the text of the input, in lowercase, and returns it.
     ///
     /// LEN must be `2 * N`, plus 2 if PREFIX is true.
     ///

@@ -1,4 +1,4 @@
-//! Why a text cannot be decoded, or a text does not fit into an output.
+//! Why a text cannot be decoded, or a length does not fit.
 
 ghost use Rattle.std.specs.Prelude.{◌≡◌};
 ghost use Rattle.const_hex.specs.Prelude.{message_of, NoMemory};
@@ -6,7 +6,7 @@ ghost use Rattle.const_hex.specs.Prelude.{message_of, NoMemory};
 use std::alloc::{AllocError, AllocFailed};
 use std::{error, fmt};
 
-/// Why a text cannot be decoded, or a text does not fit into an output.
+/// Why a text cannot be decoded, or a length does not fit.
 ///
 /// These are checked in this order: whether the length is odd, then the length that a sized call needs,
 /// then the characters.
@@ -24,7 +24,7 @@ pub enum FromHexError {
     InvalidStringLength,
     /// A byte is not a digit. This is the first such byte.
     InvalidHexCharacter {
-        /// The character with the byte's number. A byte past 127 gives U+0080 to U+00FF.
+        /// The character whose code point is the byte. A byte above 127 becomes U+0080 to U+00FF.
         c: char,
         /// The byte's position, counted from 0 at the start of the whole text, prefix included.
         index: usize,

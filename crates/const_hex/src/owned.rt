@@ -1,4 +1,4 @@
-//! Owned text and owned bytes, over zeros that are filled.
+//! Encoding and decoding to owned strings and vectors.
 
 ghost use Rattle.std.specs.Prelude.{◌≡◌, ◌≢◌, ◌↔◌, true, false, length, IfOk, IfErr, string_bytes, Ok, Err};
 ghost use Rattle.const_hex.specs.Prelude.{full_text, Decodes, Encodes, IsOdd, Reads, OddLength, NoMemory};
@@ -8,8 +8,8 @@ use crate::error::FromHexError;
 use const_hex_arch::{FixedKernel, Kernel, fill_text, text_length};
 use std::alloc::{AllocError, Global};
 
-/// The text, with `0x` before it if `prefix` is true. Allocates once, for exactly the text; for no text,
-/// not at all.
+/// The text, with `0x` before it if `prefix` is true. Allocates once, with the exact size, and not at all for an empty
+/// text.
 #[inline(always)]
 #[tactic(auto, using(std::proofs::lemmas::List::take_at, const_hex_arch::proofs::lemmas::Texts::texts))]
 pub(crate) fn encode_owned<K: Kernel>(
@@ -84,7 +84,7 @@ pub fn encode_upper_prefixed(alloc: Global, input: &[u8]) -> Result<String, Allo
     encode_owned::<FixedKernel>(alloc, input, true, true)
 }
 
-/// As [`encode`] or [`encode_upper`], by a kernel of the caller's choice.
+/// As [`encode`] or [`encode_upper`], with a kernel of the caller's choice.
 ///
 /// Returns `AllocError` if memory cannot be allocated.
 ///
@@ -122,7 +122,7 @@ pub fn decode(alloc: Global, input: &[u8]) -> Result<Vec<u8>, FromHexError>
     decode_with::<FixedKernel>(alloc, input)
 }
 
-/// As [`decode`], with the same errors, by a kernel of the caller's choice.
+/// As [`decode`], with the same errors, with a kernel of the caller's choice.
 ///
 /// ```rust
 /// let bytes = const_hex::decode_with::<Plain>(rt.alloc(), b"6B697769")?;
@@ -135,8 +135,8 @@ pub fn decode_with<K: Kernel>(alloc: Global, input: &[u8]) -> Result<Vec<u8>, Fr
     decode_owned::<K>(alloc, input)
 }
 
-/// Decodes a text to a vector. Allocates once, for exactly these bytes; for none, not at all.
-// A function of its own, since the prover finds these clauses on each of its four paths by itself, and
+/// Decodes a text to a vector. Allocates once, with the exact size, and not at all for no bytes.
+// A separate function, since the prover finds the proofs of these clauses on each of its four paths automatically, and
 // `decode_with` derives three more from them.
 #[inline(always)]
 fn decode_owned<K: Kernel>(alloc: Global, input: &[u8]) -> Result<Vec<u8>, FromHexError>

@@ -1,4 +1,4 @@
-//! Types that are read from hexadecimal text, and types that are written as it.
+//! Traits of types that can be decoded from hexadecimal text, or encoded as it.
 
 mod arrays;
 mod chars;

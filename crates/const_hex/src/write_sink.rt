@@ -8,10 +8,10 @@ ghost use Rattle.const_hex.specs.Prelude.{full_text, WriteStep, WritesBeginning,
 use const_hex_arch::{BufferedHex, Sink, SinkError};
 use std::io::{self, ErrorKind, Write};
 
-/// Passes pieces on to a writer until a write fails, and keeps that error.
+/// A sink that writes pieces to a writer until a write fails, and stores that error.
 ///
-/// A piece may need several calls of `write`. A call that a signal interrupts is made again. After
-/// a failed write the writer has received a beginning of the text, and nothing more is written:
+/// A piece may need several calls of `write`. A call that a signal interrupts is retried. After a
+/// failed write the writer has received a beginning of the text, and nothing more is written:
 /// [`write_hex`](WriteSink::write_hex) only returns the error, and `write_str` may not be called.
 /// No call flushes the writer. Only the writer itself allocates.
 ///
@@ -49,8 +49,8 @@ impl<'a, W: Write> WriteSink<'a, W> {
 
     /// Writes the text of some bytes, as [`BufferedHex::write_to`] does.
     ///
-    /// Returns `Ok` if no write has failed, in this call or before. After a failed write it calls
-    /// nothing and changes nothing, so a loop may call it again and again.
+    /// Returns `Ok` if no write has failed, in this call or before. After a failed write it has no
+    /// effect, so a loop may call it again and again.
     ///
     /// ```rust
     /// let mut file = Vec::new(rt.alloc());
@@ -89,8 +89,8 @@ impl<'a, W: Write> WriteSink<'a, W> {
         self.error.as_ref()
     }
 
-    /// `Ok` if no write failed, or the error of the write that did. The writer is the caller's
-    /// again, with what was written.
+    /// Returns `Ok` if no write failed, or the error of the write that did. The borrow of the writer
+    /// ends, and it holds what was written.
     ///
     /// ```rust
     /// let mut file = Vec::new(rt.alloc());
@@ -99,7 +99,7 @@ impl<'a, W: Write> WriteSink<'a, W> {
     /// assert!(rt; sink.finish().is_ok());
     /// ```
     pub fn finish(self) -> io::Result<()>
-        ensures answer { MatchOption (first_error self.entry) (IsOk result) (λ e. result ≡ Err e) }
+        ensures outcome { MatchOption (first_error self.entry) (IsOk result) (λ e. result ≡ Err e) }
         ensures unchanged { self.exit.0.now ≡ sink_writer self.entry }
     {
         match self.error {
@@ -108,7 +108,7 @@ impl<'a, W: Write> WriteSink<'a, W> {
         }
     }
 
-    /// The writer, lent again, and the error of the write that failed, if one did.
+    /// The borrow of the writer, and the error of the write that failed, if one did.
     ///
     /// ```rust
     /// let mut file = Vec::new(rt.alloc());
@@ -155,7 +155,7 @@ impl<W: Write> Sink for WriteSink<'_, W> {
     ghost reports = { λ s piece t h. refl };
 }
 
-/// Writes a piece. If a signal interrupts a write, it is made again.
+/// Writes a piece. A write that a signal interrupts is retried.
 #[tactic(auto, using(std::proofs::lemmas::List::take_all, crate::proofs::lemmas::WriteSinks::writes))]
 fn write_piece<W: Write>(writer: &mut W, piece: &[u8]) -> io::Result<()>
     ensures ok { OnOk result (Appends (W.contents writer.old) (W.contents writer.new) piece.now) }

@@ -1,1 +1,1 @@
-pub mod Keys
+pub mod PartialOutputs

@@ -1,6 +1,6 @@
-//! Small, whole callers of `const_hex`, each with the contract that its users would want.
+//! Small, complete callers of `const_hex`, each with the contract that its users would want.
 //!
-//! Most have no proof by hand: the clauses of the codec are enough.
+//! Most need no manual proof: the contracts of the codec are enough.
 
 pub mod constants;
 pub mod contracts;

@@ -1,5 +1,5 @@
-//! The tests of the libraries that a table of test vectors cannot state, and [`examples`], small callers that are proved.
-//! Expected values come from the codec's written rules, and from what the standard library prints.
+//! The tests of the libraries that a table of test vectors cannot state, and [`examples`], which are small verified
+//! callers. Expected values come from the codec's documented rules, and from the standard library.
 #![tactic(auto)]
 
 pub mod examples;

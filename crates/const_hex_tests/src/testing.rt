@@ -1,11 +1,11 @@
-//! What the tests and the program `const_hex_vectors` share: what the standard library prints for bytes, a
-//! sink that notes its calls, and the kernels.
+//! What the tests and the program `const_hex_vectors` share: a reference codec by the standard library, a sink
+//! that records its calls, and a macro that calls a function with each kernel.
 
-mod formatted;
 mod kernels;
-mod noting;
-pub mod texts;
+mod recording_sink;
+pub mod reference;
+mod upper_hex;
 
-pub use crate::testing::formatted::InHex;
-pub use crate::testing::kernels::{KernelCase, all_done};
-pub use crate::testing::noting::Noting;
+pub use crate::testing::kernels::{KernelCase, first_error};
+pub use crate::testing::recording_sink::RecordingSink;
+pub use crate::testing::upper_hex::AsUpperHex;

@@ -1,6 +1,6 @@
-//! The tests. `const_hex_vectors` has all that a line of its table can ask.
+//! The tests that are no test vectors of `const_hex_vectors`.
 
 mod examples;
+mod other_calls;
 mod printed;
-mod worked;
 mod write_sink;

@@ -1,4 +1,4 @@
-//! The lines of texts that are read. The contracts show that the other decoders read the same.
+//! The lines of texts that are decoded. The contracts show that the other decoders return the same.
 
 ghost use Rattle.std.specs.Prelude.{◌≤◌};
 
@@ -9,7 +9,7 @@ use const_hex::{
     const_check_raw, const_decode_to_array, decode_to_array, decode_to_front_with, decode_to_slice,
     decode_to_slice_with, decode_with, deserialize,
 };
-use const_hex_tests::by_each_kernel;
+use const_hex_tests::for_each_kernel;
 use const_hex_tests::testing::KernelCase;
 use serde_json::Value;
 use std::alloc::Global;
@@ -18,36 +18,36 @@ use std::convert::AsSlice;
 pub(crate) fn read(line: &mut Line<'_>) -> AllocResult<()> {
     let digits = line.input.len().saturating_sub(prefix_length(line.input));
     read_into(line, digits / 2)?;
-    checks(line, "check", check(line.input));
-    checks(line, "const_check", const_check(line.input));
-    by_each_kernel!(read_by(line)?);
+    expect_check(line, "check", check(line.input));
+    expect_check(line, "const_check", const_check(line.input));
+    for_each_kernel!(decode_with_kernel(line)?);
     if line.result != "!OddLength" || check_raw(line.input) {
         read_chunks(line);
     }
     Ok(())
 }
 
-/// Whether a check accepts the text, or returns the line's error.
-fn checks(line: &mut Line<'_>, call: &str, checked: Result<(), FromHexError>) {
+/// Compares the result of a check with the line's: it accepts the text, or returns the error.
+fn expect_check(line: &mut Line<'_>, call: &str, checked: Result<(), FromHexError>) {
     match checked {
-        Ok(()) => line.holds(call, !line.result.starts_with('!')),
-        Err(error) => line.reads::<[u8; 0]>(call, Err(error), line.result),
+        Ok(()) => line.expect_true(call, !line.result.starts_with('!')),
+        Err(error) => line.expect_bytes::<[u8; 0]>(call, Err(error), line.result),
     }
 }
 
-fn read_by<K: Kernel>(line: &mut Line<'_>, kernel: KernelCase) -> AllocResult<()> {
+fn decode_with_kernel<K: Kernel>(line: &mut Line<'_>, kernel: KernelCase) -> AllocResult<()> {
     let (alloc, text) = (line.alloc, line.input);
-    checks(line, kernel.name, check_with::<K>(text));
-    line.reads(kernel.name, decode_with::<K>(alloc, text), line.result);
+    expect_check(line, kernel.name, check_with::<K>(text));
+    line.expect_bytes(kernel.name, decode_with::<K>(alloc, text), line.result);
     let mut output = vec![in alloc; 0xEEu8; text.len()]?;
-    let done = decode_to_front_with::<K>(text, &mut output);
-    output.truncate(done.unwrap_or(text.len()));
-    line.fills(kernel.name, done, &output, line.result);
+    let returned = decode_to_front_with::<K>(text, &mut output);
+    output.truncate(returned.unwrap_or(text.len()));
+    line.expect_output(kernel.name, returned, &output, line.result);
     Ok(())
 }
 
 pub(crate) fn read_into(line: &mut Line<'_>, size: usize) -> AllocResult<()> {
-    by_each_kernel!(fill_by(line, size)?);
+    for_each_kernel!(decode_to_slice_with_kernel(line, size)?);
     macro_rules! read_arrays {
         ($($size:literal),+) => {
             match size {
@@ -64,15 +64,15 @@ fn read_array<const N: usize>(line: &mut Line<'_>)
     requires { N ≤ 128 }
 {
     let (alloc, text, result) = (line.alloc, line.input, line.result);
-    line.reads("decode_to_array", decode_to_array::<N>(text), result);
-    line.reads(
+    line.expect_bytes("decode_to_array", decode_to_array::<N>(text), result);
+    line.expect_bytes(
         "const_decode_to_array",
         const_decode_to_array::<N>(text),
         result,
     );
-    line.reads("from_hex", <[u8; N]>::from_hex(alloc, text), result);
+    line.expect_bytes("from_hex", <[u8; N]>::from_hex(alloc, text), result);
     let mut output = [0xEE; N];
-    line.fills(
+    line.expect_output(
         "decode_to_slice",
         decode_to_slice(text, &mut output),
         &output,
@@ -80,33 +80,37 @@ fn read_array<const N: usize>(line: &mut Line<'_>)
     );
 }
 
-fn fill_by<K: Kernel>(line: &mut Line<'_>, size: usize, kernel: KernelCase) -> AllocResult<()> {
+fn decode_to_slice_with_kernel<K: Kernel>(line: &mut Line<'_>, size: usize, kernel: KernelCase) -> AllocResult<()> {
     let mut output = vec![in line.alloc; 0xEEu8; size]?;
-    let done = decode_to_slice_with::<K>(line.input, &mut output);
-    line.fills(kernel.name, done, &output, line.result);
+    let returned = decode_to_slice_with::<K>(line.input, &mut output);
+    line.expect_output(kernel.name, returned, &output, line.result);
     Ok(())
 }
 
-/// The sizes into which a text is cut.
-const SIZES: [usize; 7] = [1, 2, 3, 7, 31, 64, 200];
+/// The sizes of the chunks into which a text is split.
+const CHUNK_SIZES: [usize; 7] = [1, 2, 3, 7, 31, 64, 200];
 
 pub(crate) fn read_chunks(line: &mut Line<'_>) {
-    by_each_kernel!(read_chunks_by(line));
+    for_each_kernel!(decode_chunks_with_kernel(line));
 }
 
-fn read_chunks_by<K: Kernel>(line: &mut Line<'_>, kernel: KernelCase) {
-    for size in SIZES {
-        let read = in_pieces::<K>(line.alloc, line.input, size);
-        line.reads(kernel.name, read, line.result);
+fn decode_chunks_with_kernel<K: Kernel>(line: &mut Line<'_>, kernel: KernelCase) {
+    for size in CHUNK_SIZES {
+        let read = decode_chunks::<K>(line.alloc, line.input, size);
+        line.expect_bytes(kernel.name, read, line.result);
     }
 }
 
-/// The bytes of a text that comes in pieces of up to 200 bytes.
-fn in_pieces<K: Kernel>(alloc: Global, text: &[u8], size: usize) -> Result<Vec<u8>, FromHexError> {
+/// Decodes a text in chunks of this size, which is at most 200 bytes.
+fn decode_chunks<K: Kernel>(
+    alloc: Global,
+    text: &[u8],
+    size: usize,
+) -> Result<Vec<u8>, FromHexError> {
     let (mut decoder, mut bytes) = (Decoder::new(), Vec::new(alloc));
-    for piece in text.chunks(size.max(1)) {
+    for chunk in text.chunks(size.max(1)) {
         let mut output = [0; 128];
-        let count = decoder.decode_with::<K>(piece, &mut output)?;
+        let count = decoder.decode_with::<K>(chunk, &mut output)?;
         bytes.extend_from_slice(&output[..count])?;
     }
     decoder.finish()?;
@@ -114,23 +118,23 @@ fn in_pieces<K: Kernel>(alloc: Global, text: &[u8], size: usize) -> Result<Vec<u
 }
 
 pub(crate) fn read_digits(line: &mut Line<'_>) {
-    are_digits(line, "check_raw", check_raw(line.input));
-    are_digits(line, "const_check_raw", const_check_raw(line.input));
-    by_each_kernel!(digits_by(line));
+    expect_bool(line, "check_raw", check_raw(line.input));
+    expect_bool(line, "const_check_raw", const_check_raw(line.input));
+    for_each_kernel!(check_with_kernel(line));
 }
 
-fn digits_by<K: Kernel>(line: &mut Line<'_>, kernel: KernelCase) {
-    are_digits(line, kernel.name, K::check(line.input));
+fn check_with_kernel<K: Kernel>(line: &mut Line<'_>, kernel: KernelCase) {
+    expect_bool(line, kernel.name, K::check(line.input));
 }
 
-fn are_digits(line: &mut Line<'_>, call: &str, returned: bool) {
-    line.is(call, if returned { "true" } else { "false" }, line.result);
+fn expect_bool(line: &mut Line<'_>, call: &str, returned: bool) {
+    line.expect_eq(call, if returned { "true" } else { "false" }, line.result);
 }
 
-/// Asks for the message of a text's error, or of that for an output of so many bytes.
+/// Compares the message of the error for a text or, if `size` is not 0, for an output of `size` bytes.
 pub(crate) fn read_message(line: &mut Line<'_>, size: usize) -> AllocResult<()> {
     let mut output = vec![in line.alloc; 0xEEu8; size]?;
-    line.says(match size {
+    line.expect_message(match size {
         0 => check(line.input).err(),
         _ => decode_to_slice(line.input, &mut output).err(),
     });
@@ -144,7 +148,7 @@ pub(crate) fn read_json_into(line: &mut Line<'_>, size: usize) {
         12 => read_json::<[u8; 12]>(line),
         20 => read_json::<[u8; 20]>(line),
         32 => read_json::<[u8; 32]>(line),
-        _ => line.is("deserialize", "no such size", line.result),
+        _ => line.expect_eq("deserialize", "unknown size", line.result),
     }
 }
 
@@ -153,19 +157,19 @@ where
     T: FromHex<Error = FromHexError> + AsSlice<u8> + Drop,
 {
     let Some(value) = json_value(line) else {
-        return line.is("serde_json", "no JSON", line.result);
+        return line.expect_eq("serde_json", "no JSON", line.result);
     };
     match deserialize::<T>(line.alloc, &value) {
-        Ok(bytes) => line.reads("deserialize", Ok(bytes), line.result),
-        Err(JsonError::Hex(error)) => line.reads::<T>("deserialize", Err(error), line.result),
-        Err(JsonError::NotText) => line.is("deserialize", "!NotText", line.result),
+        Ok(bytes) => line.expect_bytes("deserialize", Ok(bytes), line.result),
+        Err(JsonError::Hex(error)) => line.expect_bytes::<T>("deserialize", Err(error), line.result),
+        Err(JsonError::NotText) => line.expect_eq("deserialize", "!NotText", line.result),
     }
 }
 
 pub(crate) fn read_json_message(line: &mut Line<'_>) {
     match json_value(line) {
-        Some(value) => line.says(deserialize::<Vec<u8>>(line.alloc, &value).err()),
-        None => line.is("serde_json", "no JSON", line.result),
+        Some(value) => line.expect_message(deserialize::<Vec<u8>>(line.alloc, &value).err()),
+        None => line.expect_eq("serde_json", "no JSON", line.result),
     }
 }
 

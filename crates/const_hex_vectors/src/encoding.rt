@@ -1,14 +1,14 @@
-//! The lines of texts that are written. The contracts show that the other encoders write the same.
+//! The lines of bytes that are encoded. The contracts show that the other encoders write the same.
 
-use crate::line::{AllocResult, Line, show};
+use crate::line::{AllocResult, Line, escape};
 use const_hex::{
     Kernel, decode_with, display, encode_full_to_slice_with, encode_to_slice,
     encode_to_slice_upper, encode_to_str, encode_to_str_upper, encode_with,
 };
-use const_hex_tests::by_each_kernel;
-use const_hex_tests::testing::{InHex, KernelCase};
+use const_hex_tests::for_each_kernel;
+use const_hex_tests::testing::{AsUpperHex, KernelCase};
 
-/// Whether a text has a prefix, and whether it is in uppercase.
+/// Whether the text has a prefix, and whether its digits are uppercase.
 type Form = (bool, bool);
 
 const FORMS: [Form; 4] = [(false, false), (false, true), (true, false), (true, true)];
@@ -16,9 +16,9 @@ const FORMS: [Form; 4] = [(false, false), (false, true), (true, false), (true, t
 pub(crate) fn write(line: &mut Line<'_>) -> AllocResult<()> {
     write_into(line, line.result.len())?;
     let (full, full_upper) = (in_form(line, (true, false))?, in_form(line, (true, true))?);
-    let bytes = show(line.alloc, line.input)?;
-    by_each_kernel!(write_and_read(line, &full_upper, &bytes));
-    ask_printed(line, &full, &full_upper);
+    let bytes = escape(line.alloc, line.input)?;
+    for_each_kernel!(encode_and_decode(line, &full_upper, &bytes));
+    compare_formatted(line, &full, &full_upper);
     Ok(())
 }
 
@@ -26,23 +26,23 @@ pub(crate) fn write_into(line: &mut Line<'_>, size: usize) -> AllocResult<()> {
     for form in FORMS {
         let text = in_form(line, form)?;
         let size = if form.0 { size.saturating_add(2) } else { size };
-        by_each_kernel!(write_form(line, size, form, &text)?);
+        for_each_kernel!(encode_form(line, size, form, &text)?);
     }
     let mut output = vec![in line.alloc; 0xEEu8; size]?;
     let (lower, upper) = (
         in_form(line, (false, false))?,
         in_form(line, (false, true))?,
     );
-    let done = encode_to_slice(line.input, &mut output);
-    line.fills("encode_to_slice", done, &output, &lower);
-    let done = encode_to_slice_upper(line.input, &mut output);
-    line.fills("encode_to_slice_upper", done, &output, &upper);
-    line.reads(
+    let returned = encode_to_slice(line.input, &mut output);
+    line.expect_output("encode_to_slice", returned, &output, &lower);
+    let returned = encode_to_slice_upper(line.input, &mut output);
+    line.expect_output("encode_to_slice_upper", returned, &output, &upper);
+    line.expect_bytes(
         "encode_to_str",
         encode_to_str(line.input, &mut output),
         &lower,
     );
-    line.reads(
+    line.expect_bytes(
         "encode_to_str_upper",
         encode_to_str_upper(line.input, &mut output),
         &upper,
@@ -50,7 +50,7 @@ pub(crate) fn write_into(line: &mut Line<'_>, size: usize) -> AllocResult<()> {
     Ok(())
 }
 
-/// The line's text in a form. An error has one form.
+/// The line's result in this form. An error is the same in each form.
 fn in_form(line: &Line<'_>, (prefix, upper): Form) -> AllocResult<String> {
     let (alloc, lower) = (line.alloc, line.result);
     if lower.starts_with('!') {
@@ -64,7 +64,7 @@ fn in_form(line: &Line<'_>, (prefix, upper): Form) -> AllocResult<String> {
     Ok(text)
 }
 
-fn write_form<K: Kernel>(
+fn encode_form<K: Kernel>(
     line: &mut Line<'_>,
     size: usize,
     (prefix, upper): Form,
@@ -72,23 +72,23 @@ fn write_form<K: Kernel>(
     kernel: KernelCase,
 ) -> AllocResult<()> {
     let mut output = vec![in line.alloc; 0xEEu8; size]?;
-    let done = encode_full_to_slice_with::<K>(line.input, prefix, upper, &mut output);
-    line.fills(kernel.name, done, &output, text);
+    let returned = encode_full_to_slice_with::<K>(line.input, prefix, upper, &mut output);
+    line.expect_output(kernel.name, returned, &output, text);
     Ok(())
 }
 
-fn write_and_read<K: Kernel>(line: &mut Line<'_>, text: &str, bytes: &str, kernel: KernelCase) {
+fn encode_and_decode<K: Kernel>(line: &mut Line<'_>, text: &str, bytes: &str, kernel: KernelCase) {
     let written = encode_with::<K, false>(line.alloc, line.input);
-    line.gives(kernel.name, written, line.result);
+    line.expect_text(kernel.name, written, line.result);
     let read = decode_with::<K>(line.alloc, text.as_bytes());
-    line.reads(kernel.name, read, bytes);
+    line.expect_bytes(kernel.name, read, bytes);
 }
 
-/// Asks what is printed, alone and after `0x`. A width, a fill and an alignment change nothing.
-fn ask_printed(line: &mut Line<'_>, full: &str, full_upper: &str) {
+/// Compares what `display` prints, without and with `#`. Width, fill and alignment have no effect.
+fn compare_formatted(line: &mut Line<'_>, full: &str, full_upper: &str) {
     let (alloc, bytes) = (line.alloc, display(line.input));
-    line.gives("{}", format!(in alloc; "{bytes}"), line.result);
-    line.gives("{:*>#999}", format!(in alloc; "{bytes:*>#999}"), full);
-    let upper = InHex(line.input);
-    line.gives("{:#X}", format!(in alloc; "{upper:#}"), full_upper);
+    line.expect_text("{}", format!(in alloc; "{bytes}"), line.result);
+    line.expect_text("{:*>#999}", format!(in alloc; "{bytes:*>#999}"), full);
+    let upper = AsUpperHex(line.input);
+    line.expect_text("{:#X}", format!(in alloc; "{upper:#}"), full_upper);
 }

@@ -1,6 +1,6 @@
-//! The lines that are asked of one step by 16 and by 32 lanes.
+//! The lines about one block of 16 or of 32 bytes, in a vector of as many lanes.
 
-use crate::line::{AllocResult, Line, show};
+use crate::line::{AllocResult, Line, escape};
 use const_hex::{Lanes16, Lanes32, decode_to_slice_with, lanes16, lanes32};
 use std::simd::prelude::*;
 
@@ -8,16 +8,16 @@ macro_rules! values {
     ($line:ident, $bytes:ident, $lanes:ident, $vector:ident) => {{
         let bytes = $vector::from_array(*$bytes);
         let values = $lanes::nibbles(bytes).to_array();
-        $line.gives("nibbles", show($line.alloc, &values), $line.result);
+        $line.expect_text("nibbles", escape($line.alloc, &values), $line.result);
         let is_valid = $lanes::check_chunk(bytes);
-        $line.holds("check_chunk", is_valid == values.iter().all(|value| *value < 16));
+        $line.expect_true("check_chunk", is_valid == values.iter().all(|value| *value < 16));
         if is_valid {
-            $line.gives("unhex", show($line.alloc, &$lanes::unhex(bytes).to_array()), $line.result);
+            $line.expect_text("unhex", escape($line.alloc, &$lanes::unhex(bytes).to_array()), $line.result);
         }
     }};
 }
 
-/// Asks for the values of the first 16 or 32 bytes of a line.
+/// Compares the values of the first 16 or 32 bytes of a line, as digits.
 pub(crate) fn values(line: &mut Line<'_>) {
     if let Some(bytes) = line.input.first_chunk::<32>() {
         values!(line, bytes, lanes32, u8x32);
@@ -30,12 +30,12 @@ macro_rules! text {
     ($line:ident, $bytes:ident, $lanes:ident, $vector:ident) => {{
         let [first, second] = $lanes::encode_chunk::<false>($vector::from_array(*$bytes));
         let (front, back) = $line.result.split_at_checked($bytes.len()).unwrap_or(("", ""));
-        $line.gives("encode_chunk", show($line.alloc, &first.to_array()), front);
-        $line.gives("encode_chunk", show($line.alloc, &second.to_array()), back);
+        $line.expect_text("encode_chunk", escape($line.alloc, &first.to_array()), front);
+        $line.expect_text("encode_chunk", escape($line.alloc, &second.to_array()), back);
     }};
 }
 
-/// Asks for the text of the first 16 or 32 bytes of a line.
+/// Compares the text of the first 16 or 32 bytes of a line.
 pub(crate) fn text(line: &mut Line<'_>) {
     if let Some(bytes) = line.input.first_chunk::<32>() {
         text!(line, bytes, lanes32, u8x32);
@@ -44,16 +44,16 @@ pub(crate) fn text(line: &mut Line<'_>) {
     }
 }
 
-/// Asks for the bytes of the 32 or 64 characters of a line, 0xEE for each if one is invalid.
+/// Compares the bytes that 32 or 64 characters decode to, or 0xEE for each if one is invalid.
 pub(crate) fn bytes(line: &mut Line<'_>) -> AllocResult<()> {
     let mut output = vec![in line.alloc; 0xEEu8; line.input.len() / 2]?;
     let _ = match output.len() {
         32 => decode_to_slice_with::<Lanes32>(line.input, &mut output),
         _ => decode_to_slice_with::<Lanes16>(line.input, &mut output),
     };
-    line.gives(
+    line.expect_text(
         "decode_to_slice_with",
-        show(line.alloc, &output),
+        escape(line.alloc, &output),
         line.result,
     );
     Ok(())

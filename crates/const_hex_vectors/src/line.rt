@@ -1,111 +1,116 @@
-//! A line of the table, and what calls return for it.
+//! A line of the table, and the comparison of results with it.
 
 use const_hex::FromHexError;
-use const_hex_tests::testing::texts::value_of;
+use const_hex_tests::testing::reference::digit_value;
 use std::alloc::{AllocError, Global};
 use std::convert::AsSlice;
 use std::fmt::{Display, Write};
 
 pub(crate) type AllocResult<T> = Result<T, AllocError>;
 
-/// The bytes and the result of a line, and the calls that returned something else, one per line.
+/// The input and the expected result of a line, and the calls that returned something else, one per line.
 #[derive(Drop)]
 pub(crate) struct Line<'a> {
     pub(crate) alloc: Global,
     pub(crate) input: &'a [u8],
     pub(crate) result: &'a str,
-    pub(crate) others: String,
+    pub(crate) failures: String,
 }
 
 impl Line<'_> {
-    /// Notes a call and what it returns, unless that is wanted.
-    pub(crate) fn is(&mut self, call: &str, given: &str, want: &str) {
-        if given != want {
-            let _ = write!(self.others, "\n    {call}: {given}");
+    /// Records a failure if the call did not return what is expected.
+    pub(crate) fn expect_eq(&mut self, call: &str, actual: &str, expected: &str) {
+        if actual != expected {
+            let _ = write!(self.failures, "\n    {call}: {actual}");
         }
     }
 
-    /// Notes a call, unless what it returns is right.
-    pub(crate) fn holds(&mut self, call: &str, is_right: bool) {
-        self.is(call, if is_right { "" } else { "something else" }, "");
+    /// Records a failure if the condition is false.
+    pub(crate) fn expect_true(&mut self, call: &str, condition: bool) {
+        self.expect_eq(call, if condition { "" } else { "something else" }, "");
     }
 
-    /// As `is`, for a result that needs memory.
-    pub(crate) fn gives(&mut self, call: &str, given: AllocResult<String>, want: &str) {
-        match given {
-            Ok(text) => self.is(call, &text, want),
-            Err(AllocError) => self.is(call, "out of memory", want),
+    /// As `expect_eq`, for a text that is allocated.
+    pub(crate) fn expect_text(&mut self, call: &str, actual: AllocResult<String>, expected: &str) {
+        match actual {
+            Ok(text) => self.expect_eq(call, &text, expected),
+            Err(AllocError) => self.expect_eq(call, "out of memory", expected),
         }
     }
 
-    /// As `gives`, if what is wanted needs memory too.
-    pub(crate) fn agrees(
+    /// As `expect_text`, if the expected text is allocated too.
+    pub(crate) fn expect_same_text(
         &mut self,
         call: &str,
-        given: AllocResult<String>,
-        want: AllocResult<String>,
+        actual: AllocResult<String>,
+        expected: AllocResult<String>,
     ) {
-        match want {
-            Ok(want) => self.gives(call, given, &want),
-            Err(AllocError) => self.is(call, "out of memory", ""),
+        match expected {
+            Ok(expected) => self.expect_text(call, actual, &expected),
+            Err(AllocError) => self.expect_eq(call, "out of memory", ""),
         }
     }
 
-    /// As `gives`, for bytes or an error.
-    pub(crate) fn reads<B>(&mut self, call: &str, given: Result<B, FromHexError>, want: &str)
+    /// As `expect_text`, for bytes or an error.
+    pub(crate) fn expect_bytes<B>(
+        &mut self,
+        call: &str,
+        actual: Result<B, FromHexError>,
+        expected: &str,
+    )
     where
         B: AsSlice<u8> + Drop,
     {
-        let given = match given {
-            Ok(bytes) => show(self.alloc, bytes.as_slice()),
-            Err(error) => name(self.alloc, error),
+        let actual = match actual {
+            Ok(bytes) => escape(self.alloc, bytes.as_slice()),
+            Err(error) => format_error(self.alloc, error),
         };
-        self.gives(call, given, want);
+        self.expect_text(call, actual, expected);
     }
 
-    /// As `reads`, for an output of bytes 0xEE. An error for a length leaves it.
-    pub(crate) fn fills<T: Drop>(
+    /// As `expect_bytes`, for an output that was filled with 0xEE. An error for a length leaves it unchanged.
+    pub(crate) fn expect_output<T: Drop>(
         &mut self,
         call: &str,
-        done: Result<T, FromHexError>,
+        returned: Result<T, FromHexError>,
         output: &[u8],
-        want: &str,
+        expected: &str,
     ) {
-        let is_kept = output.iter().all(|byte| *byte == 0xEE);
-        match done {
-            Ok(_) => self.reads(call, Ok(output), want),
+        let is_unchanged = output.iter().all(|byte| *byte == 0xEE);
+        match returned {
+            Ok(_) => self.expect_bytes(call, Ok(output), expected),
             Err(error) => {
                 let is_of_character = matches!(error, FromHexError::InvalidHexCharacter { .. });
-                self.holds(call, is_kept | is_of_character);
-                self.gives(call, name(self.alloc, error), want);
+                self.expect_true(call, is_unchanged | is_of_character);
+                self.expect_text(call, format_error(self.alloc, error), expected);
             }
         }
     }
 
-    /// Whether an error prints the line's message.
-    pub(crate) fn says<E: Display + Drop>(&mut self, error: Option<E>) {
+    /// Records a failure if the error does not display the line's message.
+    pub(crate) fn expect_message<E: Display + Drop>(&mut self, error: Option<E>) {
         match error {
-            Some(error) => self.gives("message", print(self.alloc, &error), self.result),
-            None => self.is("message", "no error", self.result),
+            Some(error) => self.expect_text("message", message(self.alloc, &error), self.result),
+            None => self.expect_eq("message", "no error", self.result),
         }
     }
 }
 
-/// The text of a column. An empty one is `""`.
-pub(crate) fn read_cell(column: Option<&str>) -> &str {
+/// The text of a column, which is `""` for an empty one.
+pub(crate) fn parse_cell(column: Option<&str>) -> &str {
     match column {
         None | Some("\"\"") => "",
         Some(text) => text,
     }
 }
 
-/// How the table shows bytes: printable ASCII as itself, and any other byte and a backslash as
-/// `\xNN`. So is a first `!`.
-pub(crate) fn show(alloc: Global, bytes: &[u8]) -> AllocResult<String> {
+/// Escapes bytes for the table: a byte that is not printable ASCII, a backslash, and a `!` at the start become
+/// `\xNN`.
+pub(crate) fn escape(alloc: Global, bytes: &[u8]) -> AllocResult<String> {
     let mut text = String::new(alloc);
     for byte in bytes {
-        let is_sign = *byte == b'\\' || text.is_empty() && *byte == b'!';
-        if !is_sign && *byte >= b' ' && *byte <= b'~' {
+        let must_escape = *byte == b'\\' || text.is_empty() && *byte == b'!';
+        if !must_escape && *byte >= b' ' && *byte <= b'~' {
             text.push(char::from(*byte))?;
         } else {
             write!(text, "\\x{byte:02x}")?;
@@ -114,8 +119,8 @@ pub(crate) fn show(alloc: Global, bytes: &[u8]) -> AllocResult<String> {
     Ok(text)
 }
 
-/// The name of an error, with the number and the position of an invalid character.
-fn name(alloc: Global, error: FromHexError) -> AllocResult<String> {
+/// The name of an error, with the byte and the position of an invalid character.
+fn format_error(alloc: Global, error: FromHexError) -> AllocResult<String> {
     match error {
         FromHexError::InvalidHexCharacter { c, index } => {
             let c = u32::from(c);
@@ -125,19 +130,19 @@ fn name(alloc: Global, error: FromHexError) -> AllocResult<String> {
     }
 }
 
-/// The message of an error, as the table shows it.
-fn print<E: Display>(alloc: Global, error: &E) -> AllocResult<String> {
+/// The message of an error, escaped.
+fn message<E: Display>(alloc: Global, error: &E) -> AllocResult<String> {
     let message = error.to_string(alloc)?;
-    show(alloc, message.as_bytes())
+    escape(alloc, message.as_bytes())
 }
 
-/// The bytes that the table shows.
-pub(crate) fn read_bytes(alloc: Global, shown: &str) -> AllocResult<Vec<u8>> {
-    let mut parts = shown.split("\\x");
+/// The bytes of an escaped text.
+pub(crate) fn unescape(alloc: Global, text: &str) -> AllocResult<Vec<u8>> {
+    let mut parts = text.split("\\x");
     let mut bytes = parts.next().unwrap_or("").as_bytes().to_vec(alloc)?;
     for part in parts {
         if let Some(([high, low], rest)) = part.as_bytes().split_first_chunk::<2>() {
-            bytes.push(value_of(*high) << 4 | value_of(*low))?;
+            bytes.push(digit_value(*high) << 4 | digit_value(*low))?;
             bytes.extend_from_slice(rest)?;
         }
     }

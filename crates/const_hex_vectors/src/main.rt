@@ -1,6 +1,6 @@
-//! The program `const_hex_vectors`: compares `const_hex` with each line of `vectors.tsv`, and prints
-//! the lines for which some function returns something else, with what it returns, and their
-//! number. The exit status is 1 if there is one.
+//! The program `const_hex_vectors`: compares functions of `const_hex` with each line of `vectors.tsv`, and prints
+//! the lines for which some function returns something else, with its result, and their number. Then the exit
+//! status is 1.
 //!
 //! With the argument `memory` it makes the calls of [`memory`], and with the name of a kernel those of [`encode`].
 #![tactic(auto)]
@@ -13,7 +13,7 @@ mod lanes;
 mod line;
 mod memory;
 
-use crate::line::{AllocResult, Line, read_bytes, read_cell};
+use crate::line::{AllocResult, Line, unescape, parse_cell};
 use const_hex::{Kernel, Lanes16, Lanes32, Plain};
 use std::alloc::Global;
 use std::env::Env;
@@ -21,35 +21,35 @@ use std::process::ExitCode;
 use std::{fs, io};
 
 fn main(rt: HostRuntime) -> io::Result<ExitCode> {
-    let mut word = [0; 16];
-    if let Ok(length) = rt.arg(1, &mut word) {
-        answer(&rt, &word[..length]);
+    let mut argument = [0; 16];
+    if let Ok(length) = rt.arg(1, &mut argument) {
+        run_argument(&rt, &argument[..length]);
         return Ok(ExitCode::SUCCESS);
     }
-    // Where `rt ci` runs it, and where `rt run` does.
+    // `rt ci` runs it in `data`, and `rt run` in the crate's folder.
     let table = match fs::read_to_string(&rt, "vectors.tsv") {
         Ok(table) => table,
         Err(_) => fs::read_to_string(&rt, "data/vectors.tsv")?,
     };
-    let (mut lines, mut wrong) = (0u64, 0u64);
+    let (mut lines, mut failed) = (0u64, 0u64);
     for line in table.lines() {
         if line.is_empty() || line.starts_with('#') {
             continue;
         }
         lines = lines.saturating_add(1);
-        let others = compare(rt.alloc(), line)?;
-        if !others.is_empty() {
-            wrong = wrong.saturating_add(1);
-            println!(rt; "{line}{others}")?;
+        let failures = compare(rt.alloc(), line)?;
+        if !failures.is_empty() {
+            failed = failed.saturating_add(1);
+            println!(rt; "{line}{failures}")?;
         }
     }
-    println!(rt; "{lines} lines, {wrong} wrong")?;
-    Ok(ExitCode::from((wrong > 0) as u8))
+    println!(rt; "{lines} lines, {failed} wrong")?;
+    Ok(ExitCode::from((failed > 0) as u8))
 }
 
-/// Makes the calls that an argument names.
-fn answer(rt: &(impl Print + AllocGlobal), word: &[u8]) {
-    match word {
+/// Makes the calls for an argument.
+fn run_argument(rt: &(impl Print + AllocGlobal), argument: &[u8]) {
+    match argument {
         b"memory" => memory::make_calls(rt),
         b"Plain" => encode::<Plain>(rt),
         b"Lanes16" => encode::<Lanes16>(rt),
@@ -61,32 +61,33 @@ fn answer(rt: &(impl Print + AllocGlobal), word: &[u8]) {
 /// Encodes 256 bytes 1,000 times, and prints the last text.
 fn encode<K: Kernel>(rt: &impl Print) {
     let (mut bytes, mut text) = ([0u8; 256], [0u8; 512]);
-    for turn in 0..1000usize {
-        // Other bytes each time, so that the compiler leaves out no call.
-        bytes[turn % 256] = bytes[turn % 256].wrapping_add(text[turn % 512]);
+    for round in 0..1000usize {
+        // The input changes each time, so that the compiler cannot optimize a call away.
+        bytes[round % 256] = bytes[round % 256].wrapping_add(text[round % 512]);
         K::fill(&bytes, true, &mut text);
     }
     let _ = println!(rt; "{}", str::from_utf8(&text).unwrap_or(""));
 }
-/// The calls that return something else than a line says, and what they return.
+
+/// The calls that return something else than the line's result, and what they return.
 fn compare(alloc: Global, line: &str) -> AllocResult<String> {
     let mut columns = line.split('\t');
-    let (question, number, times) = read_question(columns.next().unwrap_or(""));
-    let input = read_bytes(alloc, read_cell(columns.next()))?;
+    let (question, number, times) = parse_question(columns.next().unwrap_or(""));
+    let input = unescape(alloc, parse_cell(columns.next()))?;
     let input = input.repeat(alloc, times)?;
-    let result = read_cell(columns.next()).repeat(alloc, times)?;
+    let result = parse_cell(columns.next()).repeat(alloc, times)?;
     let mut line = Line {
         alloc,
         input: &input,
         result: &result,
-        others: String::new(alloc),
+        failures: String::new(alloc),
     };
-    ask(&mut line, question, number)?;
-    Ok(line.others)
+    run_question(&mut line, question, number)?;
+    Ok(line.failures)
 }
 
-/// A question without its number, the number, and how many times both columns stand for.
-fn read_question(column: &str) -> (&str, usize, usize) {
+/// The question, its number, and how many times both columns are repeated.
+fn parse_question(column: &str) -> (&str, usize, usize) {
     let (question, number) = column.split_once(' ').unwrap_or((column, ""));
     let number = number.parse().unwrap_or(0);
     match question.split_once("-times") {
@@ -95,7 +96,7 @@ fn read_question(column: &str) -> (&str, usize, usize) {
     }
 }
 
-fn ask(line: &mut Line<'_>, question: &str, number: usize) -> AllocResult<()> {
+fn run_question(line: &mut Line<'_>, question: &str, number: usize) -> AllocResult<()> {
     match question {
         "write" => encoding::write(line),
         "write-into" => encoding::write_into(line, number),
@@ -108,12 +109,12 @@ fn ask(line: &mut Line<'_>, question: &str, number: usize) -> AllocResult<()> {
         "json-into" => Ok(decoding::read_json_into(line, number)),
         "json-message" => Ok(decoding::read_json_message(line)),
         "each-byte" => Ok(kernels::each_byte(line)),
-        "fronts" => kernels::fronts(line),
+        "fronts" => kernels::decoded_before_error(line),
         "pieces" => calls::pieces(line),
         "calls" => calls::calls(line, number),
-        "values-of-step" => Ok(lanes::values(line)),
-        "write-step" => Ok(lanes::text(line)),
-        "read-step" => lanes::bytes(line),
-        _ => Ok(line.is("no such question", question, "")),
+        "values-of-block" => Ok(lanes::values(line)),
+        "write-block" => Ok(lanes::text(line)),
+        "read-block" => lanes::bytes(line),
+        _ => Ok(line.expect_eq("unknown question", question, "")),
     }
 }

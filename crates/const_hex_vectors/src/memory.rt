@@ -1,9 +1,9 @@
-//! Makes each call that gets an allocator, and compares what it returns.
+//! Makes each call that takes an allocator, and compares what it returns.
 //!
-//! A call has to return what it returns with ample memory, or, if it may allocate, its error for that.
-//! The program prints each call that does not, and at last how many were out of memory. `run`, in this
-//! crate's folder, runs it with requests for memory refused. The program itself allocates only its
-//! [`inputs`], before any call. The calls that do not allocate come first.
+//! A call has to return what it returns with enough memory or, if it may allocate, its out-of-memory error.
+//! The program prints each call that does not, and at the end how many calls were out of memory. `run`, in this
+//! crate's folder, runs it with failing allocations. The program itself allocates only its [`inputs`], before
+//! any call. The calls that do not allocate come first.
 
 mod allocating;
 mod expect;

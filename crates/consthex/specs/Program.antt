@@ -1,4 +1,4 @@
--- The program: its modes, what it returns for an input, and its errors.
+-- The program: its modes, its result for an input, and its errors.
 use Rattle.std.specs.Prelude.{ℕ, List, codes, ◌≡◌, ◌⊎◌, ⊤, ◌<◌, ◌≤◌, true, false, [], ◌∷◌, ◌++◌, length, Result, Ok, Err, Option, Some, if◌then◌else◌}
 use Rattle.consthex.specs.declared.mode.Mode.{Mode}
 use Rattle.consthex.specs.declared.mode.Mode.TheVariants.{Encode, EncodeUpper, EncodePrefixed, EncodeUpperPrefixed, Decode, Check}
@@ -9,7 +9,7 @@ use Rattle.consthex.specs.declared.error.RunError.{RunError}
 use Rattle.consthex.specs.declared.error.RunError.TheVariants.{Text, ReadFailed, WriteFailed, TooLong, NoMemory}
 use Rattle.std.specs.Io.KnownBytes.{Appends, Consumes, IsAtEnd, Keeps}
 
--- ---- the word of each mode
+-- ---- the argument of each mode
 
 -- the argument that names a mode
 abbrev pub word_of : Mode → List ℕ
@@ -20,9 +20,9 @@ word_of EncodeUpperPrefixed = codes "encode-upper-prefixed"
 word_of Decode = codes "decode"
 word_of Check = codes "check"
 
--- ---- what the program returns for an input
+-- ---- the result for an input
 
--- the most bytes that an input may have
+-- the maximum length of an input
 abbrev pub limit : ℕ
 limit = 1048576
 
@@ -30,11 +30,11 @@ limit = 1048576
 abbrev pub newline : List ℕ
 newline = 10 ∷ []
 
--- a text without one newline at its end
+-- a text without a trailing newline, of which at most one is removed
 abbrev pub without_newline : List ℕ → List ℕ
 without_newline x = strip_last 10 x
 
--- the mode makes the bytes bs of the input x
+-- the output of the mode for the input x is bs
 abbrev pub Outputs : Mode → List ℕ → List ℕ → Type 0
 Outputs Encode x bs = bs ≡ full_text false false x ++ newline
 Outputs EncodeUpper x bs = bs ≡ full_text false true x ++ newline
@@ -43,7 +43,7 @@ Outputs EncodeUpperPrefixed x bs = bs ≡ full_text true true x ++ newline
 Outputs Decode x bs = Reads (without_newline x) (Ok bs)
 Outputs Check x bs = Checks (without_newline x) (Ok tt) × (bs ≡ codes "ok" ++ newline)
 
--- the mode ends with this error for the text in the input x
+-- the text in the input x has the error e in this mode
 abbrev pub Fails : Mode → List ℕ → FromHexError → Type 0
 Fails Encode x e = ⊥
 Fails EncodeUpper x e = ⊥
@@ -52,7 +52,7 @@ Fails EncodeUpperPrefixed x e = ⊥
 Fails Decode x e = Reads (without_newline x) (Err e)
 Fails Check x e = Checks (without_newline x) (Err e)
 
--- the one result of the mode for the input x
+-- the result of the mode for the input x, which is unique
 abbrev pub Answer : Mode → List ℕ → Result (List ℕ) RunError → Type 0
 Answer m x (Ok bs) = (length x ≤ limit) × Outputs m x bs
 Answer m x (Err (Text e)) = (length x ≤ limit) × Fails m x e
@@ -61,38 +61,44 @@ Answer m x (Err ReadFailed) = ⊥
 Answer m x (Err WriteFailed) = ⊥
 Answer m x (Err NoMemory) = ⊥
 
--- the mode allocates for the input x: to decode, only if the length is even, and to check, only
+-- the mode may allocate for the input x: `decode` only if the length is even, and `check` only
 -- if the text is accepted
-abbrev pub TakesMemory : Mode → List ℕ → Type 0
-TakesMemory Encode x = ⊤
-TakesMemory EncodeUpper x = ⊤
-TakesMemory EncodePrefixed x = ⊤
-TakesMemory EncodeUpperPrefixed x = ⊤
-TakesMemory Decode x = IsEven (length (without_newline x))
-TakesMemory Check x = Checks (without_newline x) (Ok tt)
+abbrev pub MayAllocate : Mode → List ℕ → Type 0
+MayAllocate Encode x = ⊤
+MayAllocate EncodeUpper x = ⊤
+MayAllocate EncodePrefixed x = ⊤
+MayAllocate EncodeUpperPrefixed x = ⊤
+MayAllocate Decode x = IsEven (length (without_newline x))
+MayAllocate Check x = Checks (without_newline x) (Ok tt)
 
 -- ---- what a run reads and writes
+--
+-- `in_before` and `in_after` are the bytes that the reader still has, before and after the run; `out_before`
+-- and `out_after` are those that the writer holds. They are None if a contract cannot know them.
 
--- x is all that the reader had
+-- the reader was read to its end, and x is what was read
 abbrev pub ReadsAll : Option (List ℕ) → Option (List ℕ) → List ℕ → Type 0
-ReadsAll had left x = Consumes had left x × IsAtEnd left
+ReadsAll in_before in_after x = Consumes in_before in_after x × IsAtEnd in_after
 
--- all that the reader had was read, and r is the mode's result for it
+-- the reader was read to its end, and r is the mode's result for what was read
 abbrev pub Answers : Mode → Option (List ℕ) → Option (List ℕ) → Result (List ℕ) RunError → Type 0
-Answers m had left r = (x : List ℕ) × ReadsAll had left x × Answer m x r
+Answers m in_before in_after r = (x : List ℕ) × ReadsAll in_before in_after x × Answer m x r
 
--- what a run in the mode did that ends with the exit status s: with 0 its result for all of the input was written, with 1
--- that is an error of the text, and with 3 at most a beginning of the result was written; otherwise nothing was
+-- what a run in the mode did that ended with this exit status: with 0, the whole result for the input was written;
+-- with 1, the result is an error of the text; with 3, at most a beginning of the result was written; with 1 and 4,
+-- nothing was written
 abbrev pub Ends : Mode → ℕ → Option (List ℕ) → Option (List ℕ) → Option (List ℕ) → Option (List ℕ) → Type 0
-Ends m s had left old new =
-    (s ≡ 0 → (bs : List ℕ) × Answers m had left (Ok bs) × Appends old new bs)
-    × (s ≡ 1 → (e : FromHexError) × Answers m had left (Err (Text e)) × Keeps old new)
-    × (s ≡ 3 → Keeps old new ⊎ ((bs : List ℕ) × Answers m had left (Ok bs) × WritesBeginning old new bs))
-    × (s ≡ 4 → Keeps old new)
+Ends m status in_before in_after out_before out_after =
+    (status ≡ 0 → (bs : List ℕ) × Answers m in_before in_after (Ok bs) × Appends out_before out_after bs)
+    × (status ≡ 1 → (e : FromHexError) × Answers m in_before in_after (Err (Text e))
+    × Keeps out_before out_after)
+    × (status ≡ 3 → Keeps out_before out_after ⊎ ((bs : List ℕ) × Answers m in_before in_after (Ok bs)
+    × WritesBeginning out_before out_after bs))
+    × (status ≡ 4 → Keeps out_before out_after)
 
--- ---- the line and the exit status of an error
+-- ---- the message and the exit status of an error
 
--- the line that is printed, if the contract of its error says so
+-- the message that is printed, if the contract of the error specifies it
 abbrev pub line_of : RunError → Option (List ℕ)
 line_of (Text e) = message_of e
 line_of ReadFailed = Some (codes "read failed")
@@ -100,7 +106,7 @@ line_of WriteFailed = Some (codes "write failed")
 line_of TooLong = Some (codes "input too long")
 line_of NoMemory = Some (codes "out of memory")
 
--- the exit status of the program
+-- the exit status of the program for an error
 abbrev pub status_of : RunError → ℕ
 status_of (Text e) = 1
 status_of ReadFailed = 3
@@ -108,6 +114,6 @@ status_of WriteFailed = 3
 status_of TooLong = 3
 status_of NoMemory = 4
 
--- the error of the program for an error of a call
+-- the error of the program for an error of `const_hex`
 abbrev pub run_error_of : FromHexError → RunError
 run_error_of e = if is_no_memory e then NoMemory else Text e

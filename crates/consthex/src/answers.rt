@@ -1,10 +1,10 @@
-//! What a mode returns for given bytes.
+//! The result of a mode for an input.
 
 ghost use Rattle.std.specs.Prelude.{◌≡◌, ◌≢◌, ◌≤◌, ◌<◌, ◌++◌, ◌+◌, ◌↔◌, ◌⊎◌, List, ℕ, codes, length, IfOk, IfErr, Ok, Err};
 ghost use Rattle.const_hex.specs.Prelude.{IsOdd, Reads, full_text, text_length};
 ghost use Rattle.const_hex.specs.declared.error.FromHexError.{FromHexError};
 ghost use Rattle.const_hex.specs.declared.error.FromHexError.TheVariants.{OddLength};
-ghost use Rattle.consthex.specs.Program.{Answer, TakesMemory, without_newline, newline, limit};
+ghost use Rattle.consthex.specs.Program.{Answer, MayAllocate, without_newline, newline, limit};
 ghost use Rattle.consthex.specs.declared.error.RunError.TheVariants.{Text, TooLong, NoMemory};
 ghost use Rattle.consthex.specs.declared.mode.Mode.TheVariants.{Decode, Check};
 
@@ -13,10 +13,10 @@ use crate::mode::Mode;
 use const_hex::{FixedKernel, fill_text, text_length};
 use std::alloc::{AllocError, Global};
 
-/// The most bytes that an input may have.
+/// The maximum length of an input.
 pub(crate) const LIMIT: usize = 1_048_576;
 
-/// What a mode returns for an input: the bytes to write, or an error.
+/// Computes the result of a mode for an input: the bytes to write, or an error.
 ///
 /// Returns [`RunError::TooLong`] if the input has more than 1,048,576 bytes; [`RunError::NoMemory`]
 /// if memory cannot be allocated; and [`RunError::Text`] if the mode reads a text that cannot be decoded.
@@ -30,11 +30,11 @@ pub fn answer(alloc: Global, mode: Mode, input: &[u8]) -> Result<Vec<u8>, RunErr
     ensures ok { IfOk result (λ v. Answer mode input.now (Ok v.items)) }
     ensures err { IfErr result (λ e. e ≢ NoMemory → Answer mode input.now (Err e)) }
     ensures too_long { (result ≡ Err TooLong) ↔ (limit < length input.now) }
-    ensures no_memory { result ≡ Err NoMemory → TakesMemory mode input.now }
-    // Only a text that cannot be decoded leads to an error of the text, whatever the mode.
+    ensures no_memory { result ≡ Err NoMemory → MayAllocate mode input.now }
+    // In every mode, `RunError::Text` is returned only for a text that cannot be decoded.
     ensures invalid { (e : FromHexError) → result ≡ Err (Text e)
         → Reads (without_newline input.now) (Err e) }
-    // `ok` is printed for a text that can be decoded, and for no other.
+    // The result is `ok` only for a text that can be decoded.
     ensures checked { mode ≡ Check → IfOk result (λ v. (v.items ≡ codes "ok" ++ newline)
         × ((bs : List ℕ) × Reads (without_newline input.now) (Ok bs))) }
     // An odd length never leads to `NoMemory`.
@@ -57,7 +57,7 @@ pub fn answer(alloc: Global, mode: Mode, input: &[u8]) -> Result<Vec<u8>, RunErr
     }
 }
 
-/// The text of the bytes and a newline. Allocates once, for exactly these.
+/// The text of the bytes and a newline. Allocates once, with the exact size.
 fn encode_line(
     alloc: Global,
     input: &[u8],
@@ -82,12 +82,12 @@ fn write_line(input: &[u8], prefix: bool, upper: bool, output: &mut [u8])
     fill_text::<FixedKernel>(input, prefix, upper, &mut output[..end]);
 }
 
-/// The text without one newline at its end.
+/// The text without a trailing newline. At most one is removed.
 fn strip_newline(text: &[u8]) -> &[u8]
     ensures { result.now ≡ without_newline text.now }
 {
     match text {
-        [front @ .., b'\n'] => front,
+        [line @ .., b'\n'] => line,
         _ => text,
     }
 }

@@ -21,7 +21,7 @@ pub enum RunError {
     Text(FromHexError),
     /// A read failed.
     ReadFailed,
-    /// A write failed or took no bytes, or the last flush failed.
+    /// A write failed or accepted no bytes, or the flush at the end failed.
     WriteFailed,
     /// The input has more than 1,048,576 bytes.
     TooLong,
@@ -30,7 +30,7 @@ pub enum RunError {
 }
 
 impl RunError {
-    /// The exit status of the program: 1 for the text, 3 for input and output, 4 for memory.
+    /// The exit status of the program: 1 for an invalid text, 3 for input and output, 4 for out of memory.
     ///
     /// ```rust
     /// assert_eq!(rt; RunError::TooLong.status(), 3);

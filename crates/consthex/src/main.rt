@@ -1,7 +1,7 @@
 //! The program `consthex`: encodes, decodes or checks its standard input.
 //!
-//! [`run`](runs::run) does so over any reader and writer, and [`program`] on any host. The terms of the
-//! contracts are defined in `specs/`, and in `const_hex` what a text decodes to.
+//! [`run`](runs::run) does so for any reader and writer, and [`program`] on any host. The terms of the contracts are
+//! defined in `specs/`; what a text decodes to, in `const_hex`.
 #![tactic(auto)]
 
 mod answers;

@@ -1,10 +1,10 @@
-//! What the program is asked to do.
+//! The modes of the program, and its usage.
 
 ghost use Rattle.std.specs.Prelude.{◌≡◌, ◌↔◌, ◌∷◌, [], map, string_bytes, Some};
 ghost use Rattle.consthex.specs.declared.mode.Mode.{Mode};
 ghost use Rattle.consthex.specs.Program.{word_of};
 
-/// What a run makes of its input.
+/// What a run writes for its input.
 ///
 /// ```rust
 /// let mut output = Vec::new(rt.alloc());
@@ -27,7 +27,7 @@ pub enum Mode {
     Check,
 }
 
-/// The line that is printed if the arguments name no mode.
+/// The usage line, which is printed if the arguments name no mode.
 ///
 /// ```rust
 /// assert!(rt; USAGE.starts_with("usage: consthex encode|"));
@@ -35,8 +35,8 @@ pub enum Mode {
 pub const USAGE: &str = "usage: consthex \
     encode|encode-upper|encode-prefixed|encode-upper-prefixed|decode|check";
 
-/// The mode that the arguments name, without the program's name. It is named by exactly one word,
-/// compared byte for byte.
+/// The mode that the arguments after the program's name select. Exactly one argument selects it, compared byte
+/// for byte.
 ///
 /// ```rust
 /// let arguments = [String::from_str(rt.alloc(), "decode")?];

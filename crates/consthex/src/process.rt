@@ -1,4 +1,4 @@
-//! The whole program, from its arguments to its exit status.
+//! The complete program, from its arguments to its exit status.
 
 ghost use Rattle.std.specs.Prelude.{◌≡◌, ◌≢◌, ◌≤◌, ◌∷◌, [], map, string_bytes};
 ghost use Rattle.std.specs.Process.{exit_status};
@@ -13,9 +13,9 @@ use std::env::Env;
 use std::io::{Eprint, Read, Write};
 use std::process::ExitCode;
 
-/// Does what the arguments after the program's name ask for, and returns the exit status: 0 if that
-/// succeeds; 1 if the text has an error; 2 if the arguments name no mode; 3 if a read or a write fails
-/// or the input is too long; 4 if memory cannot be allocated. An error is one line on standard error.
+/// Runs the program on the arguments after its name, and returns the exit status: 0 if that succeeds; 1 if the text
+/// has an error; 2 if the arguments name no mode; 3 if a read or a write fails or the input is too long; 4 if memory
+/// cannot be allocated. An error is reported in one line on standard error.
 ///
 /// ```rust
 /// fn main(rt: HostRuntime) -> ExitCode {
@@ -27,11 +27,11 @@ pub fn program<R: Read, W: Write>(
     input: &mut R,
     output: &mut W,
 ) -> ExitCode
-    // The mode is that of the arguments: see `program_with`. No clause can see those of a host.
+    // That the mode is the one of the arguments, `program_with` promises. A contract does not know a host's arguments.
     ensures ran { exit_status result ≢ 2 → (m : Mode) × Ends m (exit_status result) (R.remaining input.old)
         (R.remaining input.new) (W.contents output.old) (W.contents output.new) }
     // Nothing was read or written.
-    ensures misused { exit_status result ≡ 2
+    ensures usage_error { exit_status result ≡ 2
         → (input.new ≡ input.old) × (output.new ≡ output.old) }
     ensures statuses { exit_status result ≤ 4 }
 {
@@ -41,7 +41,7 @@ pub fn program<R: Read, W: Write>(
     program_with(rt, &arguments, input, output)
 }
 
-/// Does what [`program`] does, for these arguments.
+/// As [`program`], with the given arguments.
 ///
 /// ```rust
 /// let arguments = [String::from_str(rt.alloc(), "decode")?];
@@ -62,7 +62,7 @@ pub fn program_with<R: Read, W: Write>(
     ensures usage { exit_status result ≡ 2
         → (m : Mode) → map string_bytes arguments.now ≢ word_of m ∷ [] }
     // Nothing was read or written.
-    ensures misused { exit_status result ≡ 2
+    ensures usage_error { exit_status result ≡ 2
         → (input.new ≡ input.old) × (output.new ≡ output.old) }
     ensures statuses { exit_status result ≤ 4 }
 {
@@ -75,7 +75,7 @@ pub fn program_with<R: Read, W: Write>(
     }
 }
 
-/// Prints the usage, and returns the status 2. Ignores a failure of standard error.
+/// Prints the usage, and returns the exit status 2. Ignores an error of standard error.
 fn print_usage(rt: &impl Eprint) -> ExitCode
     ensures { exit_status result ≡ 2 }
 {
@@ -83,7 +83,7 @@ fn print_usage(rt: &impl Eprint) -> ExitCode
     ExitCode::from(2)
 }
 
-/// Prints the error, and returns its status. Ignores a failure of standard error.
+/// Prints the error, and returns its exit status. Ignores an error of standard error.
 fn report(rt: &impl Eprint, error: RunError) -> ExitCode
     ensures { exit_status result ≡ status_of error }
 {

@@ -1,10 +1,10 @@
-//! A whole run over any reader and writer.
+//! A complete run, over any reader and writer.
 
 ghost use Rattle.std.specs.Prelude.{◌≡◌, ◌≢◌, ◌≤◌, ◌<◌, ◌+◌, ◌⊎◌, List, ℕ, length, OnOk, OnErr, IfOk, IfErr, Ok, Err};
 ghost use Rattle.std.specs.Io.KnownBytes.{Appends, Consumes, Keeps};
 ghost use Rattle.const_hex.specs.declared.error.FromHexError.{FromHexError};
 ghost use Rattle.const_hex.specs.Prelude.{WritesBeginning, IsOdd};
-ghost use Rattle.consthex.specs.Program.{limit, without_newline, ReadsAll, Answer, Answers, TakesMemory};
+ghost use Rattle.consthex.specs.Program.{limit, without_newline, ReadsAll, Answer, Answers, MayAllocate};
 ghost use Rattle.consthex.specs.declared.mode.Mode.TheVariants.{Check, Decode};
 ghost use Rattle.const_hex.specs.declared.error.FromHexError.TheVariants.{OddLength};
 ghost use Rattle.consthex.specs.declared.error.RunError.TheVariants.{NoMemory, Text, WriteFailed, TooLong};
@@ -15,17 +15,17 @@ use crate::mode::Mode;
 use std::alloc::Global;
 use std::io::{Read, Write};
 
-/// Reads the whole input, writes what the mode returns for it, and flushes.
+/// Reads the whole input, writes the mode's result for it, and flushes.
 ///
 /// Nothing is written before one of these errors:
 ///
 /// - [`RunError::ReadFailed`], if a read fails with any error;
-/// - [`RunError::TooLong`], as soon as more than 1,048,576 bytes have come;
+/// - [`RunError::TooLong`], as soon as more than 1,048,576 bytes were read;
 /// - [`RunError::NoMemory`], if memory cannot be allocated;
 /// - [`RunError::Text`], if the text has an error.
 ///
 /// [`RunError::WriteFailed`] means that a write or the flush failed with any error, or that a write
-/// took no bytes. A beginning of the result may then have been written.
+/// accepted no bytes. A beginning of the result may then have been written.
 ///
 /// ```rust
 /// let mut output = Vec::new(rt.alloc());
@@ -58,8 +58,7 @@ pub fn run<R: Read, W: Write>(
     run_bytes(alloc, mode, &bytes, output)
 }
 
-/// Does for bytes in memory what [`run`] does for a reader: writes what the mode returns for them, and flushes.
-/// As no read can fail, the outcome depends on the bytes, the memory and the writer alone: it never is
+/// As [`run`], with bytes in memory as the input: writes the mode's result for them, and flushes. Never returns
 /// [`RunError::ReadFailed`].
 ///
 /// ```rust
@@ -78,7 +77,7 @@ pub fn run_bytes<W: Write>(
         × Appends (W.contents output.old) (W.contents output.new) bs) }
     // Unless memory or the writer fails, an error is the result of the mode.
     ensures err { IfErr result (λ e. e ≢ NoMemory → e ≢ WriteFailed → Answer mode input.now (Err e)) }
-    ensures no_memory { result ≡ Err NoMemory → TakesMemory mode input.now }
+    ensures no_memory { result ≡ Err NoMemory → MayAllocate mode input.now }
     // An odd length never leads to `NoMemory`.
     ensures odd { (mode ≡ Decode) ⊎ (mode ≡ Check) → length input.now ≤ limit
         → IsOdd (length (without_newline input.now)) → result ≡ Err (Text OddLength) }
@@ -88,11 +87,11 @@ pub fn run_bytes<W: Write>(
     ensures nothing_written { OnErr result (result ≢ Err WriteFailed
         → Keeps (W.contents output.old) (W.contents output.new)) }
 {
-    let answered = answer(alloc, mode, input)?;
-    write_all(&answered, output)
+    let bytes = answer(alloc, mode, input)?;
+    write_all(&bytes, output)
 }
 
-/// All that the reader has.
+/// Reads the input to its end.
 fn read_all<R: Read>(alloc: Global, input: &mut R) -> Result<Vec<u8>, RunError>
     ensures ok { IfOk result
         (λ v. ReadsAll (R.remaining input.old) (R.remaining input.new) v.items) }
@@ -120,7 +119,7 @@ fn read_all<R: Read>(alloc: Global, input: &mut R) -> Result<Vec<u8>, RunError>
 fn write_all<W: Write>(bytes: &[u8], output: &mut W) -> Result<(), RunError>
     ensures ok { OnOk result (Appends (W.contents output.old) (W.contents output.new) bytes.now) }
     ensures err { OnErr result (result ≡ Err WriteFailed) }
-    ensures begun { OnErr result
+    ensures partly_written { OnErr result
         (WritesBeginning (W.contents output.old) (W.contents output.new) bytes.now) }
 {
     let mut done = 0;

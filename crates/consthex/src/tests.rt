@@ -1,4 +1,4 @@
-//! Tests of the program over readers and writers, and on hosts whose standard error can fail.
+//! Tests of the program with readers and writers that fail, and on hosts whose standard error can fail.
 
 mod devices;
 mod programs;
@@ -6,7 +6,7 @@ mod runs;
 
 use std::process::Abort;
 
-/// What a test is given: it can end the process, and allocate.
+/// The runtime of a test, which can abort the process and allocate.
 pub(crate) trait Testing: Abort + AllocGlobal {}
 
 impl<R: Abort + AllocGlobal> Testing for R {}

@@ -8,6 +8,6 @@ use Rattle.hash_hex.specs.declared.fixed.FixedBytes.{FixedBytes}
 abbrev pub fixed_bytes : {n : ℕ} → FixedBytes n → List ℕ
 fixed_bytes v = v.bytes
 
--- the result when a text is read as such a value: the result when it is read as n bytes
+-- the result when a text is decoded to such a value: that for n bytes
 abbrev pub ReadsFixed : (n : ℕ) → List ℕ → Result (FixedBytes n) FromHexError → Type 0
 ReadsFixed n = ReadsAs fixed_bytes (λ t r. ReadsSized t n r)

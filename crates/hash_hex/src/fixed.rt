@@ -1,4 +1,4 @@
-//! A value of a fixed number of bytes, its text and its JSON string.
+//! Values of a fixed number of bytes, and their text and JSON strings.
 
 ghost use Rattle.std.specs.Prelude.{◌≡◌, ◌↔◌, ℕ, List, Bool, length, true, false, Some, Ok, IfOk, IsOk, IsTrue, MatchResult};
 ghost use Rattle.serde_json.specs.Data.{string};
@@ -100,13 +100,13 @@ impl<const N: usize> FromHex for FixedBytes<N> {
 
     fn from_hex(alloc: Global, hex: &[u8]) -> Result<FixedBytes<N>, FromHexError>
         ensures answers { ReadsFixed N hex.now result }
-        // For a constant text this computes, so the check proves an `unwrap`.
+        // For a constant text the prover computes this, and so accepts an `unwrap`.
         ensures accepts { IsOk result ↔ IsTrue (is_text_of N hex.now) }
-        // The text of N bytes, with or without a prefix and in either case, is read as their value.
+        // The text of N bytes, with or without a prefix and in either case, decodes to their value.
         ensures round_trip { (prefix up : Bool) (bs : List ℕ) → AreBytes bs → length bs ≡ N
             → hex.now ≡ full_text prefix up bs
             → MatchResult result (λ v. fixed_bytes v ≡ bs) (λ _. ⊥) }
-        // Another text is read as an equal value if and only if the two bodies differ only in case.
+        // Another text decodes to an equal value if and only if the two bodies differ only in case.
         ensures agree { (t : List ℕ) (w : FixedBytes N) → ReadsFixed N t (Ok w)
             → IfOk result (λ v. (w ≡ v) ↔ (lowered (body_of t) ≡ lowered (body_of hex.now))) }
     {

@@ -1,4 +1,4 @@
-//! Hashes of 32 bytes and addresses of 20 bytes, which are read from hexadecimal text and written
+//! Hashes of 32 bytes and addresses of 20 bytes, which are decoded from hexadecimal text and encoded
 //! as it.
 //!
 //! Both are [`FixedBytes`], a value of a fixed number of bytes. The terms of its contracts are

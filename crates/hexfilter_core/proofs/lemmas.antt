@@ -2,5 +2,5 @@ pub mod Arguments
 pub mod Runs
 pub mod Groups
 pub mod Mirror
-pub mod PlacesOfCharacters
+pub mod Locations
 pub mod Texts

@@ -1,10 +1,10 @@
--- What a run makes of its input, its errors, and what the exit status of the program says.
+-- What a run writes for its input, its errors, and the exit status of the program.
 use Rattle.std.specs.Prelude.{◌≡◌, ◌≢◌, ◌⊎◌, ℕ, if◌then◌else◌, Bool, true, false, List, [], ◌++◌, Option, None, Some, Result, Ok, Err, codes, get_or, bytes_eq}
 use Rattle.std.specs.Io.KnownBytes.{Appends, Consumes, IsAtEnd}
 use Rattle.std.specs.IoError.{error_kind}
 use Rattle.std.specs.declared.io.ErrorKind.TheVariants.{Interrupted}
 pub use Rattle.const_hex.specs.Prelude.{Reads, WritesBeginning}
-use Rattle.hexfilter_core.specs.Dumps.{FromHexError, HasError, Place, Reading, SpellsBeginning, encoded, text_of}
+use Rattle.hexfilter_core.specs.Dumps.{FromHexError, HasError, Location, Reading, SpellsBeginning, encoded, text_of}
 pub use Rattle.hexfilter_core.specs.declared.error.RunError.{RunError}
 pub use Rattle.hexfilter_core.specs.declared.error.RunError.TheVariants.{Text, Read, Write}
 pub use Rattle.hexfilter_core.specs.declared.mode.Mode.{Mode}
@@ -12,66 +12,72 @@ pub use Rattle.hexfilter_core.specs.declared.mode.Mode.TheVariants.{Encode, Deco
 
 -- ---- what is written
 
--- what is written of the bytes of a text: all or, if it is only checked, none
+-- the bytes that are written of those of a text: all, or none if it is only checked
 abbrev pub written : Reading → List ℕ → List ℕ
 written r bytes = if r.is_check then [] else bytes
 
--- the mode makes the bytes y of the input x
+-- the mode's output for the input x is y
 abbrev pub Makes : Mode → List ℕ → List ℕ → Type 0
 Makes (Encode prefix upper groups) x y = y ≡ encoded prefix upper groups x
 Makes (Decode r) x y = (bytes : List ℕ) × Reads (text_of r x) (Ok bytes) × (y ≡ written r bytes)
 
--- y is a beginning of what the mode makes of the input x: for a text, what some of its first digits decode to
+-- y is a beginning of the mode's output for the input x: in decoding, what some of the first digits decode to
 abbrev pub MakesBeginning : Mode → List ℕ → List ℕ → Type 0
-MakesBeginning (Encode prefix upper groups) x y = (left : List ℕ) × (encoded prefix upper groups x ≡ y ++ left)
+MakesBeginning (Encode prefix upper groups) x y = (rest : List ℕ) × (encoded prefix upper groups x ≡ y ++ rest)
 MakesBeginning (Decode r) x y = (bytes : List ℕ) × SpellsBeginning r x bytes × (y ≡ written r bytes)
 
--- the mode fails with the error e of the text of an input of which x was read, and its place; before, it writes y
-abbrev pub FailsWith : Mode → Option (List ℕ) → List ℕ → List ℕ → FromHexError → Option Place → Type 0
-FailsWith (Encode prefix upper groups) left x y e place = ⊥
-FailsWith (Decode r) left x y e place = (bytes : List ℕ) × HasError r left x bytes e place × (y ≡ written r bytes)
+-- the mode fails with the error e at this location, in an input of which x was read; before the error, it writes y
+abbrev pub FailsWith : Mode → Option (List ℕ) → List ℕ → List ℕ → FromHexError → Option Location → Type 0
+FailsWith (Encode prefix upper groups) in_after x y e location = ⊥
+FailsWith (Decode r) in_after x y e location =
+    (bytes : List ℕ) × HasError r in_after x bytes e location × (y ≡ written r bytes)
 
--- the error of a run is that of the text
+-- the error of a run is this error of the text, at this location
 abbrev pub IsErrorOf : Mode → Option (List ℕ) → List ℕ → List ℕ → RunError → Type 0
-IsErrorOf m left x y (Text e place) = FailsWith m left x y e place
-IsErrorOf m left x y (Read e) = ⊥
-IsErrorOf m left x y (Write e) = ⊥
+IsErrorOf m in_after x y (Text e location) = FailsWith m in_after x y e location
+IsErrorOf m in_after x y (Read e) = ⊥
+IsErrorOf m in_after x y (Write e) = ⊥
 
--- ---- what a run does to a reader and a writer. What the reader has left goes from `had` to `left`, and what the
--- writer holds from `old` to `new`
+-- ---- what a run reads and writes
+--
+-- `in_before` and `in_after` are the bytes that the reader still has, before and after the run; `out_before` and
+-- `out_after` are those that the writer holds. They are None if a contract cannot know them.
 
--- all of the input is read, and what the mode makes of it is written
+-- all of the input is read, and the mode's output for it is written
 abbrev pub RunsToEnd : Mode → Option (List ℕ) → Option (List ℕ) → Option (List ℕ) → Option (List ℕ) → Type 0
-RunsToEnd m had left old new = (x : List ℕ) × (y : List ℕ) × Consumes had left x × IsAtEnd left × Makes m x y × Appends old new y
+RunsToEnd m in_before in_after out_before out_after =
+    (x : List ℕ) × (y : List ℕ) × Consumes in_before in_after x × IsAtEnd in_after × Makes m x y
+    × Appends out_before out_after y
 
--- the mode fails with the error e of what is read, and all before it is written
+-- the mode fails with the error e in what is read, and the output before it is written
 abbrev pub RunsToError : Mode → Option (List ℕ) → Option (List ℕ) → Option (List ℕ) → Option (List ℕ) → FromHexError
-    → Option Place → Type 0
-RunsToError m had left old new e place =
-    (x : List ℕ) × (y : List ℕ) × Consumes had left x × FailsWith m left x y e place × Appends old new y
+    → Option Location → Type 0
+RunsToError m in_before in_after out_before out_after e location =
+    (x : List ℕ) × (y : List ℕ) × Consumes in_before in_after x × FailsWith m in_after x y e location
+    × Appends out_before out_after y
 
--- a beginning of what the mode makes of what is read is written
+-- a beginning of the mode's output for what is read is written
 abbrev pub RunsPartly : Mode → Option (List ℕ) → Option (List ℕ) → Option (List ℕ) → Option (List ℕ) → Type 0
-RunsPartly m had left old new =
-    (x : List ℕ) × (y : List ℕ) × Consumes had left x × MakesBeginning m x y × Appends old new y
+RunsPartly m in_before in_after out_before out_after =
+    (x : List ℕ) × (y : List ℕ) × Consumes in_before in_after x × MakesBeginning m x y × Appends out_before out_after y
 
 -- ---- errors
 
--- no call failed because a signal interrupted it
+-- the error is not that of an interrupted call
 abbrev pub IsNotInterrupted : RunError → Type 0
-IsNotInterrupted (Text e place) = Unit {0}
+IsNotInterrupted (Text e location) = Unit {0}
 IsNotInterrupted (Read e) = error_kind e ≢ Interrupted
 IsNotInterrupted (Write e) = error_kind e ≢ Interrupted
 
--- a read failed, and no signal interrupted it
+-- the error of a read that failed and was not interrupted
 abbrev pub IsFailedRead : RunError → Type 0
-IsFailedRead (Text e place) = ⊥
+IsFailedRead (Text e location) = ⊥
 IsFailedRead (Read e) = error_kind e ≢ Interrupted
 IsFailedRead (Write e) = ⊥
 
--- a write or a flush failed, and no signal interrupted it
+-- the error of a write or a flush that failed and was not interrupted
 abbrev pub IsFailedWrite : RunError → Type 0
-IsFailedWrite (Text e place) = ⊥
+IsFailedWrite (Text e location) = ⊥
 IsFailedWrite (Read e) = ⊥
 IsFailedWrite (Write e) = error_kind e ≢ Interrupted
 
@@ -80,29 +86,32 @@ IsFailedWrite (Write e) = error_kind e ≢ Interrupted
 -- the exit status of the program after a run
 abbrev pub status_of : Result Unit RunError → ℕ
 status_of (Ok done) = 0
-status_of (Err (Text e place)) = 1
+status_of (Err (Text e location)) = 1
 status_of (Err (Read e)) = 3
 status_of (Err (Write e)) = 3
 
--- a run ends with the status s: with 0 at the end of its input, with 1 at an error of the text, and with 3 anywhere
+-- a run ends with this exit status: 0 at the end of its input, 1 at an error of the text, and 3 anywhere
 abbrev pub Ends : Mode → ℕ → Option (List ℕ) → Option (List ℕ) → Option (List ℕ) → Option (List ℕ) → Type 0
-Ends m s had left old new =
-    (s ≡ 0 → RunsToEnd m had left old new)
-    × (s ≡ 1 → (e : FromHexError) × (place : Option Place) × RunsToError m had left old new e place)
-    × (s ≡ 3 → RunsPartly m had left old new)
-    × ((s ≡ 0) ⊎ (s ≡ 1) ⊎ (s ≡ 3))
+Ends m status in_before in_after out_before out_after =
+    (status ≡ 0 → RunsToEnd m in_before in_after out_before out_after)
+    × (status ≡ 1 → (e : FromHexError) × (location : Option Location)
+    × RunsToError m in_before in_after out_before out_after e location)
+    × (status ≡ 3 → RunsPartly m in_before in_after out_before out_after)
+    × ((status ≡ 0) ⊎ (status ≡ 1) ⊎ (status ≡ 3))
 
--- a run that may begin ends with the status s. One that may not ends with 3, and nothing is read or written
+-- as `Ends`, if the run may begin; else the exit status is 3, and nothing is read or written
 abbrev pub EndsIf : Bool → Mode → ℕ → Option (List ℕ) → Option (List ℕ) → Option (List ℕ) → Option (List ℕ) → Type 0
-EndsIf true m s had left old new = Ends m s had left old new
-EndsIf false m s had left old new = (s ≡ 3) × (left ≡ had) × (new ≡ old)
+EndsIf true m status in_before in_after out_before out_after = Ends m status in_before in_after out_before out_after
+EndsIf false m status in_before in_after out_before out_after =
+    (status ≡ 3) × (in_after ≡ in_before) × (out_after ≡ out_before)
 
--- a text is printed with the status 0, or a beginning of it with the status 3
+-- a text is printed with the exit status 0, or a beginning of it with 3
 abbrev pub Prints : List ℕ → ℕ → Option (List ℕ) → Option (List ℕ) → Type 0
-Prints text s old new =
-    (s ≡ 0 → Appends old new text) × (s ≡ 3 → WritesBeginning old new text) × ((s ≡ 0) ⊎ (s ≡ 3))
+Prints text status out_before out_after =
+    (status ≡ 0 → Appends out_before out_after text) × (status ≡ 3 → WritesBeginning out_before out_after text)
+    × ((status ≡ 0) ⊎ (status ≡ 3))
 
--- the name of the file that the argument with that number names, if there is one and it is not standard input
+-- the file name in the argument with this index, if there is one and it is not `-`, for standard input
 abbrev pub file_name : List (List ℕ) → Option ℕ → Option (List ℕ)
 file_name arguments None = None
 file_name arguments (Some i) =

@@ -1,5 +1,5 @@
-//! What a program that runs this library can rely on, in words of std and of `const_hex`. Nothing exports these
-//! functions.
+//! Examples of what callers of this library can prove, in terms of std and of `const_hex`. These functions are not
+//! exported.
 
 ghost use Rattle.std.specs.Prelude.{◌≡◌, ◌≢◌, ◌⊎◌, ◌*◌, ◌+◌, ◌-◌, ◌/◌, ◌^◌, ◌<◌, ◌==◌, ◌++◌, ◌∷◌, [], All, Bool, List, ℕ, None, Ok, Err, Option, false, Some, OnErr, OnOk, codes, count_by, length, map, string_bytes, take};
 ghost use Rattle.std.specs.Io.KnownBytes.{Appends, Consumes, IsAtEnd, Keeps};
@@ -7,8 +7,8 @@ ghost use Rattle.std.specs.IoError.{error_kind};
 ghost use Rattle.std.specs.Process.{exit_status};
 ghost use Rattle.std.specs.declared.io.Error.{Error};
 ghost use Rattle.std.specs.declared.io.ErrorKind.TheVariants.{Interrupted};
-ghost use Rattle.const_hex.specs.Prelude.{AllDigits, IsOdd, Reads, Spells, body_of, counted, full_text};
-ghost use Rattle.hexfilter_core.specs.Dumps.{FromHexError, Groups, IgnoresLines, InvalidHexCharacter, OddLength, Place, mirror};
+ghost use Rattle.const_hex.specs.Prelude.{AllDigits, IsOdd, Reads, Spells, body_of, saturated, full_text};
+ghost use Rattle.hexfilter_core.specs.Dumps.{FromHexError, Groups, IgnoresLines, InvalidHexCharacter, OddLength, Location, mirror};
 ghost use Rattle.hexfilter_core.specs.Options.{AreFor};
 ghost use Rattle.hexfilter_core.specs.Runs.{Decode, Encode, Read, Text, Write};
 
@@ -34,20 +34,20 @@ fn decode<R: Read, W: Write>(input: &mut R, output: &mut W) -> Result<(), RunErr
     ensures ok { OnOk result ((x : List ℕ) × (y : List ℕ) × Consumes (R.remaining input.old) (R.remaining input.new) x
         × IsAtEnd (R.remaining input.new) × Reads x (Ok y)
         × Appends (W.contents output.old) (W.contents output.new) y) }
-    ensures odd { (place : Option Place) → result ≡ Err (Text OddLength place) → (place ≡ None)
+    ensures odd { (location : Option Location) → result ≡ Err (Text OddLength location) → (location ≡ None)
         × ((x : List ℕ) × (y : List ℕ) × Consumes (R.remaining input.old) (R.remaining input.new) x
         × IsAtEnd (R.remaining input.new) × IsOdd (length x) × AllDigits (body_of x)
         × Spells (take (2 * (length (body_of x) / 2)) (body_of x)) y
         × Appends (W.contents output.old) (W.contents output.new) y) }
-    // Up to the invalid character there are digits alone, and all whole pairs of them were decoded. After it, less than
-    // 16 KiB were read.
-    ensures invalid { (c i : ℕ) (place : Option Place) → result ≡ Err (Text (InvalidHexCharacter c i) place)
-        → (place ≡ None) × ((x : List ℕ) × (rest : List ℕ) × (y : List ℕ)
+    // Before the invalid character there are only digits, and all pairs of them were decoded. After it, less than 16 KiB
+    // were read.
+    ensures invalid { (c i : ℕ) (location : Option Location) → result ≡ Err (Text (InvalidHexCharacter c i) location)
+        → (location ≡ None) × ((x : List ℕ) × (rest : List ℕ) × (y : List ℕ)
         × Consumes (R.remaining input.old) (R.remaining input.new) (x ++ c ∷ rest) × (length rest < 16384)
-        × (i ≡ counted (length x)) × AllDigits (body_of x) × (AllDigits (body_of (x ++ c ∷ [])) → ⊥)
+        × (i ≡ saturated (length x)) × AllDigits (body_of x) × (AllDigits (body_of (x ++ c ∷ [])) → ⊥)
         × Spells (take (2 * (length (body_of x) / 2)) (body_of x)) y
         × Appends (W.contents output.old) (W.contents output.new) y) }
-    ensures begun { OnErr result ((x : List ℕ) × (y : List ℕ)
+    ensures partly_written { OnErr result ((x : List ℕ) × (y : List ℕ)
         × Consumes (R.remaining input.old) (R.remaining input.new) x
         × Spells (take (2 * length y) (body_of x)) y × Appends (W.contents output.old) (W.contents output.new) y) }
     ensures retried { (e : Error) → (result ≡ Err (Read e)) ⊎ (result ≡ Err (Write e)) → error_kind e ≢ Interrupted }
@@ -55,10 +55,10 @@ fn decode<R: Read, W: Write>(input: &mut R, output: &mut W) -> Result<(), RunErr
     run(Mode::Decode(PLAIN), input, output)
 }
 
-/// Decodes lines of a text. An error names the line of the character, and its column.
+/// Decodes lines. An error for an invalid character has its line and column.
 fn decode_lines<R: Read, W: Write>(input: &mut R, output: &mut W) -> Result<(), RunError>
-    ensures { (c i : ℕ) (place : Option Place) → result ≡ Err (Text (InvalidHexCharacter c i) place)
-        → (p : Place) × (x : List ℕ) × (rest : List ℕ) × (place ≡ Some p)
+    ensures { (c i : ℕ) (location : Option Location) → result ≡ Err (Text (InvalidHexCharacter c i) location)
+        → (p : Location) × (x : List ℕ) × (rest : List ℕ) × (location ≡ Some p)
         × Consumes (R.remaining input.old) (R.remaining input.new) (x ++ c ∷ rest)
         × ((lines line : List ℕ) → x ≡ lines ++ 10 ∷ line → length x < 2 ^ 64 - 1 → All (λ b. b ≢ 10) line
         → (p.line ≡ 2 + count_by (λ b. b == 10) lines) × (p.column ≡ 1 + length line)) }
@@ -70,7 +70,7 @@ fn decode_lines<R: Read, W: Write>(input: &mut R, output: &mut W) -> Result<(), 
     run(Mode::Decode(lines), input, output)
 }
 
-/// Encodes two bytes in pairs of digits with a separator: a newline stands after the last, too.
+/// Encodes two bytes in groups of two digits with a separator. If that is a newline, one follows the last, too.
 #[tactic(auto, unfolding(crate::specs::Dumps::groups_from, const_hex::specs::Prelude::hex_text))]
 fn encode_pairs<W: Write>(separator: u8, output: &mut W) -> Result<(), RunError>
     ensures colons { separator ≡ 58 → OnOk result
@@ -87,7 +87,7 @@ fn encode_pairs<W: Write>(separator: u8, output: &mut W) -> Result<(), RunError>
     run(mode, &mut b"ki".as_slice(), output)
 }
 
-/// Decodes such pairs, with a space and a newline that are left out.
+/// Decodes such groups. A space and a newline are left out.
 #[tactic(auto, unfolding(crate::specs::Dumps::text_from))]
 fn decode_pairs<W: Write>(output: &mut W) -> Result<(), RunError>
     ensures { OnOk result (Appends (W.contents output.old) (W.contents output.new) (codes "ki")) }
@@ -104,8 +104,8 @@ fn decode_pairs<W: Write>(output: &mut W) -> Result<(), RunError>
     run(Mode::Decode(reading), &mut b"6b: 69\n".as_slice(), output)
 }
 
-/// Encodes bytes into a text, which is empty before, in any groups, and decodes the text: lines without whitespace. These
-/// are the bytes again.
+/// Encodes bytes in any groups into an empty text, and decodes it to the same bytes again. Lines are decoded without
+/// whitespace.
 fn encode_and_decode_groups<W: Write>(
     write: Mode,
     read: Mode,
@@ -117,7 +117,7 @@ fn encode_and_decode_groups<W: Write>(
     requires modes { (prefix : Bool) × (upper : Bool) × (ignores : Bool) × (g : Groups) × IgnoresLines ignores g
         × (write ≡ Encode prefix upper g) × (read ≡ Decode (mirror ignores g)) }
     ensures done { OnOk result (Appends (W.contents output.old) (W.contents output.new) bytes.now) }
-    ensures never_text { (e : FromHexError) (place : Option Place) → result ≢ Err (Text e place) }
+    ensures never_text { (e : FromHexError) (location : Option Location) → result ≢ Err (Text e location) }
 {
     let mut input = bytes;
     run(write, &mut input, text)?;
@@ -136,7 +136,7 @@ fn encode<H: Host, R: Read, W: Write>(
     ensures done { exit_status result ≡ 0 → (x : List ℕ)
         × Consumes (R.remaining input.old) (R.remaining input.new) x × IsAtEnd (R.remaining input.new)
         × Appends (W.contents output.old) (W.contents output.new) (full_text false false x) }
-    ensures begun { exit_status result ≡ 3 → (x : List ℕ) × (y : List ℕ) × (rest : List ℕ)
+    ensures partly_written { exit_status result ≡ 3 → (x : List ℕ) × (y : List ℕ) × (rest : List ℕ)
         × Consumes (R.remaining input.old) (R.remaining input.new) x × (full_text false false x ≡ y ++ rest)
         × Appends (W.contents output.old) (W.contents output.new) y }
     ensures statuses { (exit_status result ≡ 0) ⊎ (exit_status result ≡ 3) }
@@ -166,7 +166,8 @@ fn check<H: Host, R: Read, W: Write>(
 ) -> ExitCode
     requires { map string_bytes arguments.now ≡ codes "--check" ∷ [] }
     ensures done { exit_status result ≡ 0 → (x : List ℕ) × (y : List ℕ)
-        × Consumes (R.remaining input.old) (R.remaining input.new) x × IsAtEnd (R.remaining input.new) × Reads x (Ok y) }
+        × Consumes (R.remaining input.old) (R.remaining input.new) x × IsAtEnd (R.remaining input.new)
+        × Reads x (Ok y) }
     ensures rejected { (x y : List ℕ) → R.remaining input.old ≡ Some x → Reads x (Ok y) → exit_status result ≢ 1 }
     ensures nothing { Keeps (W.contents output.old) (W.contents output.new) }
 {
@@ -191,8 +192,8 @@ fn print_version<R: Read, W: Write>(
     program(host, arguments, input, output)
 }
 
-/// Runs the program to encode bytes into a text, which is empty before, and again to decode the text. The arguments are
-/// those of any text, lines or groups, and those that read them back: lines without whitespace. These are the bytes again.
+/// Runs the program to encode bytes into an empty text, and again to decode it to the same bytes. The arguments are
+/// those for a text with or without lines or groups, and those that decode it. Lines are decoded without whitespace.
 fn encode_and_decode<H: Host, W: Write>(
     host: &H,
     write: &[String],
@@ -202,7 +203,7 @@ fn encode_and_decode<H: Host, W: Write>(
     output: &mut W,
 ) -> (ExitCode, ExitCode)
     requires empty { text.old.items ≡ [] }
-    requires asked { (prefix : Bool) × (upper : Bool) × (ignores : Bool) × (g : Groups) × IgnoresLines ignores g
+    requires arguments { (prefix : Bool) × (upper : Bool) × (ignores : Bool) × (g : Groups) × IgnoresLines ignores g
         × AreFor (Encode prefix upper g) (map string_bytes write.now)
         × AreFor (Decode (mirror ignores g)) (map string_bytes read.now) }
     ensures written { (exit_status result.0 ≡ 0) ⊎ (exit_status result.0 ≡ 3) }
@@ -216,8 +217,8 @@ fn encode_and_decode<H: Host, W: Write>(
     (written, program(host, read, &mut input, output))
 }
 
-/// Runs the program to encode bytes into lines of 64 characters, with a prefix and in uppercase, or into pairs with
-/// colons, and again to decode them.
+/// Runs the program to encode bytes into lines of 64 characters, with a prefix and in uppercase, or into groups of one
+/// byte with colons, and again to decode them.
 fn encode_and_decode_by_words<H: Host, W: Write>(
     host: &H,
     write: &[String],
@@ -227,10 +228,12 @@ fn encode_and_decode_by_words<H: Host, W: Write>(
     output: &mut W,
 ) -> (ExitCode, ExitCode)
     requires empty { text.old.items ≡ [] }
-    requires words { ((map string_bytes write.now ≡ codes "--prefix" ∷ codes "--upper" ∷ codes "--wrap" ∷ codes "64" ∷ [])
+    requires words { ((map string_bytes write.now
+        ≡ codes "--prefix" ∷ codes "--upper" ∷ codes "--wrap" ∷ codes "64" ∷ [])
         × (map string_bytes read.now ≡ codes "--decode" ∷ codes "--ignore-whitespace" ∷ []))
         ⊎ ((map string_bytes write.now ≡ codes "--group" ∷ codes "1" ∷ codes "--separator" ∷ codes ":" ∷ [])
-        × (map string_bytes read.now ≡ codes "--decode" ∷ codes "--group" ∷ codes "1" ∷ codes "--separator" ∷ codes ":" ∷ [])) }
+        × (map string_bytes read.now
+        ≡ codes "--decode" ∷ codes "--group" ∷ codes "1" ∷ codes "--separator" ∷ codes ":" ∷ [])) }
     ensures { exit_status result.0 ≡ 0 → exit_status result.1 ≡ 0
         → Appends (W.contents output.old) (W.contents output.new) bytes.now }
 {

@@ -3,7 +3,7 @@
 ghost use Rattle.std.specs.Prelude.{◌≡◌, Err};
 ghost use Rattle.hexfilter_core.specs.Runs.{status_of};
 
-use crate::place::Place;
+use crate::location::Location;
 use const_hex::FromHexError;
 use std::io;
 
@@ -18,9 +18,9 @@ use std::io;
 /// ```
 #[derive(Clone, Copy, Debug)]
 pub enum RunError {
-    /// The text has an odd number of digits, or an invalid character. If bytes may be left out of the input,
-    /// the character stands at that place, and else in the first line.
-    Text(FromHexError, Option<Place>),
+    /// The text has an odd number of digits, or an invalid character, which is at this location if bytes may be left
+    /// out of the input, and else in the first line.
+    Text(FromHexError, Option<Location>),
     /// A read failed with this error. It is never `Interrupted`.
     Read(io::Error),
     /// A write or the flush failed with this error. It is never `Interrupted`.

@@ -1,5 +1,4 @@
-//! The program `hexfilter` as a library: a run over any reader and writer, and the whole program on
-//! any host.
+//! The program `hexfilter` as a library: a run over any reader and writer, and the complete program on any host.
 //!
 //! The terms of the contracts are defined in `specs/`. What a text decodes to is defined in
 //! `const_hex`.
@@ -10,7 +9,7 @@ mod error;
 mod groups;
 mod mode;
 mod options;
-mod place;
+mod location;
 mod process;
 mod runs;
 mod scanner;
@@ -20,6 +19,6 @@ mod transfer;
 pub use crate::error::RunError;
 pub use crate::mode::{Groups, Mode, Reading};
 pub use crate::options::{Request, UsageError, UsageErrorKind, request_of};
-pub use crate::place::Place;
+pub use crate::location::Location;
 pub use crate::process::{Host, program};
 pub use crate::runs::run;

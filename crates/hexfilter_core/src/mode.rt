@@ -1,9 +1,9 @@
-//! What a run makes of its input.
+//! The modes of a run.
 
 ghost use Rattle.std.specs.Prelude.{◌≡◌};
 ghost use Rattle.hexfilter_core.specs.Dumps.{leaves_out};
 
-/// What a run makes of its input.
+/// What a run writes for its input.
 ///
 /// ```rust
 /// let mut output = Vec::new(rt.alloc());
@@ -36,14 +36,14 @@ pub struct Groups {
     pub separator: u8,
 }
 
-/// How a text is read.
+/// How a text is decoded.
 #[derive(Clone, Copy, PartialEq, Eq, Debug)]
 pub struct Reading {
     /// Whether the text is only checked: nothing is written then.
     pub is_check: bool,
     /// Whether spaces, tabs, line feeds, vertical tabs, form feeds and carriage returns are left out.
     pub ignore_whitespace: bool,
-    /// The groups of the text. After a whole group, only a separator can follow, which is left out.
+    /// The groups of the text. After a full group, only a separator can follow, which is left out.
     pub groups: Groups,
 }
 

@@ -1,4 +1,4 @@
-//! The whole program, from its arguments to its exit status.
+//! The complete program, from its arguments to its exit status.
 
 ghost use Rattle.std.specs.Prelude.{◌≡◌, ◌++◌, ◌∷◌, [], List, ℕ, None, Some, Option, Bool, not, ◌&&◌, Ok, Err, IfOk, OnErr, OnOk, codes, map, string_bytes, is_ok, option_copied};
 ghost use Rattle.std.specs.Io.KnownBytes.{Appends};
@@ -9,7 +9,7 @@ ghost use Rattle.hexfilter_core.specs.Options.{Help, Run, UsageError, Version, r
 use crate::error::RunError;
 use crate::mode::Mode;
 use crate::options::{Request, UsageError, UsageErrorKind, request_of};
-use crate::place::Place;
+use crate::location::Location;
 use crate::runs::run;
 use crate::transfer::{flush, write_piece};
 use std::io::{Eprint, Error, ErrorKind, Read, Write};
@@ -49,7 +49,7 @@ Examples:
 /// What `--version` prints.
 const VERSION: &str = "hexfilter 1.0.0\n";
 
-/// The files of a host, and the one that its standard output goes to.
+/// The operating system, as the program uses it: files, standard error, and the file behind standard output.
 pub trait Host: Eprint {
     /// An open file.
     type File: Read + Drop;
@@ -57,7 +57,7 @@ pub trait Host: Eprint {
     /// Whether the file with that name can be opened.
     ghost can_open: { Self → List ℕ → Bool };
 
-    /// The bytes that it then has, if they are known.
+    /// The bytes of that file, if they are known.
     ghost bytes: { Self → List ℕ → Option (List ℕ) };
 
     /// What `is_output` returns.
@@ -77,7 +77,7 @@ pub trait Host: Eprint {
 /// Does what the arguments after the program's name ask for, with `input` and `output` as standard input and output.
 /// Returns the exit status: 0 if that succeeds, 1 if the text cannot be decoded, 2 if the arguments are not valid, and
 /// 3 if a read or a write fails, or if the input is the file that standard output goes to. An error is one line on
-/// standard error, but none if the reader of standard output is gone.
+/// standard error, but none if standard output is a broken pipe.
 ///
 /// ```rust
 /// fn main(rt: HostRuntime) -> ExitCode {
@@ -90,36 +90,36 @@ pub fn program<H: Host, R: Read, W: Write>(
     input: &mut R,
     output: &mut W,
 ) -> ExitCode
-    // A run on standard input ends as the status says. Where that is also the output, nothing is read or written.
+    // A run on standard input ends as the exit status says. If it is also the output file, nothing is read or written.
     ensures input { (m : Mode) (file : Option ℕ) → request_for (map string_bytes arguments.now) ≡ Ok (Run m file)
         → file_name (map string_bytes arguments.now) file ≡ None
         → EndsIf (not (H.is_written host.now None)) m (exit_status result)
         (R.remaining input.old) (R.remaining input.new) (W.contents output.old) (W.contents output.new) }
-    // So does a run on a file, that has these bytes. Standard input is not read. Nothing is written if the file is also
-    // the output, or cannot be opened.
+    // The same for a run on a file with these bytes. Standard input is not read. Nothing is written if the file is also
+    // the output file, or cannot be opened.
     ensures file { (m : Mode) (file : Option ℕ) (name : List ℕ)
         → request_for (map string_bytes arguments.now) ≡ Ok (Run m file)
         → file_name (map string_bytes arguments.now) file ≡ Some name
-        → (input.new ≡ input.old) × ((left : Option (List ℕ))
+        → (input.new ≡ input.old) × ((in_after : Option (List ℕ))
         × EndsIf (not (H.is_written host.now (Some name)) && H.can_open host.now name) m (exit_status result)
-        (H.bytes host.now name) left (W.contents output.old) (W.contents output.new)) }
+        (H.bytes host.now name) in_after (W.contents output.old) (W.contents output.new)) }
     ensures help { request_for (map string_bytes arguments.now) ≡ Ok Help → (input.new ≡ input.old)
         × Prints (HELP.now) (exit_status result) (W.contents output.old) (W.contents output.new) }
     ensures version { request_for (map string_bytes arguments.now) ≡ Ok Version → (input.new ≡ input.old)
         × Prints (codes "hexfilter 1.0.0" ++ 10 ∷ []) (exit_status result)
         (W.contents output.old) (W.contents output.new) }
     // Nothing was read or written.
-    ensures misused { (e : UsageError) → request_for (map string_bytes arguments.now) ≡ Err e
+    ensures usage_error { (e : UsageError) → request_for (map string_bytes arguments.now) ≡ Err e
         → (exit_status result ≡ 2) × (input.new ≡ input.old) × (output.new ≡ output.old) }
 {
     match request_of(arguments) {
-        Ok(Request::Help) => end(host, None, print(HELP, output)),
-        Ok(Request::Version) => end(host, None, print(VERSION, output)),
+        Ok(Request::Help) => report_outcome(host, None, print(HELP, output)),
+        Ok(Request::Version) => report_outcome(host, None, print(VERSION, output)),
         Ok(Request::Run(mode, file)) => {
             let name = file_name(arguments, file);
-            end(host, name, run_on(host, mode, name, input, output))
+            report_outcome(host, name, run_on(host, mode, name, input, output))
         }
-        Err(error) => misused(host, arguments, error),
+        Err(error) => report_usage_error(host, arguments, error),
     }
 }
 
@@ -133,8 +133,8 @@ fn file_name(arguments: &[String], index: Option<usize>) -> Option<&str>
     }
 }
 
-/// Prints which argument is not valid, and why.
-fn misused(host: &impl Eprint, arguments: &[String], error: UsageError) -> ExitCode
+/// Prints which argument is invalid, and why.
+fn report_usage_error(host: &impl Eprint, arguments: &[String], error: UsageError) -> ExitCode
     ensures { exit_status result ≡ 2 }
 {
     let argument = match arguments.get(error.index) {
@@ -149,7 +149,7 @@ fn misused(host: &impl Eprint, arguments: &[String], error: UsageError) -> ExitC
         UsageErrorKind::GroupsInLines => "--wrap beside --group or --separator:",
         UsageErrorKind::SecondFile => "second file",
     };
-    // Nothing is left to be done if standard error fails.
+    // An error of standard error cannot be reported.
     let _ = eprintln!(host; "hexfilter: {reason} {argument:?}; try --help");
     ExitCode::from(2)
 }
@@ -165,11 +165,11 @@ fn run_on<H: Host, R: Read, W: Write>(
     ensures input { option_copied name.entry ≡ None → EndsIf (not (H.is_written host.now None)) mode (status_of result)
         (R.remaining input.old) (R.remaining input.new) (W.contents output.old) (W.contents output.new) }
     ensures file { (n : List ℕ) → option_copied name.entry ≡ Some n → (input.new ≡ input.old)
-        × ((left : Option (List ℕ)) × EndsIf (not (H.is_written host.now (Some n)) && H.can_open host.now n) mode
-        (status_of result) (H.bytes host.now n) left (W.contents output.old) (W.contents output.new)) }
+        × ((in_after : Option (List ℕ)) × EndsIf (not (H.is_written host.now (Some n)) && H.can_open host.now n) mode
+        (status_of result) (H.bytes host.now n) in_after (W.contents output.old) (W.contents output.new)) }
 {
     if host.is_output(name) {
-        // It would grow while it is read.
+        // The input would grow while it is read.
         let message = "input file is output file";
         return Err(RunError::Read(Error::new(ErrorKind::InvalidInput, message)));
     }
@@ -192,9 +192,9 @@ fn print<W: Write>(text: &str, output: &mut W) -> Result<(), RunError>
     flush(output)
 }
 
-/// Ends a run on the file with that name, or on standard input. Prints its error, unless the reader of standard output
-/// is gone, and returns the exit status.
-fn end(host: &impl Eprint, name: Option<&str>, outcome: Result<(), RunError>) -> ExitCode
+/// Prints the error of a run on the file with that name, or on standard input, unless standard output is a broken pipe.
+/// Returns the exit status.
+fn report_outcome(host: &impl Eprint, name: Option<&str>, outcome: Result<(), RunError>) -> ExitCode
     ensures { exit_status result ≡ status_of outcome }
 {
     let error = match outcome {
@@ -202,19 +202,19 @@ fn end(host: &impl Eprint, name: Option<&str>, outcome: Result<(), RunError>) ->
         Err(error) => error,
     };
     let status = error.status();
-    // Nothing is left to be done if standard error fails.
+    // An error of standard error cannot be reported.
     let _ = match (name, error) {
         (None, RunError::Text(error, None)) => {
             eprintln!(host; "hexfilter: standard input: {error}")
         }
-        (None, RunError::Text(error, Some(Place { line, column }))) => {
+        (None, RunError::Text(error, Some(Location { line, column }))) => {
             eprintln!(host; "hexfilter: standard input: {error} (line {line}, column {column})")
         }
         (None, RunError::Read(error)) => eprintln!(host; "hexfilter: standard input: {error}"),
         (Some(name), RunError::Text(error, None)) => eprintln!(host;
             "hexfilter: {name:?}: {error}"
         ),
-        (Some(name), RunError::Text(error, Some(Place { line, column }))) => {
+        (Some(name), RunError::Text(error, Some(Location { line, column }))) => {
             eprintln!(host; "hexfilter: {name:?}: {error} (line {line}, column {column})")
         }
         (Some(name), RunError::Read(error)) => eprintln!(host; "hexfilter: {name:?}: {error}"),

@@ -1,4 +1,4 @@
-//! What a run makes of its input, chunk after chunk.
+//! The state of a run, which encodes or decodes one chunk after another.
 
 ghost use Rattle.std.specs.Prelude.{◌≡◌, ◌*◌, ◌+◌, ◌≤◌, ◌<◌, ◌++◌, [], List, ℕ, if◌then◌else◌, length, take, false, ◌/◌, ◌∷◌, Option, None, Some, IfOk, OnErr, option_to_list};
 ghost use Rattle.hexfilter_core.specs.Dumps.{Groups, PutsInto, ended, full_text, AllDigits, Reading, body_of, chunk_size, text_of};
@@ -12,26 +12,26 @@ use crate::mode::{Groups, Mode, Reading};
 use crate::scanner::Scanner;
 use const_hex::{Decoder, FixedKernel, FromHexError, fill_text};
 
-/// How many bytes a chunk has at most.
+/// The maximum length of a chunk.
 pub(crate) const CHUNK: usize = 16_384;
 
-/// What a run has read and made.
+/// The state of a run.
 #[derive(Clone, Copy, Debug)]
 pub(crate) struct Stage {
-    /// Whether the prefix has yet to be written.
+    /// Whether the prefix must still be written.
     prefix: bool,
-    /// How many characters the last group has that was written.
+    /// The number of characters in the last group that was written.
     column: usize,
-    /// What has decoded the text, without what is left out.
+    /// The decoder of the text, from which bytes are left out.
     decoder: Decoder,
-    /// How far the input was read as a text.
+    /// The scanner of the input, which leaves out bytes.
     scanner: Scanner,
-    /// How many bytes of it were read, or `usize::MAX` for more.
-    read: usize,
+    /// The number of bytes that were read, or `usize::MAX` for more.
+    bytes_read: usize,
 }
 
 impl Stage {
-    /// A stage that has read nothing.
+    /// The state before the first chunk.
     pub(crate) fn new(mode: Mode) -> Stage
         ensures { HasMade mode result [] [] }
     {
@@ -40,7 +40,7 @@ impl Stage {
             column: 0,
             decoder: Decoder::new(),
             scanner: Scanner::START,
-            read: 0,
+            bytes_read: 0,
         };
         match mode {
             Mode::Encode { prefix, .. } => {
@@ -51,10 +51,10 @@ impl Stage {
         }
     }
 
-    /// Reads the next chunk, or the end, if it is empty. Puts what the mode makes of it into the front of the output.
-    /// Returns the number of bytes there, which are all before the error, if there is one. The text is space for what
-    /// lies between.
-    pub(crate) fn next(
+    /// Encodes or decodes the next chunk into the front of the output. An empty chunk is the end of the input. Returns
+    /// the number of bytes written, which are all before the error, and the error, if there is one. `text` is a buffer
+    /// for intermediate text.
+    pub(crate) fn process_chunk(
         &mut self,
         mode: Mode,
         chunk: &[u8],
@@ -64,13 +64,14 @@ impl Stage {
         requires chunk { length chunk.now ≤ chunk_size }
         requires text { 2 * length chunk.now + 2 ≤ length text.old }
         requires space { 4 * length chunk.now + 5 ≤ length output.old }
-        ensures made { (x y : List ℕ) (left : Option (List ℕ)) → HasMade mode self.old x y
-            → (length chunk.now ≡ 0 → IsAtEnd left)
-            → Reaches mode self.new left (length chunk.now) (x ++ chunk.now) (y ++ take result.0 output.new) result.1 }
+        ensures made { (x y : List ℕ) (in_after : Option (List ℕ)) → HasMade mode self.old x y
+            → (length chunk.now ≡ 0 → IsAtEnd in_after)
+            → Reaches mode self.new in_after (length chunk.now) (x ++ chunk.now)
+            (y ++ take result.0 output.new) result.1 }
         ensures within { result.0 ≤ length output.new }
         ensures lengths { (length text.new ≡ length text.old) × (length output.new ≡ length output.old) }
     {
-        let is_end = chunk.is_empty();
+        let is_eof = chunk.is_empty();
         match mode {
             Mode::Encode {
                 prefix: _,
@@ -78,15 +79,15 @@ impl Stage {
                 groups,
             } => {
                 let end = self.encode(upper, groups, chunk, text, output);
-                let newline = self.newline(groups, is_end);
+                let newline = self.last_newline(groups, is_eof);
                 (put(newline, output, end), None)
             }
-            Mode::Decode(_) if is_end => (0, self.finish()),
+            Mode::Decode(_) if is_eof => (0, self.finish()),
             Mode::Decode(reading) => self.decode(reading, chunk, text, output),
         }
     }
 
-    /// Encodes the next chunk into the front of the output. Returns the number of bytes there.
+    /// Encodes the next chunk into the front of the output. Returns the number of bytes written.
     #[tactic(auto, using(std::proofs::lemmas::Grind::common_steps, crate::proofs::lemmas::Groups::without_groups))]
     fn encode(
         &mut self,
@@ -120,18 +121,18 @@ impl Stage {
         end
     }
 
-    /// The newline of a last line that has characters.
-    fn newline(&self, groups: Groups, is_end: bool) -> Option<u8>
-        ensures { option_to_list result ≡ (if is_end then ended groups self.now.column else []) }
+    /// The newline after the last line, at the end of the input, unless this line is empty.
+    fn last_newline(&self, groups: Groups, is_eof: bool) -> Option<u8>
+        ensures { option_to_list result ≡ (if is_eof then ended groups self.now.column else []) }
     {
-        if is_end && groups.separator == b'\n' && self.column > 0 {
+        if is_eof && groups.separator == b'\n' && self.column > 0 {
             return Some(b'\n');
         }
         None
     }
 
-    /// Decodes the next chunk into the front of the output. Returns the number of bytes there, which are all before the
-    /// error, if there is one. The text is space for the chunk.
+    /// Decodes the next chunk into the front of the output. Returns the number of bytes written, which are all before
+    /// the error, and the error, if there is one. `text` is a buffer for the text of the chunk.
     fn decode(
         &mut self,
         reading: Reading,
@@ -142,8 +143,8 @@ impl Stage {
         requires chunk { (0 < length chunk.now) × (length chunk.now ≤ chunk_size) }
         requires text { length chunk.now ≤ length text.old }
         requires space { length chunk.now ≤ length output.old }
-        ensures made { (x y : List ℕ) (left : Option (List ℕ)) → HasDecoded reading self.old x y
-            → Reaches (Decode reading) self.new left (length chunk.now) (x ++ chunk.now)
+        ensures made { (x y : List ℕ) (in_after : Option (List ℕ)) → HasDecoded reading self.old x y
+            → Reaches (Decode reading) self.new in_after (length chunk.now) (x ++ chunk.now)
             (y ++ take result.0 output.new) result.1 }
         ensures within { result.0 ≤ length output.new }
         ensures lengths { (length text.new ≡ length text.old) × (length output.new ≡ length output.old) }
@@ -153,7 +154,7 @@ impl Stage {
             *self = next;
             return (count, None);
         }
-        // Byte by byte, up to the invalid character.
+        // The chunk has an invalid character: decode byte by byte up to it.
         let mut end = 0;
         'bytes: for done in 0..chunk.len() {
             let mut next = *self;
@@ -168,8 +169,8 @@ impl Stage {
         (end, None)
     }
 
-    /// Decodes a part of a chunk into the front of the output, and returns the number of bytes there. After an error,
-    /// this decoder cannot go on.
+    /// Decodes a part of a chunk into the front of the output, and returns the number of bytes written. After an error
+    /// this state must be discarded.
     fn decode_part(
         &mut self,
         reading: Reading,
@@ -186,33 +187,33 @@ impl Stage {
         ensures most { IfOk result (λ n. n ≤ length part.now) }
         ensures lengths { (length text.new ≡ length text.old) × (length output.new ≡ length output.old) }
     {
-        self.read = self.read.saturating_add(part.len());
+        self.bytes_read = self.bytes_read.saturating_add(part.len());
         if reading.leaves_out() {
-            let count = self.scanner.text(reading, part, text);
+            let count = self.scanner.scan(reading, part, text);
             return decode_text(&mut self.decoder, reading, &text[..count], output);
         }
-        // Not by the scanner, which would copy the part: by rustc 1.95 for x86-64, hexfilter takes 0.5 million
-        // instructions in place of 0.8 to decode 262,144 digits.
+        // Without the scanner, which would copy the part: built with rustc 1.95 for x86-64, hexfilter then takes 0.5
+        // million instructions instead of 0.8 million to decode 262,144 digits.
         decode_text(&mut self.decoder, reading, part, output)
     }
 
-    /// The error that the next byte is invalid.
+    /// The error for an invalid next byte.
     fn error(&self, reading: Reading, byte: u8) -> RunError
-        ensures { (x y rest : List ℕ) (left : Option (List ℕ)) → HasDecoded reading self.now x y → length rest < chunk_size
-            → (AllDigits (body_of (text_of reading (x ++ byte ∷ []))) → ⊥)
-            → IsErrorOf (Decode reading) left (x ++ byte ∷ rest) y result }
+        ensures { (x y rest : List ℕ) (in_after : Option (List ℕ)) → HasDecoded reading self.now x y
+            → length rest < chunk_size → (AllDigits (body_of (text_of reading (x ++ byte ∷ []))) → ⊥)
+            → IsErrorOf (Decode reading) in_after (x ++ byte ∷ rest) y result }
     {
         let error = FromHexError::InvalidHexCharacter {
             c: char::from(byte),
-            index: self.read,
+            index: self.bytes_read,
         };
-        RunError::Text(error, self.scanner.place(reading))
+        RunError::Text(error, self.scanner.location(reading))
     }
 
-    /// Ends the input. Returns `OddLength` if the text has an odd number of digits.
+    /// Ends the input. Returns the error `OddLength` if the text has an odd number of digits.
     fn finish(&self) -> Option<RunError>
-        ensures { (r : Reading) (x y : List ℕ) (left : Option (List ℕ)) → HasDecoded r self.now x y → IsAtEnd left
-            → Reaches (Decode r) self.now left 0 x y result }
+        ensures { (r : Reading) (x y : List ℕ) (in_after : Option (List ℕ)) → HasDecoded r self.now x y
+            → IsAtEnd in_after → Reaches (Decode r) self.now in_after 0 x y result }
     {
         let end = *self;
         match end.decoder.finish() {
@@ -222,8 +223,8 @@ impl Stage {
     }
 }
 
-/// Decodes the next part of a text into the front of the output, or only checks it. Returns the number of
-/// bytes there.
+/// Decodes the next part of a text into the front of the output, or only checks it. Returns the number of bytes
+/// written.
 #[inline(always)]
 fn decode_text(
     decoder: &mut Decoder,

@@ -1,4 +1,4 @@
-//! Reads and writes that a signal may interrupt.
+//! Reads and writes that are retried after an interrupt.
 
 ghost use Rattle.std.specs.Prelude.{◌≡◌, ◌≢◌, ◌<◌, ◌≤◌, length, take, OnOk, OnErr, IfErr, IfOk};
 ghost use Rattle.std.specs.Io.KnownBytes.{Appends, Consumes, IsAtEnd, Keeps};
@@ -8,7 +8,7 @@ use crate::error::RunError;
 use std::io::{Error, ErrorKind, Read, Write};
 
 /// Reads into the front of the buffer, and returns the number of bytes, which is 0 only at the end.
-/// A call that a signal interrupts is made again.
+/// A call that a signal interrupts is retried.
 pub(crate) fn read_chunk<R: Read>(input: &mut R, buffer: &mut [u8]) -> Result<usize, RunError>
     ensures bound { IfOk result (λ n. n ≤ length buffer.new) }
     ensures bytes { IfOk result
@@ -39,13 +39,13 @@ pub(crate) fn too_many_reads() -> RunError
     RunError::Read(Error::new(ErrorKind::TimedOut, "too many reads"))
 }
 
-/// Writes all the bytes. A call that a signal interrupts is made again.
-// `WriteSink` of const_hex has the same loop, but is private there, and does not exist in Rust.
+/// Writes all the bytes. A call that a signal interrupts is retried.
+// `WriteSink` of const_hex has the same loop, but keeps it private, and does not exist in Rust.
 #[tactic(auto, using(const_hex::proofs::lemmas::WriteSinks::writes))]
 pub(crate) fn write_piece<W: Write>(output: &mut W, piece: &[u8]) -> Result<(), RunError>
     ensures ok { OnOk result (Appends (W.contents output.old) (W.contents output.new) piece.now) }
     ensures err { IfErr result IsFailedWrite }
-    ensures begun { OnErr result
+    ensures partly_written { OnErr result
         (WritesBeginning (W.contents output.old) (W.contents output.new) piece.now) }
 {
     let mut done = 0;
@@ -66,7 +66,7 @@ pub(crate) fn write_piece<W: Write>(output: &mut W, piece: &[u8]) -> Result<(), 
     Err(write_error(ErrorKind::TimedOut, "too many writes"))
 }
 
-/// Flushes. A call that a signal interrupts is made again.
+/// Flushes. A call that a signal interrupts is retried.
 pub(crate) fn flush<W: Write>(output: &mut W) -> Result<(), RunError>
     ensures bytes { Keeps (W.contents output.old) (W.contents output.new) }
     ensures err { IfErr result IsFailedWrite }

@@ -40,7 +40,7 @@ fn ask(line: &Line) {
         ("json" | "json-into" | "json-message", _) => {}
         // What this crate does not have: kernels and sinks.
         ("fronts" | "pieces" | "calls", _) => {}
-        ("values-of-step" | "write-step" | "read-step", None) => {}
+        ("values-of-block" | "write-block" | "read-block", None) => {}
         _ => panic!("a question that is not known: {}", line.text),
     }
 }

@@ -1,26 +1,26 @@
--- Steps of an iterator over the characters of bytes.
+-- The characters that an iterator has left.
 use mir.Val.{bool_byte}
 use Rattle.std.proofs.Common.{◌≡◌, ℕ, ◌+◌, ◌*◌, ◌/◌, ◌%◌, Bool, List, [], ◌∷◌, length, Option, None, refl, arith, is_some}
 use Rattle.std.proofs.lemmas.List.{nil_from_length}
 use Rattle.const_hex.specs.Prelude.{hex_digit, hex_text, with_low}
 use Rattle.const_hex_arch.proofs.lemmas.Texts.{length-hex_text}
 
--- nothing is left
+-- no character is left
 pub left-none : (up : Bool) (low : Option ℕ) (u : List ℕ) → low ≡ None → length u ≡ 0
     → with_low low (hex_text up u) ≡ []
 unfolding hex_text
 left-none up low u h e = rw (h, nil_from_length u e) refl
 
--- one more byte is left
+-- the two characters of a byte come first
 pub left-more : (up : Bool) (low : Option ℕ) (t u : List ℕ) (b x y : ℕ) → low ≡ None → t ≡ b ∷ u
     → x ≡ hex_digit up (b / 16) → y ≡ hex_digit up (b % 16)
     → with_low low (hex_text up t) ≡ x ∷ y ∷ hex_text up u
 unfolding hex_text
 left-more up low t u b x y h e ex ey = rw (h, e, ex, ey) refl
 
--- how many are left
+-- the number of characters that are left
 pub length-left : (up : Bool) (low : Option ℕ) (u : List ℕ)
     → length (with_low low (hex_text up u)) ≡ 2 * length u + bool_byte (is_some low)
 length-left up low u = grind (arith, length-hex_text)
 
-pub ruleset lefts = (left-none, left-more, length-left)
+pub ruleset remaining_characters = (left-none, left-more, length-left)

@@ -1,4 +1,4 @@
--- Texts that are passed to a formatter in pieces.
+-- Texts that are written to a formatter in pieces.
 use Rattle.std.proofs.Common.{◌≡◌, ℕ, Bool, false, List, [], ◌∷◌, refl, subst, ◌∙◌, Result}
 use Rattle.std.specs.List.{concat}
 use Rattle.std.specs.Fmt.{WritesOnOk, WritesStyledOnOk, formatter_spec, spec_alternate}
@@ -10,7 +10,7 @@ use Rattle.const_hex_arch.proofs.lemmas.Streams.{Offers-accepting, Streams-all}
 use Rattle.const_hex.specs.declared.formatting.sink.FormatterSink.{FormatterSink}
 
 module _ {W : Type 0} (took : W → List ℕ → W → Type 0) where
-  -- if nothing failed, pieces are written as one
+  -- if nothing failed, pieces are written as their concatenation would be
   offered_text : (s : FormatterSink W) (ps : List (List ℕ)) (t : FormatterSink W) → t.failed ≡ false
       → Offers (FormatterStep took) (λ x. x.failed) s ps t → FormatterStep took s (concat ps) t
   offered_text s [] t e h =

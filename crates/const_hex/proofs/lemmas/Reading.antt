@@ -1,4 +1,4 @@
--- Each text has exactly one result when it is read.
+-- Each text has exactly one result when it is decoded.
 use Rattle.std.proofs.Common.{◌≡◌, ℕ, ◌*◌, List, length, Result, Ok, Err, refl, ap, ◌∙◌, arith, eqb-true, eq-eqb, IsOk, IsTrue, ◌↔◌}
 use Rattle.std.proofs.lemmas.Bool.{and_parts, and_from}
 use Rattle.std.proofs.lemmas.List.Sums.{AllPass-from_list_all, list_all-from_AllPass}
@@ -10,48 +10,48 @@ use Rattle.const_hex_arch.proofs.lemmas.Texts.{Spells-same, Spells-digits}
 pub Spells-no_bad : (u bs : List ℕ) (p : ℕ) → Spells u bs → FirstBad u p → ⊥
 Spells-no_bad u bs p s f = digits_no_bad u p (Spells-digits u bs s) f
 
--- a text that is read has one result
-pub one_answer : (t : List ℕ) (r s : Result (List ℕ) FromHexError) → Reads t r → Reads t s → r ≡ s
-one_answer t (Ok a) (Ok b) h k = ap Ok (Spells-same (body_of t) a b h.1 k.1)
-one_answer t (Err e) (Err f) h k = ap Err (grind (arith, FirstBad-same))
-one_answer t _ _ h k = absurd (grind (arith, Spells-no_bad))
+-- the result of `Reads` is unique
+pub result_unique : (t : List ℕ) (r s : Result (List ℕ) FromHexError) → Reads t r → Reads t s → r ≡ s
+result_unique t (Ok a) (Ok b) h k = ap Ok (Spells-same (body_of t) a b h.1 k.1)
+result_unique t (Err e) (Err f) h k = ap Err (grind (arith, FirstBad-same))
+result_unique t _ _ h k = absurd (grind (arith, Spells-no_bad))
 
--- a text that is read as n bytes has one result
-pub one_sized_answer : (t : List ℕ) (n : ℕ) (r s : Result (List ℕ) FromHexError) → ReadsSized t n r → ReadsSized t n s
-    → r ≡ s
-one_sized_answer t n (Ok a) (Ok b) h k = one_answer t (Ok a) (Ok b) h.1 k.1
-one_sized_answer t n (Err e) (Err f) h k = ap Err (grind (arith, FirstBad-same))
-one_sized_answer t n _ _ h k = absurd (grind (arith, Spells-no_bad))
+-- the result of `ReadsSized` is unique
+pub sized_result_unique : (t : List ℕ) (n : ℕ) (r s : Result (List ℕ) FromHexError) → ReadsSized t n r
+    → ReadsSized t n s → r ≡ s
+sized_result_unique t n (Ok a) (Ok b) h k = result_unique t (Ok a) (Ok b) h.1 k.1
+sized_result_unique t n (Err e) (Err f) h k = ap Err (grind (arith, FirstBad-same))
+sized_result_unique t n _ _ h k = absurd (grind (arith, Spells-no_bad))
 
--- a text that is checked has one result
-pub one_check_answer : (t : List ℕ) (r s : Result Unit FromHexError) → Checks t r → Checks t s → r ≡ s
-one_check_answer t (Ok u) (Ok v) h k = refl
-one_check_answer t (Err e) (Err f) h k = cc (one_answer t (Err e) (Err f) h k)
-one_check_answer t _ _ h k = absurd (grind (arith, Spells-no_bad))
+-- the result of `Checks` is unique
+pub check_result_unique : (t : List ℕ) (r s : Result Unit FromHexError) → Checks t r → Checks t s → r ≡ s
+check_result_unique t (Ok u) (Ok v) h k = refl
+check_result_unique t (Err e) (Err f) h k = cc (result_unique t (Err e) (Err f) h k)
+check_result_unique t _ _ h k = absurd (grind (arith, Spells-no_bad))
 
--- ---- what the calls return
+-- ---- the results of the functions
 
--- a result of `check` keeps all that `check` promises
+-- from `Checks` follow all fields of the contract of `check`
 pub ChecksText-from_Checks : (t : List ℕ) (r : Result Unit FromHexError) → Checks t r → ChecksText t r
 ChecksText-from_Checks t (Ok u) h =
-    record { answer = h; accepts = (λ _. h, λ _. refl); unique = λ s k. one_check_answer t s (Ok u) k h }
+    record { outcome = h; accepts = (λ _. h, λ _. refl); unique = λ s k. check_result_unique t s (Ok u) k h }
 ChecksText-from_Checks t (Err e) h = record {
-  answer = h;
-  accepts = (λ gone. absurd (cc gone), λ reads. absurd (cc (one_check_answer t (Ok tt) (Err e) reads h)));
-  unique = λ s k. one_check_answer t s (Err e) k h;
+  outcome = h;
+  accepts = (λ is_ok. absurd (cc is_ok), λ reads. absurd (cc (check_result_unique t (Ok tt) (Err e) reads h)));
+  unique = λ s k. check_result_unique t s (Err e) k h;
 }
 
--- a text of digits with an even length is read as bytes
+-- a text of digits with an even length decodes to bytes
 pub Reads-digits : (t : List ℕ) → IsEven (length t) → AllDigits (body_of t) → (bs : List ℕ) × Reads t (Ok bs)
 Reads-digits t even a = let s = Spells-some (body_of t) (body-parity t ∙ even) a in (s.0, (even, s.1))
 
 -- ---- texts of n bytes
 
--- what the test says about a text
+-- what the test `is_text_of` means
 is_text-parts : (n : ℕ) (t : List ℕ) → IsTrue (is_text_of n t) → (length (body_of t) ≡ 2 * n) × AllDigits (body_of t)
 is_text-parts n t e = let p = and_parts _ _ e in (eqb-true _ _ p.0, AllPass-from_list_all _ (body_of t) p.1)
 
--- a text is read as n bytes if and only if the test says so
+-- a text decodes to n bytes if and only if the test accepts it
 pub sized_accepts : (n : ℕ) (t : List ℕ) (r : Result (List ℕ) FromHexError) → ReadsSized t n r
     → IsOk r ↔ IsTrue (is_text_of n t)
 sized_accepts n t (Ok bs) h = (
@@ -59,6 +59,9 @@ sized_accepts n t (Ok bs) h = (
   λ _. refl,
 )
 sized_accepts n t (Err e) h =
-    (λ gone. absurd (cc gone), λ is. absurd (grind (arith, digits_no_bad, body-parity, is_text-parts n t is)))
+    (
+      λ is_ok. absurd (cc is_ok),
+      λ accepted. absurd (grind (arith, digits_no_bad, body-parity, is_text-parts n t accepted)),
+    )
 
 pub ruleset checked = (Reads-digits, Spells-no_bad)

@@ -1,17 +1,17 @@
--- Text that was written is read again, and the canonical text of what a text decodes to.
+-- Encoded text decodes to the same bytes, and the decoded bytes encode to the text in lowercase.
 use Rattle.std.proofs.Common.{◌≡◌, ℕ, ◌+◌, ◌/◌, ◌%◌, nat_le, ◌&&◌, if◌then◌else◌, false, List, [], ◌∷◌, Some, refl, sym, ◌∙◌, arith, ◌↔◌, ◌*◌, Bool, true, length, Result, Ok, Err, IfOk, IfErr, ◌≢◌}
 use Rattle.std.proofs.lemmas.Bool.Decides.{nat_tests}
 use Rattle.const_hex.specs.Prelude.{hex_value, hex_digit, hex_text, Spells, lowered, full_text, body_of, Reads, ReadsSized, IsOdd, AreBytes, Decodes, DecodesToArray, FromHexError, NoMemory, OddLength}
 use Rattle.const_hex_arch.proofs.lemmas.Digits.{hex_value-small}
 use Rattle.const_hex_arch.proofs.lemmas.Texts.{Spells-same, Spells-bytes, Spells-hex_text, length-hex_text, length-full_text}
-use Rattle.const_hex.proofs.lemmas.Reading.{one_answer, one_sized_answer, sized_accepts}
+use Rattle.const_hex.proofs.lemmas.Reading.{result_unique, sized_result_unique, sized_accepts}
 
--- the lower digit of a digit's value
+-- the lowercase digit of a digit's value
 lowered_digit : (c v : ℕ) → hex_value c ≡ Some v
     → hex_digit false v ≡ (if nat_le 65 c && nat_le c 70 then c + 32 else c)
 lowered_digit c v h = grind (arith, nat_tests)
 
--- the text of the bytes that a text decodes to is that text in lowercase
+-- the bytes that a text decodes to encode to this text in lowercase
 pub hex_text-lowered : (u bs : List ℕ) → Spells u bs → hex_text false bs ≡ lowered u
 unfolding hex_text
 hex_text-lowered [] [] s = refl
@@ -34,23 +34,23 @@ Spells-agree u v xs ys s t =
 
 pub ruleset read_back = (hex_text-lowered, Spells-agree)
 
--- ---- text that was written is read again
+-- ---- encoded text decodes to the same bytes
 
--- the body of a full text is its text
+-- the body of a text with a prefix is its digits
 pub body-full_text : (prefix up : Bool) (bs : List ℕ) → body_of (full_text prefix up bs) ≡ hex_text up bs
 unfolding hex_text
 body-full_text true up bs = refl
 body-full_text false up [] = refl
 body-full_text false up (b ∷ bs) = grind (arith, nat_tests)
 
--- what was written is read as its bytes
+-- a text that was encoded from bytes decodes to them
 pub Reads-full_text : (t : List ℕ) (prefix up : Bool) (bs : List ℕ) → AreBytes bs → t ≡ full_text prefix up bs
     → Reads t (Ok bs)
 Reads-full_text t prefix up bs h e = grind (arith, length-full_text, body-full_text, Spells-hex_text)
 
--- ---- what any text gives
+-- ---- the results for any text
 
--- a decoder that returns the reader's result, or out of memory, keeps all that `decode` promises
+-- from the clauses ok, err and odd follow all fields of the contract of `decode`
 pub Decodes-from : {V : Type 0} (items : V → List ℕ) (t : List ℕ) (r : Result V FromHexError)
     → IfOk r (λ v. Reads t (Ok (items v))) → IfErr r (λ e. e ≢ NoMemory → Reads t (Err e))
     → (r ≡ Err OddLength) ↔ IsOdd (length t) → Decodes items t r
@@ -58,7 +58,7 @@ Decodes-from items t (Ok v) ok err odd = record {
   ok = ok;
   err = err;
   odd = odd;
-  round_trip = λ prefix up bs h e. cc (one_answer t (Ok (items v)) (Ok bs) ok (Reads-full_text t prefix up bs h e));
+  round_trip = λ prefix up bs h e. cc (result_unique t (Ok (items v)) (Ok bs) ok (Reads-full_text t prefix up bs h e));
   canonical = hex_text-lowered (body_of t) (items v) ok.1;
   agree = λ u bs k. Spells-agree (body_of u) (body_of t) bs (items v) k.1 ok.1;
 }
@@ -67,8 +67,8 @@ Decodes-from items t (Err f) ok err odd = record {
   err = err;
   odd = odd;
   round_trip = λ prefix up bs h e.
-      let other = λ (is : f ≢ NoMemory).
-      one_answer t (Err f) (Ok bs) (err is) (Reads-full_text t prefix up bs h e) in
+      let other = λ (not_memory : f ≢ NoMemory).
+      result_unique t (Err f) (Ok bs) (err not_memory) (Reads-full_text t prefix up bs h e) in
       grind (arith, other);
   canonical = tt;
   agree = λ u bs k. tt;
@@ -79,15 +79,15 @@ pub sized_agree : (n : ℕ) (t : List ℕ) (r : Result (List ℕ) FromHexError) 
 sized_agree n t (Ok v) h u bs k = Spells-agree (body_of u) (body_of t) bs v k.1.1 h.1.1
 sized_agree n t (Err e) h u bs k = tt
 
--- a result for n bytes keeps all that `decode_to_array` promises
+-- from `ReadsSized` follow all fields of the contract of `decode_to_array`
 pub DecodesToArray-from_ReadsSized : (n : ℕ) (t : List ℕ) (r : Result (List ℕ) FromHexError) → ReadsSized t n r
     → DecodesToArray n t r
 DecodesToArray-from_ReadsSized n t r h = record {
-  answer = h;
+  outcome = h;
   accepts = sized_accepts n t r h;
   round_trip = λ prefix up bs bytes len e.
       let twice : length (body_of t) ≡ 2 * n = rw (e, body-full_text prefix up bs, length-hex_text up bs, len) refl in
-      one_sized_answer t n r (Ok bs) h (twice, Reads-full_text t prefix up bs bytes e);
+      sized_result_unique t n r (Ok bs) h (twice, Reads-full_text t prefix up bs bytes e);
   agree = sized_agree n t r h;
-  unique = λ s k. one_sized_answer t n s r k h;
+  unique = λ s k. sized_result_unique t n s r k h;
 }

@@ -1,15 +1,15 @@
--- A search for the first byte that is not a digit.
+-- Lemmas for the search for the first invalid character.
 use Rattle.std.proofs.Common.{◌≡◌, ◌≢◌, ◌+◌, ◌<◌, ◌↔◌, ℕ, List, length, take, get_or, bit_or, ltb, IsTrue, arith}
 use Rattle.std.proofs.lemmas.Bool.Decides.{nat_tests}
 use Rattle.const_hex.specs.Prelude.{AllDigits, IsDigit, value_or_nil, hex_value}
 use Rattle.std.proofs.lemmas.Nat.{or_lt}
 use Rattle.const_hex_arch.proofs.lemmas.Digits.{digit_small, two_digits, digits_more}
 
--- the look-up takes a digit for one
+-- the table has a value for a digit
 pub has_value : (b : ℕ) → IsDigit b → value_or_nil (hex_value b) ≢ 255
 has_value b digit = grind (arith, nat_tests)
 
--- one test of two look-ups
+-- one test of two table look-ups
 pub both_digits : (b c v w : ℕ) → v ≡ value_or_nil (hex_value b) → w ≡ value_or_nil (hex_value c)
     → IsTrue (ltb (bit_or v w) 128) ↔ (IsDigit b × IsDigit c)
 both_digits b c v w e f = (
@@ -19,7 +19,7 @@ both_digits b c v w e f = (
       grind (arith, nat_tests),
 )
 
--- two digits more
+-- the text has two more digits
 pub two_more : (u : List ℕ) (i j next : ℕ) → j < length u → j ≡ i + 1 → next ≡ j + 1 → IsDigit (get_or u i 0)
     → IsDigit (get_or u j 0) → AllDigits (take i u) → AllDigits (take next u)
 two_more u i j next within one two first second done =

@@ -1,16 +1,16 @@
--- Proofs by hand, which follow the machine's steps, for calls with a starred clause (`after`). Such a clause says what
--- a buffer or a slice holds after the text that it lent is given back. The borrow checker cannot prove it.
+-- A walk is a manual proof by symbolic execution: it executes a function's MIR statement by statement, in separation
+-- logic. It is needed for a starred clause (`after`), which says what a buffer or a slice holds once a borrow that was
+-- returned has ended. The generated proofs of the borrow checker do not cover this.
 --
--- `LentText` is the walk for a function that takes the text out of the struct that one call returns: `Buffer::format`,
--- `format_upper`, `format_slice`, `format_slice_upper`. It passes on the clauses of that call, whatever they are.
--- `EncodedStr` is the walk for a function that passes a slice through one call, and shares it with another:
--- `encode_to_str` and `encode_to_str_upper`. The `Proof.antt` of each function names its calls and passes them to its
--- walk.
+-- `LentText` is the walk for a function that returns the text inside the struct that one call returns:
+-- `Buffer::format`, `format_upper`, `format_slice`, `format_slice_upper`. It keeps the clauses of that call, whatever
+-- they are. `EncodedStr` is the walk for a function that passes a slice mutably to one call, and then immutably to
+-- another: `encode_to_str` and `encode_to_str_upper`. The `Proof.antt` of each function passes its calls to the walk.
 --
--- What breaks a walk: it names the function's locals by their numbers, and takes its calls in their order. So a new
--- local, a new call or another order in one of these functions breaks it. Other code does not.
+-- What breaks a walk: it refers to the function's locals by number, and to its calls in order. So a new local, a new
+-- call or another order in one of these functions breaks it. Other code does not.
 --
--- How to mend one: as `proofs/lemmas/Walks.antt` of `const_hex_arch` says, with `--start F` for the function F.
+-- How to repair one: as `proofs/lemmas/Walks.antt` of `const_hex_arch` says, with `--start F` for the function F.
 pub mod EncodedStr
 pub mod LentText
 use Rattle.std.proofs.Common.{Bool, true, false, List}
@@ -22,7 +22,7 @@ use types.Logic.{Logic}
 use types.Kit.{Item}
 use types.Run.{Opd, true_lit, false_lit}
 
--- `true` or `false`, as code passes it
+-- `true` or `false`, as a MIR operand
 abbrev pub flag : Bool → Operand
 flag true = opd_true
 flag false = opd_false

@@ -1,4 +1,4 @@
--- Texts that are passed to a writer in pieces.
+-- Texts that are written to a writer in pieces.
 use Rattle.std.proofs.Common.{◌≡◌, ℕ, ◌+◌, ◌-◌, ◌≤◌, true, false, List, [], ◌∷◌, ◌++◌, length, take, drop, Option, sym, ap, ◌∙◌, arith, inl, inr, min, Some, None, is_some, IfSome, ◌≢◌}
 use Rattle.std.proofs.lemmas.Bool.{cases_Bool, false_from_ne_true}
 use Rattle.std.proofs.KnownBytes.{Appends-kept, Appends-nil, Appends-trans}
@@ -14,7 +14,7 @@ use Rattle.std.specs.declared.io.ErrorKind.TheVariants.{Interrupted}
 use Rattle.const_hex.specs.Prelude.{Offers, Streams, WriteStep, sink_writer, has_failed}
 use Rattle.const_hex.specs.declared.write_sink.WriteSink.{WriteSink}
 
--- n bytes of what follows the first `done` bytes end inside the whole
+-- `done` bytes, and n of those that follow, are within the slice
 pub step_within : (bytes : List ℕ) (done n : ℕ) → done ≤ length bytes
     → n ≤ length (take (length bytes - done) (drop done bytes)) → done + n ≤ length bytes
 step_within bytes done n started inside =
@@ -37,11 +37,11 @@ no_error None h = tt
 no_error (Some e) h = cc h
 
 module _ {W : Type 0} (contents : W → Option (List ℕ)) where
-  -- a text that follows another is written, unless the first failed and nothing more was tried
-  joined : (s : WriteSink W) (a : List ℕ) (m : WriteSink W) (b : List ℕ) (t : WriteSink W)
+  -- two texts are written as their concatenation; if the first write fails, the second is not tried
+  write_concat : (s : WriteSink W) (a : List ℕ) (m : WriteSink W) (b : List ℕ) (t : WriteSink W)
       → WriteStep contents s a m → WriteStep contents m b t → (has_failed m ≡ true → t ≡ m)
       → WriteStep contents s (a ++ b) t
-  joined s a m b t h k stays = record {
+  write_concat s a m b t h k stays = record {
     same_writer = k.same_writer ∙ h.same_writer;
     accepted = λ u.
         let before = false_from_ne_true (has_failed m) (λ v. cc (stays v)) in
@@ -61,28 +61,28 @@ module _ {W : Type 0} (contents : W → Option (List ℕ)) where
     nothing = λ e. let none = append-eq-nil_iff.0 e in k.nothing none.1 ∙ h.nothing none.0;
   }
 
-  -- after a failure no piece is offered
-  none_after : (m : WriteSink W) (ps : List (List ℕ)) (t : WriteSink W) → Offers (WriteStep contents) has_failed m ps t
-      → has_failed m ≡ true → t ≡ m
-  none_after m [] t h u = sym h
-  none_after m (p ∷ ps) t h u = cc (h.0)
+  -- after a failure no piece is written
+  unchanged_after_failure : (m : WriteSink W) (ps : List (List ℕ)) (t : WriteSink W)
+      → Offers (WriteStep contents) has_failed m ps t → has_failed m ≡ true → t ≡ m
+  unchanged_after_failure m [] t h u = sym h
+  unchanged_after_failure m (p ∷ ps) t h u = cc (h.0)
 
-  -- pieces that were offered are written as one text, with what is left, if a write failed
-  passed : (s : WriteSink W) (ps : List (List ℕ)) (t : WriteSink W) (left : List ℕ)
+  -- the pieces that were offered are written as their concatenation; `left` are those that were not, after a failure
+  write_pieces : (s : WriteSink W) (ps : List (List ℕ)) (t : WriteSink W) (left : List ℕ)
       → Offers (WriteStep contents) has_failed s ps t
       → (has_failed t ≡ false → left ≡ []) → WriteStep contents s (concat ps ++ left) t
-  passed s [] t left h none = record {
+  write_pieces s [] t left h none = record {
     same_writer = cc;
     accepted = λ u. rw (none u, h) (Appends-nil (contents (sink_writer t)));
     refused = λ _. (0, rw h (Appends-nil (contents (sink_writer t))));
     retried = λ u. no_error t.error (rw h at u);
     nothing = λ _. sym h;
   }
-  passed s (p ∷ ps) t left (e, (m, h, k)) none =
+  write_pieces s (p ∷ ps) t left (e, (m, h, k)) none =
       rw append_assoc
-      (joined s p m (concat ps ++ left) t h (passed m ps t left k none) (none_after m ps t k))
+      (write_concat s p m (concat ps ++ left) t h (write_pieces m ps t left k none) (unchanged_after_failure m ps t k))
 
-  -- a text that is passed in pieces is written as if it were one piece
+  -- a text that is streamed in pieces is written as one piece would be
   pub streamed_text : (s : WriteSink W) (text : List ℕ) (t : WriteSink W)
       → Streams (WriteStep contents) has_failed s text t → WriteStep contents s text t
   streamed_text s text t h =
@@ -91,5 +91,5 @@ module _ {W : Type 0} (contents : W → Option (List ℕ)) where
       let whole : concat offered ++ concat left ≡ text =
       sym (concat-append offered left) ∙ ap (λ x. concat x) (take-append-drop h.offered h.pieces) ∙ h.cut.whole in
       rw whole at
-      (passed s offered t (concat left) h.run
+      (write_pieces s offered t (concat left) h.run
       (λ u. ap (λ x. concat x) (drop_all h.offered h.pieces (omega (arith, h.complete u)))))

@@ -1,4 +1,4 @@
-//! An array of ASCII bytes that is lent as text.
+//! An array of ASCII bytes, which can be borrowed as text.
 
 ghost use Rattle.std.specs.Prelude.{◌≡◌, ◌<◌, length, replicate, slice_set, IsAscii};
 ghost use Rattle.const_hex_arch.specs.Texts.{full_text, text_length};

@@ -1,4 +1,4 @@
-//! Whether a text can be decoded.
+//! Checking whether a text can be decoded.
 
 ghost use Rattle.std.specs.Prelude.{◌↔◌, Result, Ok, IsTrue};
 ghost use Rattle.const_hex.specs.Prelude.{AllDigits, ChecksText, FromHexError};
@@ -26,7 +26,7 @@ pub fn check(input: &[u8]) -> Result<(), FromHexError>
     check_with::<FixedKernel>(input)
 }
 
-/// As [`check`], by a kernel of the caller's choice. Does not allocate.
+/// As [`check`], with a kernel of the caller's choice. Does not allocate.
 ///
 /// ```rust
 /// assert_eq!(rt; const_hex::check_with::<Plain>(b"0X6B"), Ok(()));

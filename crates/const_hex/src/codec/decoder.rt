@@ -1,7 +1,7 @@
-//! Decoding a text that arrives in chunks.
+//! The streaming decoder, for a text that arrives in chunks.
 
 ghost use Rattle.std.specs.Prelude.{◌≡◌, ◌≢◌, ℕ, List, [], ◌∷◌, None, ◌++◌, ◌*◌, ◌+◌, ◌/◌, ◌%◌, ◌≤◌, ◌↔◌, Some, Ok, Err, true, false, length, take, drop, slice_index, IsOk, OnErr, IfSome, IsTrue, option_to_list};
-ghost use Rattle.const_hex.specs.Prelude.{AllDigits, FirstBad, IsDigit, Partial, Spells, IsOdd, Reads, body_of, HasRead, counted, error_of, position_of, waiting_digit, zero_decoder, ChecksChunk, DecodesChunk, FromHexError, OddLength, InvalidStringLength, InvalidHexCharacter};
+ghost use Rattle.const_hex.specs.Prelude.{AllDigits, FirstBad, IsDigit, Partial, Spells, IsOdd, Reads, body_of, HasRead, saturated, error_of, position_of, pending_digit, zero_decoder, ChecksChunk, DecodesChunk, FromHexError, OddLength, InvalidStringLength, InvalidHexCharacter};
 
 use crate::codec::body::{
     decode_body, find_first_invalid, invalid_character, is_prefix, strip_prefix,
@@ -9,11 +9,11 @@ use crate::codec::body::{
 use crate::error::FromHexError;
 use const_hex_arch::{FixedKernel, Kernel, is_digit};
 
-/// The state of a decoder that has neither half of a pair nor an error.
+/// The state of a decoder without a pending digit and without an error.
 const EVEN: u8 = 0;
-/// The state of a decoder whose byte is a digit that waits for its other half.
-const WAITING: u8 = 1;
-/// The state of a decoder that found an invalid character.
+/// The state of a decoder whose `byte` is the pending first digit of a pair.
+const PENDING: u8 = 1;
+/// The state of a decoder after an invalid character, which is its `byte`.
 const FAILED: u8 = 2;
 
 /// Decodes a text that arrives in chunks, as from a file or a socket.
@@ -22,8 +22,8 @@ const FAILED: u8 = 2;
 /// digits, or into empty chunks. Only a prefix at the start of the whole text is removed.
 ///
 /// Pass each chunk to [`decode`](Decoder::decode), and call [`finish`](Decoder::finish) at the end
-/// of the text. [`decode_to_slice`](crate::decode_to_slice) names an odd length before any invalid
-/// character. A decoder cannot: it names the first invalid character at once, and an odd length at
+/// of the text. [`decode_to_slice`](crate::decode_to_slice) reports an odd length before any invalid
+/// character. A decoder cannot: it reports the first invalid character at once, and an odd length at
 /// the end.
 ///
 /// ```rust
@@ -34,14 +34,13 @@ const FAILED: u8 = 2;
 /// assert_eq!(rt; decoder.finish(), Ok(()));
 /// assert_eq!(rt; &bytes, b"kiwi");
 /// ```
-// Calls for C take this struct as it is. Its bytes may then have any values, and if all are zero it
-// is a new decoder.
+// The C interface exposes this struct: its bytes may then have any values, and all zeros are a new decoder.
 #[repr(C)]
 #[derive(Clone, Copy, Debug)]
 pub struct Decoder {
-    /// How many bytes were read, or the position of the invalid character.
+    /// The number of bytes that were read, or the position of the invalid character.
     index: usize,
-    /// The digit that waits, or the invalid character.
+    /// The pending digit, or the invalid character.
     byte: u8,
     state: u8,
 }
@@ -68,8 +67,8 @@ impl Decoder {
     /// their number. The rest of the output is unchanged.
     ///
     /// A chunk of n characters decodes to at most (n + 1) / 2 bytes, so an output of that size always
-    /// suffices. A digit without its other half is kept for the next chunk. The first of these errors
-    /// is returned:
+    /// suffices. The first digit of an incomplete pair is stored for the next chunk. The first of these
+    /// errors is returned:
     ///
     /// - [`FromHexError::InvalidHexCharacter`], if an earlier chunk had an invalid character: the
     ///   same error again. Nothing changes;
@@ -96,8 +95,8 @@ impl Decoder {
         self.decode_with::<FixedKernel>(chunk, output)
     }
 
-    /// As [`decode`](Decoder::decode), by a kernel of the caller's choice. Each chunk may have
-    /// another. Does not allocate.
+    /// As [`decode`](Decoder::decode), with a kernel of the caller's choice, which may differ from chunk
+    /// to chunk. Does not allocate.
     ///
     /// ```rust
     /// let mut decoder = Decoder::new();
@@ -115,15 +114,15 @@ impl Decoder {
         if let Some(error) = self.error() {
             return Err(error);
         }
-        let (waiting, digits) = self.next_digits(chunk);
-        let count = count_pairs(waiting, digits);
+        let (pending, digits) = self.next_digits(chunk);
+        let count = count_pairs(pending, digits);
         if count > output.len() {
             return Err(FromHexError::InvalidStringLength);
         }
-        if !decode_next::<K>(waiting, digits, &mut output[..count]) {
+        if !decode_next::<K>(pending, digits, &mut output[..count]) {
             return Err(self.fail::<K>(chunk.len() - digits.len(), digits));
         }
-        self.advance(chunk.len(), left_over(waiting, digits, count));
+        self.advance(chunk.len(), left_over(pending, digits, count));
         Ok(count)
     }
 
@@ -146,17 +145,17 @@ impl Decoder {
         if let Some(error) = self.error() {
             return Err(error);
         }
-        let (waiting, digits) = self.next_digits(chunk);
+        let (pending, digits) = self.next_digits(chunk);
         if !FixedKernel::check(digits) {
             return Err(self.fail::<FixedKernel>(chunk.len() - digits.len(), digits));
         }
-        let pairs = count_pairs(waiting, digits);
-        self.advance(chunk.len(), left_over(waiting, digits, pairs));
+        let pairs = count_pairs(pending, digits);
+        self.advance(chunk.len(), left_over(pending, digits, pairs));
         Ok(())
     }
 
-    /// Ends the text. `Ok` if it was read whole: then the chunks together are a text that
-    /// [`decode`](crate::decode) accepts.
+    /// Ends the text. Returns `Ok` if the chunks together are a text that [`decode`](crate::decode)
+    /// accepts.
     ///
     /// Returns [`FromHexError::OddLength`] if the text has an odd number of bytes and no invalid
     /// character, so also for a lone `0`. If a chunk had an invalid character, returns its error again.
@@ -174,12 +173,12 @@ impl Decoder {
             → (result ≡ Err OddLength) ↔ IsOdd (length t) }
         ensures err { (t bs : List ℕ) → HasRead self t bs
             → OnErr result (result ≡ Err OddLength) }
-        ensures kept_error { IfSome (error_of self) (λ e. result ≡ Err e) }
+        ensures error_repeated { IfSome (error_of self) (λ e. result ≡ Err e) }
     {
         if let Some(error) = self.error() {
             return Err(error);
         }
-        if self.state == WAITING {
+        if self.state == PENDING {
             return Err(FromHexError::OddLength);
         }
         Ok(())
@@ -200,37 +199,37 @@ impl Decoder {
         self.index
     }
 
-    /// The error that ended the text.
+    /// The stored error, if a chunk had an invalid character.
     #[inline(always)]
     fn error(&self) -> Option<FromHexError>
         ensures { result ≡ error_of self.now }
     {
-        if self.state <= WAITING {
+        if self.state <= PENDING {
             return None;
         }
         Some(invalid_character(self.byte, self.index))
     }
 
-    /// The digit that waits for its other half.
+    /// The pending digit, if there is one.
     #[inline(always)]
-    fn waiting(&self) -> Option<u8>
-        ensures { option_to_list result ≡ waiting_digit self.now }
+    fn pending(&self) -> Option<u8>
+        ensures { option_to_list result ≡ pending_digit self.now }
     {
-        if self.state == WAITING {
+        if self.state == PENDING {
             Some(self.byte)
         } else {
             None
         }
     }
 
-    /// The digit that waits and the digits that follow, if this chunk follows.
+    /// The pending digit and the digits of the next chunk. A prefix is removed, even if it began in an earlier chunk.
     #[inline(always)]
     #[tactic(auto, using(std::proofs::lemmas::Grind::common_steps))]
     fn next_digits<'a>(&self, chunk: &'a [u8]) -> (Option<u8>, &'a [u8])
-        ensures whole { (t pairs : List ℕ) → position_of self.now ≡ counted (length t)
-            → body_of t ≡ pairs ++ waiting_digit self.now → length pairs % 2 ≡ 0
+        ensures body { (t pairs : List ℕ) → position_of self.now ≡ saturated (length t)
+            → body_of t ≡ pairs ++ pending_digit self.now → length pairs % 2 ≡ 0
             → body_of (t ++ chunk.now) ≡ pairs ++ (option_to_list result.0 ++ result.1.now) }
-        ensures waits { AllDigits (waiting_digit self.now) → AllDigits (option_to_list result.0) }
+        ensures pending_valid { AllDigits (pending_digit self.now) → AllDigits (option_to_list result.0) }
         ensures shorter { length result.1.now ≤ length chunk.now }
     {
         if self.index == 0 {
@@ -238,34 +237,34 @@ impl Decoder {
         }
         match chunk {
             [x, rest @ ..] if self.index == 1 && is_prefix(self.byte, *x) => (None, rest),
-            _ => (self.waiting(), chunk),
+            _ => (self.pending(), chunk),
         }
     }
 
-    /// Goes on after so many bytes, with the digit that waits now.
+    /// Advances by `count` bytes, and stores the pending digit.
     #[inline(always)]
-    fn advance(&mut self, count: usize, waiting: Option<u8>)
-        ensures index { position_of self.new ≡ counted (position_of self.old + count) }
-        ensures waiting { waiting_digit self.new ≡ option_to_list waiting }
+    fn advance(&mut self, count: usize, pending: Option<u8>)
+        ensures index { position_of self.new ≡ saturated (position_of self.old + count) }
+        ensures pending { pending_digit self.new ≡ option_to_list pending }
         ensures no_error { error_of self.new ≡ None }
     {
         self.index = self.index.saturating_add(count);
-        match waiting {
+        match pending {
             Some(digit) => {
                 self.byte = digit;
-                self.state = WAITING;
+                self.state = PENDING;
             }
             None => self.state = EVEN,
         }
     }
 
-    /// Ends with the first invalid character of these digits, which stand so many bytes after what was
-    /// read.
+    /// Stores the error for the first invalid character of these digits, which begin `skipped` bytes after what was
+    /// read, and returns it.
     #[cold]
     fn fail<K: Kernel>(&mut self, skipped: usize, digits: &[u8]) -> FromHexError
         ensures names { (AllDigits digits.now → ⊥) → (p : ℕ) × FirstBad digits.now p
             × (result ≡ InvalidHexCharacter (slice_index digits.now p)
-            (counted (position_of self.old + skipped + p))) }
+            (saturated (position_of self.old + skipped + p))) }
         ensures ended { error_of self.new ≡ Some result }
         ensures length { result ≢ InvalidStringLength }
     {
@@ -280,45 +279,45 @@ impl Decoder {
     }
 }
 
-/// How many pairs there are.
+/// The number of pairs.
 #[inline(always)]
-fn count_pairs(waiting: Option<u8>, digits: &[u8]) -> usize
-    ensures { result ≡ length (option_to_list waiting ++ digits.now) / 2 }
+fn count_pairs(pending: Option<u8>, digits: &[u8]) -> usize
+    ensures { result ≡ length (option_to_list pending ++ digits.now) / 2 }
 {
-    (digits.len() + usize::from(waiting.is_some())) / 2
+    (digits.len() + usize::from(pending.is_some())) / 2
 }
 
-/// The digit after so many pairs, if there is one.
+/// The digit after `count` pairs, if there is one.
 #[inline(always)]
-fn left_over(waiting: Option<u8>, digits: &[u8], count: usize) -> Option<u8>
-    requires { count ≡ length (option_to_list waiting ++ digits.now) / 2 }
-    ensures { option_to_list result ≡ drop (2 * count) (option_to_list waiting ++ digits.now) }
+fn left_over(pending: Option<u8>, digits: &[u8], count: usize) -> Option<u8>
+    requires { count ≡ length (option_to_list pending ++ digits.now) / 2 }
+    ensures { option_to_list result ≡ drop (2 * count) (option_to_list pending ++ digits.now) }
 {
-    match (waiting, digits) {
+    match (pending, digits) {
         (None, [.., last]) if digits.len() > 2 * count => Some(*last),
         (Some(_), [.., last]) if digits.len() == 2 * count => Some(*last),
-        (Some(_), []) => waiting,
+        (Some(_), []) => pending,
         _ => None,
     }
 }
 
 /// Decodes the pairs into the output and returns true. Returns false if some byte is not a digit.
 #[inline(always)]
-fn decode_next<K: Kernel>(waiting: Option<u8>, digits: &[u8], output: &mut [u8]) -> bool
-    requires { length output.old ≡ length (option_to_list waiting ++ digits.now) / 2 }
+fn decode_next<K: Kernel>(pending: Option<u8>, digits: &[u8], output: &mut [u8]) -> bool
+    requires { length output.old ≡ length (option_to_list pending ++ digits.now) / 2 }
     ensures digits { IsTrue result → AllDigits digits.now }
     ensures spells { IsTrue result → Spells
-        (take (2 * length output.old) (option_to_list waiting ++ digits.now)) output.new }
+        (take (2 * length output.old) (option_to_list pending ++ digits.now)) output.new }
     ensures invalid { result ≡ false
-        → Partial output.old (option_to_list waiting ++ digits.now) output.new }
+        → Partial output.old (option_to_list pending ++ digits.now) output.new }
 {
-    match waiting {
+    match pending {
         Some(high) => decode_after::<K>(high, digits, output),
         None => decode_digits::<K>(digits, output),
     }
 }
 
-/// As `decode_next`, after a digit that waits.
+/// As `decode_next`, after a pending digit.
 // Not inlined: with this body `decode_with` would be too large to be inlined.
 #[inline(never)]
 fn decode_after<K: Kernel>(high: u8, digits: &[u8], output: &mut [u8]) -> bool
@@ -337,7 +336,7 @@ fn decode_after<K: Kernel>(high: u8, digits: &[u8], output: &mut [u8]) -> bool
     }
 }
 
-/// Decodes the digits into the output and returns true. A last digit without its other half is only
+/// Decodes the digits into the output and returns true. The last digit of an odd number is only
 /// tested. Returns false if some byte is not a digit.
 #[inline(always)]
 fn decode_digits<K: Kernel>(digits: &[u8], output: &mut [u8]) -> bool
@@ -352,7 +351,7 @@ fn decode_digits<K: Kernel>(digits: &[u8], output: &mut [u8]) -> bool
 }
 
 /// Whether the byte after the pairs, if there is one, is a digit.
-// Not by `K::check`, which a caller in C would have to call through the dispatcher for one byte.
+// Without `K::check`: called from C, that would go through the dispatcher for a single byte.
 #[inline(always)]
 fn check_last(last: &[u8]) -> bool
     requires { length last.now ≤ 1 }

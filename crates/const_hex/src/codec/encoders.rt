@@ -95,7 +95,7 @@ pub fn encode_full_to_slice(
     encode_full_to_slice_with::<FixedKernel>(input, prefix, upper, output)
 }
 
-/// As [`encode_full_to_slice`], by a kernel of the caller's choice. Does not allocate.
+/// As [`encode_full_to_slice`], with a kernel of the caller's choice. Does not allocate.
 ///
 /// ```rust
 /// let mut text = [0; 8];
@@ -119,7 +119,7 @@ pub fn encode_full_to_slice_with<K: Kernel>(
     Ok(())
 }
 
-/// Fills the output with the text of the input, in lowercase, and lends it as text.
+/// Fills the output with the text of the input, in lowercase, and returns it as a `&str`.
 ///
 /// The output must have exactly two bytes for each byte of the input. Otherwise returns
 /// [`FromHexError::InvalidStringLength`], and the output is unchanged. Does not allocate.
@@ -133,7 +133,7 @@ pub fn encode_to_str<'a>(input: &[u8], output: &'a mut [u8]) -> Result<&'a str, 
     ensures fits { IsOk result ↔ (length output.entry.now ≡ 2 * length input.now) }
     ensures lends { IfOk result (λ text. text.now ≡ hex_text false input.now) }
     ensures error { IfErr result (λ e. e ≡ InvalidStringLength) }
-    // What the slice holds after the loan of it has ended.
+    // What the slice holds once the borrow that was returned has ended.
     ensures* after { sem 𝓛 (Rests (Array u8 0) output.entry (λ new. MatchResult result
         (λ _. new ≡ hex_text false input.now) (λ _. new ≡ output.entry.now))) }
 {
@@ -151,7 +151,7 @@ pub fn encode_to_str_upper<'a>(input: &[u8], output: &'a mut [u8]) -> Result<&'a
     ensures fits { IsOk result ↔ (length output.entry.now ≡ 2 * length input.now) }
     ensures lends { IfOk result (λ text. text.now ≡ hex_text true input.now) }
     ensures error { IfErr result (λ e. e ≡ InvalidStringLength) }
-    // What the slice holds after the loan of it has ended.
+    // What the slice holds once the borrow that was returned has ended.
     ensures* after { sem 𝓛 (Rests (Array u8 0) output.entry (λ new. MatchResult result
         (λ _. new ≡ hex_text true input.now) (λ _. new ≡ output.entry.now))) }
 {

@@ -1,4 +1,4 @@
-//! A formatter as a sink.
+//! A sink that writes to a formatter.
 
 ghost use Rattle.std.specs.Prelude.{◌≡◌, false, None};
 ghost use Rattle.const_hex.specs.Prelude.{FormatterStep, sink_formatter, formatter_name, formatter_failed};
@@ -6,10 +6,10 @@ ghost use Rattle.const_hex.specs.Prelude.{FormatterStep, sink_formatter, formatt
 use const_hex_arch::{Sink, SinkError};
 use std::fmt;
 
-/// Passes pieces on to a formatter, until its first error.
+/// A sink that writes pieces to a formatter, until its first error.
 ///
 /// ```rust
-/// fn in_upper_digits<W: fmt::Write>(bytes: &[u8], f: &mut fmt::Formatter<W>) -> fmt::Result {
+/// fn write_upper<W: fmt::Write>(bytes: &[u8], f: &mut fmt::Formatter<W>) -> fmt::Result {
 ///     let mut sink = FormatterSink::new(f);
 ///     let hex = BufferedHex::<true, false>::new(bytes);
 ///     hex.write_with::<Lanes16, _>(&mut sink).map_err(|_| fmt::Error)
@@ -22,7 +22,7 @@ pub struct FormatterSink<'f, W> {
 }
 
 impl<'f, W: fmt::Write> FormatterSink<'f, W> {
-    /// A sink over the given formatter, which has not refused.
+    /// A sink over the given formatter, which has not failed yet.
     ///
     /// ```rust
     /// let sink = FormatterSink::new(f);

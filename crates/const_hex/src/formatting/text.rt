@@ -17,7 +17,7 @@ use std::fmt;
 /// ```rust
 /// let bytes = const_hex::display(&[0xde, 0xad]);
 /// println!(rt; "{bytes} {bytes:#}")?; // dead 0xdead
-/// fn in_upper_digits<W: fmt::Write>(f: &mut fmt::Formatter<W>) -> fmt::Result {
+/// fn write_upper<W: fmt::Write>(f: &mut fmt::Formatter<W>) -> fmt::Result {
 ///     fmt::UpperHex::fmt(&const_hex::display(&[0xde, 0xad]), f) // DEAD, and 0xDEAD with `#`
 /// }
 /// ```

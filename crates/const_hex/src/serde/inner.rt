@@ -1,14 +1,14 @@
-//! Hexadecimal text for a sink, with short text in one call.
+//! Writing hexadecimal text to a sink, with short text in one call.
 
 ghost use Rattle.std.specs.Prelude.{◌≡◌, ◌<◌, ◌≤◌, false, not, is_ok, length};
 ghost use Rattle.const_hex.specs.Prelude.{full_text, Streams, ReportsCut, ReportsWhole};
 
 use const_hex_arch::{BufferedHex, Sink, SinkError, text_length};
 
-/// Writes the text of some bytes to a sink that has not refused. The text of up to 128 bytes is
+/// Writes the text of some bytes to a sink that has not failed. The text of up to 128 bytes is
 /// written in one call, even if it is empty. More bytes are written as [`BufferedHex`] does.
 ///
-/// Returns [`SinkError`] if the sink refused a piece. Only the sink allocates.
+/// Returns [`SinkError`] if the sink failed. Only the sink allocates.
 ///
 /// ```rust
 /// let mut sink = PieceSink::new(rt.alloc(), 0);
@@ -25,11 +25,11 @@ pub fn serialize_inner<const UPPER: bool, const PREFIX: bool, S: Sink>(
     ensures long { 128 < length bytes.now
         → Streams S.step S.is_refused sink.old (full_text PREFIX UPPER bytes.now) sink.new }
     ensures flag { is_ok result ≡ not (S.is_refused sink.new) }
-    // If the sink's contract reports its pieces and it accepted all of them, they are together the
+    // If the sink's contract reports its pieces and it accepted all of them, their concatenation is the
     // text.
     ensures reported { S.is_refused sink.new ≡ false
         → ReportsWhole (S.reported sink.old) (full_text PREFIX UPPER bytes.now) (S.reported sink.new) }
-    // More than 128 bytes are cut into pieces of a known size.
+    // The text of more than 128 bytes is split into pieces of a known size.
     ensures reported_long { 128 < length bytes.now → S.is_refused sink.new ≡ false
         → ReportsCut (S.reported sink.old) (full_text PREFIX UPPER bytes.now) (S.reported sink.new) }
 {

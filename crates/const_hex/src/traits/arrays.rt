@@ -1,4 +1,4 @@
-//! Reading into arrays.
+//! Decoding into arrays.
 
 ghost use Rattle.const_hex.specs.Prelude.{ReadsSized, DecodesToArray, IsCount, ReadsSized-faithful};
 

@@ -20,7 +20,7 @@ use const_hex_arch::digit_at;
 /// ```
 #[derive(Drop)]
 pub struct BytesToHexChars<'a, const UPPER: bool> {
-    // The bytes not yet begun, and the second character of a byte that is begun.
+    // The bytes of which no character was returned, and the second character of a byte whose first was returned.
     bytes: &'a [u8],
     low: Option<char>,
 }
@@ -51,7 +51,7 @@ impl<const UPPER: bool> Iterator for BytesToHexChars<'_, UPPER> {
     ghost remaining = { item_count (chars_left UPPER) };
 
     #[inline]
-    #[tactic(auto, using(crate::proofs::lemmas::Characters::lefts))]
+    #[tactic(auto, using(crate::proofs::lemmas::Characters::remaining_characters))]
     fn next(&mut self) -> Option<char> {
         match self.low {
             Some(low) => {
@@ -71,7 +71,7 @@ impl<const UPPER: bool> Iterator for BytesToHexChars<'_, UPPER> {
 
     /// Exactly the number of characters that are left.
     #[inline]
-    #[tactic(auto, using(crate::proofs::lemmas::Characters::lefts))]
+    #[tactic(auto, using(crate::proofs::lemmas::Characters::remaining_characters))]
     fn size_hint(&self) -> (usize, Option<usize>)
         ensures lower { IsWithinCount result.0 (item_count (chars_left UPPER) self.now) }
         ensures upper { IfSome result.1 (UpTo (item_count (chars_left UPPER) self.now)) }

@@ -1,4 +1,4 @@
-//! Reading into vectors and boxed slices.
+//! Decoding into vectors and boxed slices.
 
 ghost use Rattle.std.specs.Box.{boxed_slice_items};
 ghost use Rattle.const_hex.specs.Prelude.{AnyCount, ReadsOwned, ReadsOwned-faithful};

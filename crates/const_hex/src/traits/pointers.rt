@@ -1,4 +1,4 @@
-//! Reading into what a pointer owns.
+//! Decoding into a `Box` or an `Rc`.
 
 ghost use Rattle.const_hex.specs.Prelude.{ReadsThrough, ReadsThrough-faithful};
 

@@ -1,4 +1,4 @@
-//! Reading a text into a type.
+//! Decoding a text into a type.
 
 ghost use Rattle.std.specs.Prelude.{ℕ, List, Result};
 ghost use Rattle.const_hex.specs.Prelude.{IsFaithful};
@@ -6,7 +6,7 @@ ghost use Rattle.const_hex.specs.Prelude.{IsFaithful};
 use crate::traits::faults::HexFault;
 use std::alloc::Global;
 
-/// A type that is read from hexadecimal text.
+/// A type that can be decoded from hexadecimal text.
 ///
 /// A type defines the bytes of each value, the numbers of bytes that a value may have, and the
 /// results that each text may have. Generic code may rely on one law, `faithful`: a value has the

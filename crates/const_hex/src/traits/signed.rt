@@ -1,4 +1,4 @@
-//! Reading into signed numbers, which have the bits of the bytes.
+//! Decoding into signed numbers, which have the bits of the bytes.
 
 ghost use Rattle.std.specs.Prelude.{◌≡◌, length, map};
 ghost use Rattle.std.specs.Box.{boxed_slice_items};

@@ -1,4 +1,4 @@
-//! Writing a value's bytes as text.
+//! Encoding a value's bytes as text.
 
 ghost use Rattle.std.specs.Prelude.{◌≡◌, ℕ, List, true, false, IfOk, string_bytes};
 ghost use Rattle.const_hex.specs.Prelude.{hex_text, full_text};
@@ -6,7 +6,7 @@ ghost use Rattle.const_hex.specs.Prelude.{hex_text, full_text};
 use crate::owned::{encode, encode_prefixed, encode_upper, encode_upper_prefixed};
 use std::alloc::{AllocError, Global};
 
-/// A type that holds bytes.
+/// A type that holds bytes, as `AsRef<[u8]>` in Rust.
 trait HoldsBytes {
     ghost held_bytes: { Self → List ℕ };
 
@@ -38,7 +38,7 @@ impl<const N: usize> HoldsBytes for [u8; N] {
     }
 }
 
-/// A type whose bytes are written as hexadecimal text: `Vec<u8>`, `String` and `[u8; N]`.
+/// A type whose bytes can be encoded as hexadecimal text: `Vec<u8>`, `String` and `[u8; N]`.
 ///
 /// ```rust
 /// let text = ToHex::encode_hex(&"kiwi".to_string(rt.alloc())?, rt.alloc())?;

@@ -1,14 +1,14 @@
-//! Constants that the program writes as text. Verification rejects a wrong one.
+//! Constants that the source has as text. Verification rejects an invalid one.
 
 ghost use Rattle.std.specs.Prelude.{Ok};
 ghost use Rattle.const_hex.specs.Prelude.{ReadsSized};
 
 use const_hex::{bytes_of, decode_to_array};
 
-/// The address of the contract of wrapped ether.
+/// The address of the contract of Wrapped Ether (WETH).
 const WRAPPED_ETHER: &[u8; 42] = b"0xC02aaA39b223FE8D0A0e5C4F27eAD9083C756Cc2";
 
-/// The hash of `Transfer(address,address,uint256)`, which finds logs of transfers.
+/// The topic of the event `Transfer(address,address,uint256)`.
 const TRANSFER: &[u8; 66] = b"0xddf252ad1be2c89b69c2b068fc378daa952ba7f163c4a11628f55a4df523b3ef";
 
 /// The address as bytes.
@@ -18,7 +18,7 @@ pub fn wrapped_ether() -> [u8; 20]
     bytes_of(WRAPPED_ETHER)
 }
 
-/// The hash as bytes, by a call that returns an error for another text.
+/// The topic as bytes, by a call that returns an error for an invalid text.
 pub fn transfer() -> [u8; 32]
     ensures { ReadsSized TRANSFER.now 32 (Ok result) }
 {

@@ -1,4 +1,4 @@
-//! What a function promises that only calls `const_hex`, in the words of its contract.
+//! A function that only calls `const_hex`, with a contract in the same terms.
 
 ghost use Rattle.std.specs.Prelude.{◌≡◌, ◌≢◌, ◌↔◌, ◌⊎◌, ◌++◌, IsOk, IfOk, IfErr, OnOk, OnErr, Ok, Err, true, false, List, ℕ, length, string_bytes};
 ghost use Rattle.const_hex.specs.Prelude.{full_text, hex_text, Reads, ReadsSized, body_of, lowered};

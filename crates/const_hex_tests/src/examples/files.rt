@@ -1,4 +1,4 @@
-//! A file or a socket that receives text.
+//! Writing text to a file or a socket.
 
 ghost use Rattle.std.specs.Prelude.{◌≡◌, ◌≢◌, ◌∷◌, ◌++◌, [], true, false, OnOk, OnErr, IfErr, IsOk};
 ghost use Rattle.std.specs.IoError.{error_kind};
@@ -14,7 +14,7 @@ pub fn write_text<W: Write>(bytes: &[u8], writer: &mut W) -> io::Result<()>
         (Appends (W.contents writer.old) (W.contents writer.new) (full_text true false bytes.now)) }
     ensures err { OnErr result (WritesBeginning (W.contents writer.old) (W.contents writer.new)
         (full_text true false bytes.now)) }
-    // A call that a signal interrupts is made again.
+    // A call that a signal interrupts is retried.
     ensures retried { IfErr result (λ e. error_kind e ≢ ErrorKind.Interrupted) }
 {
     let mut sink = WriteSink::new(writer);

@@ -1,4 +1,4 @@
-//! A response of Ethereum's JSON-RPC that has a contract's code.
+//! A response of Ethereum's JSON-RPC with a contract's code.
 
 ghost use Rattle.std.specs.Prelude.{◌≡◌, ◌↔◌, ◌++◌, ℕ, codes, decimal, string_bytes, None, Ok, Err, IfOk, IfSome, option_and_then};
 ghost use Rattle.serde_json.specs.Find.{as_str, get};
@@ -11,7 +11,7 @@ use const_hex::{FromHexError, JsonError, deserialize};
 use serde_json::Value;
 use std::alloc::{AllocError, Global};
 
-/// The code in a response, whose member `result` is `0x` and its bytes.
+/// The code in a response, whose member `result` is its hexadecimal text.
 pub fn code_of(alloc: Global, response: &Value) -> Result<Vec<u8>, JsonError<FromHexError>>
     ensures code { IfOk result (λ v.
         IfSome (option_and_then as_str (get (codes "result") (view response.now)))
@@ -25,8 +25,8 @@ pub fn code_of(alloc: Global, response: &Value) -> Result<Vec<u8>, JsonError<Fro
     }
 }
 
-/// What a user sees of a response without code.
-pub fn reason(alloc: Global, error: &JsonError<FromHexError>) -> Result<String, AllocError>
+/// The message that a user sees for a response without code.
+pub fn error_message(alloc: Global, error: &JsonError<FromHexError>) -> Result<String, AllocError>
     ensures not_text { error.now ≡ NotText
         → IfOk result (λ s. string_bytes s ≡ codes "expected a hex encoded string") }
     ensures odd { error.now ≡ Hex OddLength

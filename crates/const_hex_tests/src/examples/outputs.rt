@@ -1,4 +1,4 @@
-//! Outputs that gather text, and sinks as outputs.
+//! Outputs that buffer text, and sinks as outputs.
 
 ghost use Rattle.std.specs.Prelude.{◌≡◌, ◌≤◌, ◌∷◌, [], false, codes, length, IsAscii};
 ghost use Rattle.std.specs.List.{FoldsTo};
@@ -7,36 +7,36 @@ ghost use Rattle.const_hex.specs.Outputs.{HasSpace, less_space};
 use const_hex::{BufferedOutput, Output, PieceSink, Sink, SinkOutput};
 use std::alloc::Global;
 
-/// Writes two texts, which are gathered into one piece.
-pub fn write_as_one<O: Output>(mut gathering: BufferedOutput<O, 8>) -> O
-    requires empty { gathering.1 ≡ [] }
-    requires fits { HasSpace (O.space gathering.0) 4 }
-    ensures { O.step gathering.0 (codes "c0de") result }
+/// Writes two texts, which are buffered into one piece.
+pub fn write_as_one<O: Output>(mut buffered: BufferedOutput<O, 8>) -> O
+    requires empty { buffered.1 ≡ [] }
+    requires fits { HasSpace (O.space buffered.0) 4 }
+    ensures { O.step buffered.0 (codes "c0de") result }
 {
-    gathering.write(b"c0");
-    gathering.write(b"de");
-    gathering.finish()
+    buffered.write(b"c0");
+    buffered.write(b"de");
+    buffered.finish()
 }
 
-/// Writes a text that is longer than what is gathered. It is a piece of its own.
-pub fn write_long<O: Output>(mut gathering: BufferedOutput<O, 3>) -> O
-    requires empty { gathering.1 ≡ [] }
-    requires fits { HasSpace (O.space gathering.0) 6 }
-    ensures { FoldsTo O.step gathering.0 (codes "0x" ∷ codes "c0de" ∷ []) result }
+/// Writes a text that is longer than the buffer. It is a piece of its own.
+pub fn write_long<O: Output>(mut buffered: BufferedOutput<O, 3>) -> O
+    requires empty { buffered.1 ≡ [] }
+    requires fits { HasSpace (O.space buffered.0) 6 }
+    ensures { FoldsTo O.step buffered.0 (codes "0x" ∷ codes "c0de" ∷ []) result }
 {
-    gathering.write(b"0x");
-    gathering.write(b"c0de");
-    gathering.finish()
+    buffered.write(b"0x");
+    buffered.write(b"c0de");
+    buffered.finish()
 }
 
-/// Gathers text. What is gathered has at most eight bytes, and fits into the output.
-pub fn gather<O: Output>(gathering: &mut BufferedOutput<O, 8>, text: &[u8])
+/// Buffers text. The buffered text has at most eight bytes, and fits into the output.
+pub fn buffer_text<O: Output>(buffered: &mut BufferedOutput<O, 8>, text: &[u8])
     requires ascii { IsAscii text.now }
-    requires fits { HasSpace (less_space (O.space gathering.old.0) (length gathering.old.1)) (length text.now) }
-    ensures bound { length gathering.new.1 ≤ 8 }
-    ensures fits { HasSpace (O.space gathering.new.0) (length gathering.new.1) }
+    requires fits { HasSpace (less_space (O.space buffered.old.0) (length buffered.old.1)) (length text.now) }
+    ensures bound { length buffered.new.1 ≤ 8 }
+    ensures fits { HasSpace (O.space buffered.new.0) (length buffered.new.1) }
 {
-    gathering.write(text);
+    buffered.write(text);
 }
 
 /// Writes to a sink as to an output.
@@ -62,7 +62,7 @@ pub fn send_to_failing(alloc: Global) -> PieceSink
     sink
 }
 
-/// Whether a sink that is to fail at the second call accepts two pieces: never.
+/// Whether a sink whose second call fails accepts two pieces: never.
 pub fn accepts_two(alloc: Global) -> bool
     ensures { result ≡ false }
 {

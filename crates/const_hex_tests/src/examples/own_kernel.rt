@@ -7,11 +7,11 @@ ghost use Rattle.const_hex.specs.Texts.{hex_text};
 
 use const_hex::{Kernel, Lanes32, Output, Plain};
 
-/// Works byte by byte on short inputs, and in steps of 32 lanes on longer ones. It writes the digits of the first byte as
-/// pieces of their own, and then pieces of 64 bytes.
+/// Processes short inputs byte by byte, and longer ones in blocks of 32 bytes. It writes the digits of the first byte
+/// as pieces of their own, and then pieces of 64 bytes.
 ///
 /// The author of a kernel proves the contracts of four functions, or of five with an `encode` of its own. Then the
-/// codec's functions keep all their promises with that kernel.
+/// contracts of the codec's functions hold with that kernel.
 pub struct BySize;
 
 impl Kernel for BySize {

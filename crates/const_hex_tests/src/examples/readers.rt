@@ -1,4 +1,4 @@
-//! Callers that read a text: as any type, by the law of such types alone; and into a key.
+//! Callers that decode a text: to any type, by the law of `FromHex` alone; and into a key.
 
 ghost use Rattle.std.specs.Prelude.{◌≡◌, ◌≢◌, ◌∷◌, [], ◌↔◌, ◌⊎◌, ◌*◌, ℕ, false, drop, length, take, IsTrue, IfOk, IfErr, OnErr, Ok, Err};
 ghost use Rattle.const_hex.specs.Prelude.{IsOdd, Reads, ReadsSized, body_of, lowered, Spells, IsRejected};
@@ -13,8 +13,8 @@ use hash_hex::{Address20, FixedBytes};
 use std::alloc::Global;
 use std::rc::Rc;
 
-/// Reads a text. A value has the bytes that the text decodes to. Unless an allocation failed, an error
-/// means that the text cannot be decoded, or that its number of bytes does not fit.
+/// Decodes a text. The value has the bytes that the text decodes to. Unless an allocation failed, an error
+/// means that the text cannot be decoded, or that its number of bytes does not fit the type.
 pub fn read<T: FromHex>(alloc: Global, text: &[u8]) -> Result<T, T::Error>
     ensures bytes { IfOk result (λ v. Reads text.now (Ok (T.bytes v))) }
     ensures fits { IfOk result (λ v. T.fits (length (T.bytes v))) }
@@ -24,7 +24,7 @@ pub fn read<T: FromHex>(alloc: Global, text: &[u8]) -> Result<T, T::Error>
     T::from_hex(alloc, text)
 }
 
-/// Reads two texts. Each value has the bytes that its text decodes to. The values have the same bytes
+/// Decodes two texts. Each value has the bytes that its text decodes to. The values have the same bytes
 /// if and only if the texts differ only in prefix and case.
 #[tactic(auto, using(const_hex::proofs::lemmas::RoundTrip::read_back))]
 pub fn read_both<T: FromHex + Drop>(
@@ -44,13 +44,13 @@ pub fn read_both<T: FromHex + Drop>(
     match read::<T>(alloc, first) {
         Ok(one) => match read::<T>(alloc, second) {
             Ok(two) => Ok((one, two)),
-            Err(fault) => Err(fault),
+            Err(error) => Err(error),
         },
-        Err(fault) => Err(fault),
+        Err(error) => Err(error),
     }
 }
 
-/// The bytes that a text decodes to, in a shared pointer. An odd length is reported as such even if an
+/// The bytes that a text decodes to, in an `Rc`. An odd length is reported as such even if an
 /// allocation would fail.
 pub fn read_shared(alloc: Global, text: &[u8]) -> Result<Rc<Vec<u8>>, FromHexError>
     ensures bytes { IfOk result (λ shared. Reads text.now (Ok shared.value.items)) }
@@ -76,53 +76,53 @@ pub fn is_same_account(alloc: Global, first: &[u8], second: &[u8]) -> Result<boo
 /// Replaces a key by the 32 bytes that a text decodes to. If the number of digits is odd, or there is
 /// another number of them, the key is unchanged. After an invalid character it begins with the bytes
 /// that were decoded before it, if any, and the rest of the key is unchanged.
-#[tactic(auto, using(crate::proofs::lemmas::Keys::kept_behind_a_front))]
+#[tactic(auto, using(crate::proofs::lemmas::PartialOutputs::unchanged_after_decoded_prefix))]
 pub fn replace_key(key: &mut [u8; 32], text: &[u8]) -> Result<(), FromHexError>
     ensures replaced { IfOk result (λ _. ReadsSized text.now 32 (Ok key.new)) }
     ensures error { IfErr result (λ e. ReadsSized text.now 32 (Err e)) }
-    ensures kept { IfErr result (λ e. (e ≡ OddLength) ⊎ (e ≡ InvalidStringLength)
+    ensures unchanged { IfErr result (λ e. (e ≡ OddLength) ⊎ (e ≡ InvalidStringLength)
         → key.new ≡ key.old) }
-    ensures front { IfErr result (λ _. (n : ℕ) × (drop n key.new ≡ drop n key.old)
+    ensures decoded_prefix { IfErr result (λ _. (n : ℕ) × (drop n key.new ≡ drop n key.old)
         × Spells (take (2 * n) (body_of text.now)) (take n key.new)) }
 {
     decode_to_slice(text, key)
 }
 
 /// Replaces a key as [`replace_key`] does, but after any error the key is unchanged.
-pub fn replace_whole_key(key: &mut [u8; 32], text: &[u8]) -> Result<(), FromHexError>
+pub fn replace_key_or_keep_it(key: &mut [u8; 32], text: &[u8]) -> Result<(), FromHexError>
     ensures replaced { IfOk result (λ _. ReadsSized text.now 32 (Ok key.new)) }
-    ensures kept { OnErr result (key.new ≡ key.old) }
+    ensures unchanged { OnErr result (key.new ≡ key.old) }
 {
     decode_to_slice_with::<CheckFirst<FixedKernel>>(text, key)
 }
 
-/// Reads a salt of at most 64 bytes, and returns its number of bytes. The rest of the array is unchanged. An odd number
+/// Decodes a salt of at most 64 bytes, and returns its number of bytes. The rest of the array is unchanged. An odd number
 /// of digits is always reported as such, also if there are more than 128, and leaves the array unchanged.
 pub fn read_salt(text: &[u8], salt: &mut [u8; 64]) -> Result<usize, FromHexError>
     ensures read { IfOk result (λ n. Reads text.now (Ok (take n salt.new))) }
     ensures rest { IfOk result (λ n. (length (body_of text.now) ≡ 2 * n) × (drop n salt.new ≡ drop n salt.old)) }
     ensures odd { (result ≡ Err OddLength) ↔ IsOdd (length text.now) }
-    ensures kept { IfErr result (λ e. (e ≡ OddLength) ⊎ (e ≡ InvalidStringLength)
+    ensures unchanged { IfErr result (λ e. (e ≡ OddLength) ⊎ (e ≡ InvalidStringLength)
         → salt.new ≡ salt.old) }
 {
     decode_to_front(text, salt)
 }
 
-/// Reads a text as a vector. Unless an allocation failed, an error means that the text cannot be decoded.
+/// Decodes a text to a vector. Unless an allocation failed, an error means that the text cannot be decoded.
 pub fn read_vector(alloc: Global, text: &[u8]) -> Result<Vec<u8>, FromHexError>
     ensures { IfErr result (λ e. e ≢ NoMemory → (why : FromHexError) × Reads text.now (Err why)) }
 {
     read(alloc, text)
 }
 
-/// Reads a text of as many bytes as fit: only memory can be lacking.
+/// Decodes a constant text of the right length. The only possible error is out of memory.
 pub fn read_two(alloc: Global) -> Result<[u8; 2], FromHexError>
     ensures { IfErr result (λ e. e ≡ NoMemory) }
 {
     read(alloc, b"c0de")
 }
 
-/// The first four bytes of a call of `transfer`, from text.
+/// The function selector of `transfer`, from text.
 pub fn selector(alloc: Global) -> Result<[u8; 4], FromHexError>
     ensures { IfOk result (λ bytes. bytes ≡ 169 ∷ 5 ∷ 156 ∷ 187 ∷ []) }
 {

@@ -8,10 +8,10 @@ use const_hex::serde::serialize_inner;
 use const_hex::{BufferedHex, PieceSink, Sink, SinkError};
 use std::alloc::Global;
 
-/// The text of some bytes, with `0x`, in pieces of at most 4096 bytes, as for a network.
+/// Writes the text of some bytes, with `0x`, in pieces of at most 4096 bytes, as for a network.
 ///
-/// Returns an error if there is too little memory.
-pub fn packets(alloc: Global, bytes: &[u8]) -> Result<PieceSink, SinkError>
+/// Returns an error if an allocation fails.
+pub fn write_packets(alloc: Global, bytes: &[u8]) -> Result<PieceSink, SinkError>
     ensures whole { IfOk result (λ sink. concat sink.pieces ≡ full_text true false bytes.now) }
     ensures sizes { IfOk result
         (λ sink. All (λ piece. (1 ≤ length piece) × (length piece ≤ 4096)) sink.pieces) }
@@ -23,15 +23,15 @@ pub fn packets(alloc: Global, bytes: &[u8]) -> Result<PieceSink, SinkError>
     Ok(sink)
 }
 
-/// Whether a sink that is to fail at once accepts a piece: never.
+/// Whether a sink whose first call fails accepts a piece: never.
 pub fn accepts_a_piece(alloc: Global, piece: &str) -> bool
     ensures { result ≡ false }
 {
     PieceSink::new(alloc, 1).write_str(piece).is_ok()
 }
 
-/// Sends the text of a JSON string, with `0x`, to a sink that has not failed so far. If the sink reports
-/// its pieces and accepts all, the new ones are together the text.
+/// Writes the text of a JSON string, with `0x`, to a sink that has not failed so far. If the sink reports
+/// its pieces and accepts all of them, the concatenation of the new ones is the text.
 pub fn send_json<S: Sink>(bytes: &[u8], sink: &mut S) -> Result<(), SinkError>
     requires { S.is_refused sink.old ≡ false }
     ensures { (reported : List (List ℕ)) → S.reported sink.old ≡ Some reported → OnOk result
@@ -41,8 +41,8 @@ pub fn send_json<S: Sink>(bytes: &[u8], sink: &mut S) -> Result<(), SinkError>
     serialize_inner::<false, true, S>(bytes, sink)
 }
 
-/// How many calls a sink takes for a text of at most 4032 bytes: no more than one.
-pub fn calls_of_short(alloc: Global, bytes: &[u8]) -> usize
+/// How many calls of a sink a text of at most 4032 bytes makes: at most one.
+pub fn calls_for_short_text(alloc: Global, bytes: &[u8]) -> usize
     requires { length bytes.now ≤ 2015 }
     ensures { result ≤ 1 }
 {

@@ -1,4 +1,4 @@
-//! Keys of a store, which are found with or without a prefix and in either case.
+//! Keys of a key-value store, which are found with or without a prefix and in either case.
 
 ghost use Rattle.std.specs.Prelude.{◌≡◌, ◌≢◌, ◌↔◌, Ok, Err, string_bytes, IfOk, IfErr, IsTrue};
 ghost use Rattle.const_hex.specs.Prelude.{Reads, body_of, lowered};
@@ -9,7 +9,7 @@ use const_hex::{
 };
 use std::alloc::Global;
 
-/// The form of a key that is stored: no prefix, and in lowercase.
+/// The canonical form of a key, which is stored: no prefix, and in lowercase.
 pub fn canonical(alloc: Global, key: &[u8]) -> Result<String, FromHexError>
     ensures text { IfOk result (λ s. string_bytes s ≡ lowered (body_of key.now)) }
     ensures error { IfErr result (λ e. e ≢ NoMemory → Reads key.now (Err e)) }
@@ -19,7 +19,7 @@ pub fn canonical(alloc: Global, key: &[u8]) -> Result<String, FromHexError>
     Ok(text)
 }
 
-/// Whether two texts are forms of one key.
+/// Whether two texts have the same canonical form.
 pub fn is_same_key(alloc: Global, first: &[u8], second: &[u8]) -> Result<bool, FromHexError>
     ensures { IfOk result (λ same. IsTrue same
         ↔ (lowered (body_of first.now) ≡ lowered (body_of second.now))) }
@@ -27,16 +27,16 @@ pub fn is_same_key(alloc: Global, first: &[u8], second: &[u8]) -> Result<bool, F
     Ok(decode(alloc, first)? == decode(alloc, second)?)
 }
 
-/// Writes a key as text, and reads it again.
-pub fn copy(alloc: Global, key: &[u8]) -> Result<Vec<u8>, FromHexError>
+/// Encodes a key, and decodes the text again.
+pub fn round_trip(alloc: Global, key: &[u8]) -> Result<Vec<u8>, FromHexError>
     ensures { IfOk result (λ v. v.items ≡ key.now) }
 {
     let text = encode_upper_prefixed(alloc, key)?;
     decode(alloc, text.as_bytes())
 }
 
-/// Writes a key of 32 bytes as text, and reads it again, which cannot fail.
-pub fn copy_array(key: &[u8; 32]) -> Result<[u8; 32], FromHexError>
+/// Encodes a key of 32 bytes, and decodes the text again, which cannot fail.
+pub fn round_trip_array(key: &[u8; 32]) -> Result<[u8; 32], FromHexError>
     ensures { result ≡ Ok key.now }
 {
     let mut text = [0; 64];

@@ -1,16 +1,16 @@
-//! A text in chunks.
+//! Decoding a text that arrives in chunks.
 
 ghost use Rattle.std.specs.Prelude.{◌≡◌, ◌≢◌, ◌/◌, ◌<◌, ◌++◌, ◌↔◌, ℕ, drop, take, length, IfOk, IfErr, IfSome, OnOk, Some, Ok, Err};
 ghost use Rattle.const_hex.specs.Prelude.{error_of, body_of, AllDigits, Reads};
-ghost use Rattle.const_hex.specs.Results.{NamesFirstBad};
+ghost use Rattle.const_hex.specs.Results.{NamesFirstInvalid};
 ghost use Rattle.const_hex.specs.declared.error.FromHexError.{FromHexError};
 ghost use Rattle.const_hex.specs.declared.error.FromHexError.TheVariants.{InvalidHexCharacter, InvalidStringLength, OddLength};
 
 use const_hex::{Decoder, FromHexError};
 use std::io::{self, Read, Write};
 
-/// Checks two more chunks of a text. An error that it has already, or that the first chunk has, stays
-/// that of the text, and nothing changes any more.
+/// Checks two more chunks of a text. An error of the decoder, or of the first chunk, is returned for both, and
+/// nothing else changes.
 pub fn check_chunks(
     decoder: &mut Decoder,
     first: &[u8],
@@ -20,13 +20,13 @@ pub fn check_chunks(
         (λ e. (result.0 ≡ Err e) × (result.1 ≡ Err e) × (decoder.new ≡ decoder.old)) }
     ensures first { IfErr result.0 (λ e. (result.1 ≡ Err e) × (error_of decoder.new ≡ Some e)) }
 {
-    let begun = decoder.check(first);
-    (begun, decoder.check(second))
+    let first_result = decoder.check(first);
+    (first_result, decoder.check(second))
 }
 
-/// Checks a text in one chunk. An error names its first invalid character.
+/// Checks a text in one chunk. An error reports its first invalid character.
 pub fn check_chunk(text: &[u8]) -> Result<(), FromHexError>
-    ensures character { (c i : ℕ) → result ≡ Err (InvalidHexCharacter c i) → NamesFirstBad text.now c i }
+    ensures character { (c i : ℕ) → result ≡ Err (InvalidHexCharacter c i) → NamesFirstInvalid text.now c i }
     ensures digits { OnOk result (AllDigits (body_of text.now)) }
     ensures not_odd { result ≢ Err OddLength }
 {
@@ -47,8 +47,8 @@ pub fn decode_chunks(
     ensures not_odd { result.0 ≢ Err OddLength }
 {
     let mut decoder = Decoder::new();
-    let begun = decoder.decode(first, front);
-    (begun, decoder.decode(second, rest))
+    let first_result = decoder.decode(first, front);
+    (first_result, decoder.decode(second, rest))
 }
 
 /// Decodes a text into the first of two outputs that has space for it. The other is not written.
@@ -100,13 +100,13 @@ pub fn decode_whole(
     ensures { IfOk result (λ n. Reads (first.now ++ second.now) (Ok (take n.0 front.new ++ take n.1 rest.new))) }
 {
     let mut decoder = Decoder::new();
-    let begun = decoder.decode(first, front)?;
-    let more = decoder.decode(second, rest)?;
+    let first_count = decoder.decode(first, front)?;
+    let second_count = decoder.decode(second, rest)?;
     decoder.finish()?;
-    Ok((begun, more))
+    Ok((first_count, second_count))
 }
 
-/// The position after a text that is read without an error.
+/// The decoder's position after a text that it accepts.
 pub fn position_after(text: &[u8]) -> Option<usize>
     ensures { IfSome result (λ n. n ≡ length text.now) }
 {

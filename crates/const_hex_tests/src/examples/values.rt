@@ -61,28 +61,28 @@ pub fn invalid() -> Result<(), FromHexError>
     check(b"0xc0dg")
 }
 
-/// An odd number of digits is found before an invalid character.
+/// An odd number of digits is reported before an invalid character.
 pub fn odd() -> Result<(), FromHexError>
     ensures { result ≡ Err OddLength }
 {
     check(b"0xdgg")
 }
 
-/// Another number of digits is found before an invalid character.
+/// A wrong number of digits is reported before an invalid character.
 pub fn long() -> Result<[u8; 2], FromHexError>
     ensures { result ≡ Err InvalidStringLength }
 {
     decode_to_array(b"0xgg")
 }
 
-/// Whether texts are digits alone: one with a prefix is not.
+/// Whether texts consist of digits. One with a prefix does not.
 pub fn are_digits() -> (bool, bool)
     ensures { result ≡ (true, false) }
 {
     (check_raw(b"c0de"), check_raw(b"0xc0de"))
 }
 
-/// Whether characters are digits.
+/// Whether bytes are digits.
 pub fn digits() -> (bool, bool)
     ensures { result ≡ (true, false) }
 {

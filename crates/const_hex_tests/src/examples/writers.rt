@@ -1,4 +1,4 @@
-//! Callers that write to a part of a buffer.
+//! Callers that write into a buffer, or to its start.
 
 ghost use Rattle.std.specs.Prelude.{◌≡◌, ◌≤◌, ◌*◌, ◌++◌, ◌↔◌, false, length, drop, Err, IsOk, OnErr, OnOk, IsAscii};
 ghost use Rattle.const_hex.specs.Prelude.{hex_text};
@@ -13,13 +13,13 @@ pub fn fill_field(field: &mut [u8], name: &[u8]) -> Result<(), FromHexError>
     ensures fits { IsOk result ↔ (length field.old ≡ 2 * length name.now) }
     ensures text { OnOk result (field.new ≡ hex_text false name.now) }
     ensures error { OnErr result (result ≡ Err InvalidStringLength) }
-    ensures kept { OnErr result (field.new ≡ field.old) }
+    ensures unchanged { OnErr result (field.new ≡ field.old) }
 {
     encode_to_slice(name, field)
 }
 
-/// Puts a label at the start of a field, and leaves the rest of the field as it is.
-pub fn put_label(field: &mut [u8], label: &[u8])
+/// Writes a label to the start of a field. The rest of the field is unchanged.
+pub fn write_label(field: &mut [u8], label: &[u8])
     requires ascii { IsAscii label.now }
     requires fits { length label.now ≤ length field.old }
     ensures { field.new ≡ label.now ++ drop (length label.now) field.old }

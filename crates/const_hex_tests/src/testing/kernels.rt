@@ -1,5 +1,5 @@
-//! The kernels by which calls are tested. `Compact` is not among them: it differs from `Plain` only in
-//! how it fills a text, which its contract says.
+//! The kernels with which calls are tested. `Compact` is not among them: it differs from `Plain` only in
+//! its `fill`, whose contract states the text.
 
 use std::alloc::AllocError;
 
@@ -7,9 +7,9 @@ use std::alloc::AllocError;
 #[derive(Clone, Copy, Debug)]
 pub struct KernelCase {
     pub name: &'static str,
-    /// Its index among the parts of a result: one for `Plain`, one for 16 lanes, and one for 32.
+    /// The part of a result that is for this kernel: 0 for `Plain`, 1 for 16 lanes, and 2 for 32.
     pub part: usize,
-    /// Whether it checks a text before it decodes it.
+    /// Whether it checks the whole text before it decodes it.
     pub checks_first: bool,
 }
 
@@ -23,13 +23,13 @@ impl KernelCase {
     }
 }
 
-/// Calls a function with each of these kernels, by itself and, except for `Interleaved`, inside `CheckFirst`, and has
-/// what the calls return. The last argument is the kernel's case. Brackets have what the function takes after the
-/// kernel's type. With a `?` after it, an error of a call is returned once all are made.
+/// Calls a function with each kernel, alone and, except for `Interleaved`, inside `CheckFirst`, and evaluates to an
+/// array of the results. The kernel's `KernelCase` is passed as the last argument. Square brackets contain further
+/// generic arguments, after the kernel's type. With a `?` at the end, returns the first error after all calls.
 #[macro_export]
-macro_rules! by_each_kernel {
+macro_rules! for_each_kernel {
     ($call:ident $([$($more:tt),*])? ($($argument:expr),*) ?) => {
-        $crate::testing::all_done($crate::by_each_kernel!($call $([$($more),*])? ($($argument),*)))?
+        $crate::testing::first_error($crate::for_each_kernel!($call $([$($more),*])? ($($argument),*)))?
     };
     ($call:ident $([$($more:tt),*])? ($($argument:expr),*)) => {
         [
@@ -51,10 +51,10 @@ macro_rules! by_each_kernel {
     };
 }
 
-/// The first error of some calls, if there is one.
-pub fn all_done(calls: [Result<(), AllocError>; 7]) -> Result<(), AllocError> {
-    for done in calls {
-        done?;
+/// Returns the first error among the results of calls, if there is one.
+pub fn first_error(calls: [Result<(), AllocError>; 7]) -> Result<(), AllocError> {
+    for call in calls {
+        call?;
     }
     Ok(())
 }

@@ -1,36 +1,36 @@
-//! Calls of functions of `examples`, whose contracts say the rest.
+//! One test of each function of `examples` whose contract does not show that it succeeds.
 
 use crate::examples::files::{write_line, write_text};
-use crate::examples::json_rpc::{code_of, reason};
+use crate::examples::json_rpc::{code_of, error_message};
 use crate::examples::own_kernel::BySize;
 use crate::examples::readers::{read_both, read_salt, read_shared};
-use crate::examples::sinks::{packets, send_json};
+use crate::examples::sinks::{write_packets, send_json};
 use crate::examples::store::canonical;
 use crate::examples::streams::{
     check_chunk, check_chunks, decode_chunks, decode_stream, decode_where_it_fits,
 };
-use crate::testing::texts::invalid;
+use crate::testing::reference::invalid_character;
 use const_hex::{CheckFirst, Decoder, FromHexError, JsonError, Kernel, PieceSink, SinkOutput};
 use serde_json::json;
 
 #[test]
-fn lists(rt: HostRuntime) {
-    let (one, two) = read_both::<Vec<i8>>(rt.alloc(), b"ff80", b"0XFF80").expect(&rt, "two lists");
+fn readers(rt: HostRuntime) {
+    let (one, two) = read_both::<Vec<i8>>(rt.alloc(), b"ff80", b"0XFF80").expect(&rt, "read_both");
     assert_eq!(rt; one, two);
-    let shared = read_shared(rt.alloc(), b"0XFF80").expect(&rt, "a list");
+    let shared = read_shared(rt.alloc(), b"0XFF80").expect(&rt, "read_shared");
     assert_eq!(rt; shared.as_slice(), b"\xFF\x80".as_slice());
 }
 
 #[test]
 fn whole_streams(rt: HostRuntime) {
-    for (text, want) in [
+    for (text, expected) in [
         ("0x6B69", Ok(())),
         ("6b6", Err(FromHexError::OddLength)),
-        ("6bz", Err(invalid(b'z', 2))),
+        ("6bz", Err(invalid_character(b'z', 2))),
     ] {
         let mut bytes = Vec::new(rt.alloc());
-        let decoded = decode_stream(&mut text.as_bytes(), &mut bytes).expect(&rt, "a stream");
-        assert_eq!(rt; decoded, want, "{text}");
+        let decoded = decode_stream(&mut text.as_bytes(), &mut bytes).expect(&rt, "decode_stream");
+        assert_eq!(rt; decoded, expected, "{text}");
     }
 }
 
@@ -42,16 +42,16 @@ fn salts_and_chunks(rt: HostRuntime) {
         read_salt(&[b'a'; 131], &mut salt),
         Err(FromHexError::OddLength)
     );
-    let bad = invalid(b'z', 1);
-    assert_eq!(rt; check_chunk(b"0x6z"), Err(invalid(b'z', 3)));
+    let error = invalid_character(b'z', 1);
+    assert_eq!(rt; check_chunk(b"0x6z"), Err(invalid_character(b'z', 3)));
     assert_eq!(rt;
         check_chunks(&mut Decoder::new(), b"6z", b"69"),
-        (Err(bad), Err(bad))
+        (Err(error), Err(error))
     );
     let (mut small, mut large) = ([7; 1], [7; 2]);
     assert_eq!(rt;
         decode_chunks(b"6z", b"69", &mut small, &mut large),
-        (Err(bad), Err(bad))
+        (Err(error), Err(error))
     );
     assert_eq!(rt;
         decode_where_it_fits(b"6b69", &mut small, &mut large),
@@ -79,7 +79,7 @@ fn sinks(rt: HostRuntime) {
     let mut sink = PieceSink::new(rt.alloc(), 0);
     send_json(b"kiwi", &mut sink).expect(&rt, "send_json");
     assert_eq!(rt; sink.pieces().len(), 1);
-    let sink = packets(rt.alloc(), &[0xAB; 5000]).expect(&rt, "packets");
+    let sink = write_packets(rt.alloc(), &[0xAB; 5000]).expect(&rt, "write_packets");
     assert_eq!(rt; sink.pieces().len(), 3);
 }
 
@@ -93,7 +93,7 @@ fn responses(rt: HostRuntime) {
         code_of(rt.alloc(), &response).err(),
         Some(JsonError::NotText)
     );
-    let message = reason(rt.alloc(), &JsonError::NotText).expect(&rt, "memory");
+    let message = error_message(rt.alloc(), &JsonError::NotText).expect(&rt, "memory");
     assert_eq!(rt; message.as_str(), "expected a hex encoded string");
 }
 

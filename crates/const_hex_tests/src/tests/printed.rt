@@ -1,21 +1,21 @@
-//! What no clause says of printed values.
+//! The output of `Debug`, about which no contract says anything.
 
-use crate::testing::texts::invalid;
+use crate::testing::reference::invalid_character;
 use const_hex::{Buffer, FromHexError, JsonError, SinkError};
 use hash_hex::{Address20, FixedBytes, Hash32};
 
 #[test]
-fn values(rt: HostRuntime) {
-    macro_rules! show {
-        ($($value:expr => $want:expr,)+) => {
+fn debug_output(rt: HostRuntime) {
+    macro_rules! assert_debug {
+        ($($value:expr => $expected:expr,)+) => {
             $(
                 let text = format!(in rt.alloc(); "{:?}", $value).expect(&rt, "memory");
-                assert_eq!(rt; text.as_str(), $want);
+                assert_eq!(rt; text.as_str(), $expected);
             )+
         };
     }
-    show! {
-        invalid(b'z', 5) => "InvalidHexCharacter { c: 'z', index: 5 }",
+    assert_debug! {
+        invalid_character(b'z', 5) => "InvalidHexCharacter { c: 'z', index: 5 }",
         JsonError::Hex(FromHexError::OddLength) => "Hex(OddLength)",
         JsonError::<FromHexError>::NotText => "NotText",
         SinkError => "SinkError",

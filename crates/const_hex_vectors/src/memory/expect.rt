@@ -1,38 +1,38 @@
-//! Compares what calls return with what they have to return.
+//! Compares the results of calls with the expected results.
 
 use std::convert::AsSlice;
 
-/// Compares what calls return that do not allocate.
-macro_rules! returns {
-    ($rt:ident; $($call:expr => $wanted:expr,)+) => {
-        $($crate::memory::expect::expect($rt, stringify!($call), $call, $wanted);)+
+/// Compares the results of calls that do not allocate.
+macro_rules! expect_returns {
+    ($rt:ident; $($call:expr => $expected:expr,)+) => {
+        $($crate::memory::expect::expect($rt, stringify!($call), $call, $expected);)+
     };
 }
 
-/// The same for calls that allocate, and return this error if that fails.
-macro_rules! allocates {
-    ($rt:ident, $count:ident, $error:expr; $($call:expr => $wanted:expr,)+) => {
-        $($crate::memory::expect::expect_items($rt, stringify!($call), $call, $wanted, $error, $count);)+
+/// The same for calls that allocate, and return this error if an allocation fails.
+macro_rules! expect_allocating {
+    ($rt:ident, $count:ident, $error:expr; $($call:expr => $expected:expr,)+) => {
+        $($crate::memory::expect::expect_items($rt, stringify!($call), $call, $expected, $error, $count);)+
     };
 }
 
-pub(crate) use allocates;
-pub(crate) use returns;
+pub(crate) use expect_allocating;
+pub(crate) use expect_returns;
 
-/// Prints a call that did not return what is wanted.
-pub(crate) fn expect<A: PartialEq + Drop>(rt: &impl Print, call: &str, returned: A, wanted: A) {
-    if returned != wanted {
+/// Prints the call if it did not return what is expected.
+pub(crate) fn expect<A: PartialEq + Drop>(rt: &impl Print, call: &str, returned: A, expected: A) {
+    if returned != expected {
         let _ = println!(rt; "wrong: {call}");
     }
 }
 
-/// As `expect`, for a call that returns items that it owns, or `out_of_memory` if an allocation fails,
-/// which is counted.
+/// As `expect`, for a call that returns an owned list, or `out_of_memory` if an allocation fails. This is
+/// counted.
 pub(crate) fn expect_items<T, B, E>(
     rt: &impl Print,
     call: &str,
     returned: Result<B, E>,
-    wanted: Result<&[T], E>,
+    expected: Result<&[T], E>,
     out_of_memory: E,
     count: &mut usize,
 )
@@ -41,13 +41,13 @@ where
     B: AsSlice<T> + Drop,
     E: PartialEq + Drop,
 {
-    let is_right = match (&returned, &wanted) {
-        (Ok(items), Ok(wanted)) => items.as_slice() == *wanted,
+    let is_right = match (&returned, &expected) {
+        (Ok(items), Ok(expected)) => items.as_slice() == *expected,
         (Err(error), _) if *error == out_of_memory => {
             *count = count.saturating_add(1);
             true
         }
-        (Err(error), Err(wanted)) => error == wanted,
+        (Err(error), Err(expected)) => error == expected,
         _ => false,
     };
     expect(rt, call, is_right, true);

@@ -1,4 +1,4 @@
--- What an exit status says of an error.
+-- What an exit status tells about a run.
 use Rattle.std.proofs.Common.{◌≡◌, ◌≢◌, ℕ, List, Result, Ok, Err, OnErr, arith, Option}
 use Rattle.std.specs.Io.KnownBytes.{Keeps}
 use Rattle.const_hex.specs.declared.error.FromHexError.{FromHexError}
@@ -8,9 +8,13 @@ use Rattle.consthex.specs.declared.mode.Mode.{Mode}
 use Rattle.consthex.specs.declared.error.RunError.{RunError}
 use Rattle.consthex.specs.declared.error.RunError.TheVariants.{Text, WriteFailed}
 
--- a run that failed with an error ends with its status
-pub ends_failed : (m : Mode) (r : Result Unit RunError) (e : RunError) (had left old new : Option (List ℕ)) → r ≡ Err e
-    → ((f : FromHexError) → r ≡ Err (Text f) → Answers m had left (Err (Text f)))
-    → (r ≡ Err WriteFailed → (bs : List ℕ) × Answers m had left (Ok bs) × WritesBeginning old new bs)
-    → OnErr r (r ≢ Err WriteFailed → Keeps old new) → Ends m (status_of e) had left old new
-ends_failed m r e had left old new is text written kept = grind arith
+-- a run that failed with an error ends with the error's status
+pub ends_failed : (m : Mode) (r : Result Unit RunError) (e : RunError)
+    (in_before in_after out_before out_after : Option (List ℕ)) → r ≡ Err e
+    → ((f : FromHexError) → r ≡ Err (Text f) → Answers m in_before in_after (Err (Text f)))
+    → (r ≡ Err WriteFailed
+    → (bs : List ℕ) × Answers m in_before in_after (Ok bs) × WritesBeginning out_before out_after bs)
+    → OnErr r (r ≢ Err WriteFailed → Keeps out_before out_after)
+    → Ends m (status_of e) in_before in_after out_before out_after
+ends_failed m r e in_before in_after out_before out_after has_failed text partly_written unchanged =
+    grind arith

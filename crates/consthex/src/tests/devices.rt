@@ -1,21 +1,21 @@
-//! Readers and writers that count their calls, and fail at some.
+//! Readers and writers that count their calls, and of which one call fails.
 
 use std::alloc::Global;
 use std::io::{self, ErrorKind, Read, Write};
 
-/// Returns one byte per call. One call fails, and later calls succeed.
+/// Reads one byte per call. One call fails, and later calls succeed.
 #[derive(Drop)]
-pub(crate) struct Source<'a> {
+pub(crate) struct FailingReader<'a> {
     rest: &'a [u8],
     fail_at: usize,
     kind: ErrorKind,
     pub(crate) reads: usize,
 }
 
-impl<'a> Source<'a> {
-    /// Returns these bytes. The read of that number, counted from 1, fails.
-    pub(crate) fn new(rest: &'a [u8], fail_at: usize, kind: ErrorKind) -> Source<'a> {
-        Source {
+impl<'a> FailingReader<'a> {
+    /// A reader of these bytes, whose call number `fail_at` fails, counted from 1.
+    pub(crate) fn new(rest: &'a [u8], fail_at: usize, kind: ErrorKind) -> FailingReader<'a> {
+        FailingReader {
             rest,
             fail_at,
             kind,
@@ -24,7 +24,7 @@ impl<'a> Source<'a> {
     }
 }
 
-impl Read for Source<'_> {
+impl Read for FailingReader<'_> {
     fn read(&mut self, buf: &mut [u8]) -> io::Result<usize> {
         self.reads = self.reads.saturating_add(1);
         if self.reads == self.fail_at {
@@ -39,31 +39,31 @@ impl Read for Source<'_> {
     }
 }
 
-/// What goes wrong with a [`Target`]. The other calls succeed.
+/// Which call of a [`FailingWriter`] fails. The other calls succeed.
 #[derive(Clone, Copy, Debug)]
 pub(crate) enum InjectedFault {
-    Nothing,
+    NoFault,
     /// The write of that number, counted from 1, fails.
     Write(usize, ErrorKind),
     /// The write of that number accepts no bytes.
-    Full(usize),
+    AcceptNothing(usize),
     /// The first flush fails.
     Flush(ErrorKind),
 }
 
-/// Keeps what it takes, one byte per call.
+/// Stores what is written, one byte per call.
 #[derive(Drop)]
-pub(crate) struct Target {
-    pub(crate) taken: Vec<u8>,
+pub(crate) struct FailingWriter {
+    pub(crate) received: Vec<u8>,
     fault: InjectedFault,
     pub(crate) writes: usize,
     pub(crate) flushes: usize,
 }
 
-impl Target {
-    pub(crate) fn new(alloc: Global, fault: InjectedFault) -> Target {
-        Target {
-            taken: Vec::new(alloc),
+impl FailingWriter {
+    pub(crate) fn new(alloc: Global, fault: InjectedFault) -> FailingWriter {
+        FailingWriter {
+            received: Vec::new(alloc),
             fault,
             writes: 0,
             flushes: 0,
@@ -71,15 +71,15 @@ impl Target {
     }
 }
 
-impl Write for Target {
+impl Write for FailingWriter {
     fn write(&mut self, buf: &[u8]) -> io::Result<usize> {
         self.writes = self.writes.saturating_add(1);
         match self.fault {
             InjectedFault::Write(call, kind) if call == self.writes => Err(io::Error::from(kind)),
-            InjectedFault::Full(call) if call == self.writes => Ok(0),
+            InjectedFault::AcceptNothing(call) if call == self.writes => Ok(0),
             _ => {
                 let count = buf.len().min(1);
-                self.taken.extend_from_slice(&buf[..count])?;
+                self.received.extend_from_slice(&buf[..count])?;
                 Ok(count)
             }
         }

@@ -1,4 +1,4 @@
-//! The whole program, from its arguments to its exit status and its line on standard error.
+//! The complete program, from its arguments to its exit status and its message on standard error.
 
 ghost use Rattle.std.specs.Prelude.{◌≡◌, ◌∷◌, ◌⊎◌, [], List, ℕ, Ok, Err, codes, map, string_bytes, take};
 ghost use Rattle.std.specs.Io.BufRead.{strip_last};
@@ -10,15 +10,15 @@ ghost use Rattle.const_hex.specs.declared.error.FromHexError.{FromHexError};
 use crate::mode::USAGE;
 use crate::process::{program, program_with};
 use crate::tests::Testing;
-use crate::tests::devices::{InjectedFault, Source, Target};
+use crate::tests::devices::{InjectedFault, FailingReader, FailingWriter};
 use std::cell::Cell;
 use std::env::{Env, FillError};
 use std::fmt::Display;
 use std::io::{self, Eprint, ErrorKind, Read, Write};
 use std::process::ExitCode;
 
-/// The arguments of a program, beginning with its name, and its standard error: the first 128 bytes
-/// that were printed, and how many were printed.
+/// A host with the arguments of a program, its name first, and its standard error: the first 128 bytes that were
+/// printed, and their number.
 #[derive(Drop)]
 struct Host<'a> {
     arguments: &'a [&'a [u8]],
@@ -41,12 +41,12 @@ impl Env for Host<'_> {
         if i >= self.arguments.len() {
             return Err(FillError::NotPresent);
         }
-        let word = self.arguments[i];
-        if word.len() > buf.len() {
+        let argument = self.arguments[i];
+        if argument.len() > buf.len() {
             return Err(FillError::TooLong);
         }
-        buf[..word.len()].copy_from_slice(word);
-        Ok(word.len())
+        buf[..argument.len()].copy_from_slice(argument);
+        Ok(argument.len())
     }
 
     fn var(&self, _name: &str, _buf: &mut [u8]) -> Result<usize, FillError> {
@@ -79,7 +79,7 @@ impl Eprint for Host<'_> {
 
 const LONG_NAME: &[u8] = &[0xFF; 5000];
 
-const LONG_WORD: &[u8] = &[b'e'; 5000];
+const LONG_ARGUMENT: &[u8] = &[b'e'; 5000];
 
 const DECODE: &[&[u8]] = &[b"consthex", b"decode"];
 
@@ -89,12 +89,12 @@ const ENCODE: &[&[u8]] = &[b"consthex", b"encode"];
 
 const ENCODE_UPPER_PREFIXED: &[&[u8]] = &[b"consthex", b"encode-upper-prefixed"];
 
-/// The program on that host ends with that status, and prints that line.
-fn ends<R: Read>(
+/// Asserts the exit status of the program on this host, and its line on standard error.
+fn assert_exit_and_stderr<R: Read>(
     rt: &impl Testing,
     host: Host<'_>,
     input: &mut R,
-    output: &mut Target,
+    output: &mut FailingWriter,
     (status, line): (u8, &str),
 ) {
     let arguments = host.arguments;
@@ -106,11 +106,11 @@ fn ends<R: Read>(
     assert_eq!(rt; &bytes[..count.min(128)], line.as_bytes(), "{arguments:?}");
 }
 
-/// Arguments, an input, what is written, the status, and the line on standard error.
-type Run<'a> = (&'a [&'a [u8]], &'a [u8], &'a [u8], u8, &'a str);
+/// The arguments, the input, the output, the exit status, and the line on standard error.
+type Case<'a> = (&'a [&'a [u8]], &'a [u8], &'a [u8], u8, &'a str);
 
-// The name of the program does not matter.
-const RUNS: [(&[&[u8]], &[u8], &[u8]); 10] = [
+// The arguments, the input, and the output. The name of the program does not matter.
+const CASES: [(&[&[u8]], &[u8], &[u8]); 10] = [
     (ENCODE, b"kiwi", b"6b697769\n"),
     (&[b"\xff\xfe/consthex", b"encode"], b"kiwi", b"6b697769\n"),
     (&[b"", b"encode"], b"", b"\n"),
@@ -123,7 +123,7 @@ const RUNS: [(&[&[u8]], &[u8], &[u8]); 10] = [
     (CHECK, b"0X6B", b"ok\n"),
 ];
 
-// Texts that are rejected. A newline is removed once, and only at the end of a text.
+// Rejected texts, and the messages. One newline is removed, and only at the end of a text.
 const REJECTED: [(&[u8], &str); 9] = [
     (b"0x1\n", "odd number of digits"),
     (b"6b\n\n", "odd number of digits"),
@@ -138,31 +138,31 @@ const REJECTED: [(&[u8], &str); 9] = [
 
 #[test]
 fn whole_runs(rt: HostRuntime) {
-    for (arguments, input, written) in RUNS {
-        runs(&rt, (arguments, input, written, 0, ""));
+    for (arguments, input, written) in CASES {
+        assert_run(&rt, (arguments, input, written, 0, ""));
     }
     for (text, line) in REJECTED {
-        runs(&rt, (DECODE, text, b"", 1, line));
-        runs(&rt, (CHECK, text, b"", 1, line));
+        assert_run(&rt, (DECODE, text, b"", 1, line));
+        assert_run(&rt, (CHECK, text, b"", 1, line));
     }
 }
 
-/// The program does all that.
-fn runs(rt: &impl Testing, (arguments, input, written, status, line): Run<'_>) {
-    let (mut rest, mut output) = (input, Target::new(rt.alloc(), InjectedFault::Nothing));
+/// Runs the program, and compares everything that a case states.
+fn assert_run(rt: &impl Testing, (arguments, input, written, status, line): Case<'_>) {
+    let (mut rest, mut output) = (input, FailingWriter::new(rt.alloc(), InjectedFault::NoFault));
     let host = Host::new(arguments, true);
-    ends(rt, host, &mut rest, &mut output, (status, line));
+    assert_exit_and_stderr(rt, host, &mut rest, &mut output, (status, line));
     assert_eq!(rt;
-        output.taken.as_slice(),
+        output.received.as_slice(),
         written,
         "{arguments:?}: {input:?}"
     );
 }
 
-// It makes no difference if standard error fails.
+// The arguments, and whether standard error can be written. An error of standard error changes nothing.
 #[test]
-fn words_that_name_none(rt: HostRuntime) {
-    let rows: [(&[&[u8]], bool); 14] = [
+fn arguments_that_name_no_mode(rt: HostRuntime) {
+    let cases: [(&[&[u8]], bool); 14] = [
         (&[], true),
         (&[b"consthex"], true),
         (&[b"encode"], false),
@@ -171,36 +171,36 @@ fn words_that_name_none(rt: HostRuntime) {
         (&[b"consthex", b"encode", b""], true),
         (&[b"consthex", b"encode", b"encode"], true),
         (&[b"consthex", b"encode", b"\xff"], true),
-        (&[b"consthex", b"encode", LONG_WORD], false),
+        (&[b"consthex", b"encode", LONG_ARGUMENT], false),
         (&[b"consthex", b"encode", b"", b""], true),
         (&[b"consthex", b"", b"encode"], false),
         (&[b"consthex", b"\xff"], true),
         (&[b"consthex", b"encode\xff"], true),
-        (&[b"consthex", LONG_WORD], true),
+        (&[b"consthex", LONG_ARGUMENT], true),
     ];
-    for (arguments, can_print) in rows {
+    for (arguments, can_print) in cases {
         let mut input = b"kiwi".as_slice();
-        let mut output = Target::new(rt.alloc(), InjectedFault::Nothing);
+        let mut output = FailingWriter::new(rt.alloc(), InjectedFault::NoFault);
         let host = Host::new(arguments, can_print);
-        ends(&rt, host, &mut input, &mut output, (2, USAGE));
+        assert_exit_and_stderr(&rt, host, &mut input, &mut output, (2, USAGE));
     }
 }
 
-// A text that is rejected, where standard error fails; a failed read; too long an input; and a failed write.
+// A rejected text, while standard error fails; a failed read; an input that is too long; and a failed write.
 #[test]
-fn statuses_and_lines(rt: HostRuntime) {
-    let mut output = Target::new(rt.alloc(), InjectedFault::Nothing);
+fn statuses_and_messages(rt: HostRuntime) {
+    let mut output = FailingWriter::new(rt.alloc(), InjectedFault::NoFault);
     let (host, line) = (Host::new(DECODE, false), (1, "odd number of digits"));
-    ends(&rt, host, &mut b"0x1\n".as_slice(), &mut output, line);
+    assert_exit_and_stderr(&rt, host, &mut b"0x1\n".as_slice(), &mut output, line);
     let (host, line) = (Host::new(ENCODE, true), (3, "read failed"));
-    let mut failing = Source::new(b"kiwi", 2, ErrorKind::Interrupted);
-    ends(&rt, host, &mut failing, &mut output, line);
+    let mut failing = FailingReader::new(b"kiwi", 2, ErrorKind::Interrupted);
+    assert_exit_and_stderr(&rt, host, &mut failing, &mut output, line);
     let (host, line) = (Host::new(ENCODE, true), (3, "input too long"));
-    ends(&rt, host, &mut io::repeat(b'0'), &mut output, line);
+    assert_exit_and_stderr(&rt, host, &mut io::repeat(b'0'), &mut output, line);
     assert_eq!(rt; (output.writes, output.flushes), (0, 0));
     let (host, line) = (Host::new(ENCODE, true), (3, "write failed"));
-    let mut failing = Target::new(rt.alloc(), InjectedFault::Flush(ErrorKind::BrokenPipe));
-    ends(&rt, host, &mut b"kiwi".as_slice(), &mut failing, line);
+    let mut failing = FailingWriter::new(rt.alloc(), InjectedFault::Flush(ErrorKind::BrokenPipe));
+    assert_exit_and_stderr(&rt, host, &mut b"kiwi".as_slice(), &mut failing, line);
 }
 
 #[test]
@@ -210,7 +210,7 @@ fn usage(rt: HostRuntime) {
     assert_eq!(rt; USAGE, line);
 }
 
-/// Decodes a text. Its contract has the full definition of how a run ends, in the words of std and of `const_hex`.
+/// Decodes a text. The contract spells out the definition of `Ends`, in terms of std and of `const_hex`.
 fn decode<R: Read, W: Write>(
     rt: &(impl Eprint + AllocGlobal),
     arguments: &[String],

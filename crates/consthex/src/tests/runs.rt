@@ -1,4 +1,4 @@
-//! Runs of the program: worked inputs, the limit, and devices that fail.
+//! Runs over readers and writers: examples, the limit, and calls that fail.
 
 ghost use Rattle.std.specs.Prelude.{◌≡◌, codes, string_bytes, IfOk};
 ghost use Rattle.const_hex.specs.declared.error.FromHexError.TheVariants.{OddLength};
@@ -8,14 +8,15 @@ use crate::error::RunError;
 use crate::mode::Mode;
 use crate::runs::run;
 use crate::tests::Testing;
-use crate::tests::devices::{InjectedFault, Source, Target};
+use crate::tests::devices::{InjectedFault, FailingReader, FailingWriter};
 use std::alloc::{AllocError, Global};
 use std::io::{self, ErrorKind, Read};
 
-/// A mode, an input, and the result, which no whole run of `programs` has.
-type Answered<'a> = (Mode, &'a [u8], &'a [u8]);
+/// A mode, an input, and the output.
+type Case<'a> = (Mode, &'a [u8], &'a [u8]);
 
-const ANSWERS: [Answered<'_>; 11] = [
+// Cases that the tests of `programs` do not have.
+const CASES: [Case<'_>; 11] = [
     (Mode::Encode, b"Hello world!", b"48656c6c6f20776f726c6421\n"),
     (Mode::EncodePrefixed, b"", b"0x\n"),
     (Mode::Decode, b"6b697769\n", b"kiwi"),
@@ -29,8 +30,8 @@ const ANSWERS: [Answered<'_>; 11] = [
     (Mode::Check, b"\n", b"ok\n"),
 ];
 
-/// What an error prints, as its contract says: the message of the text's error, too.
-fn line_of(alloc: Global, error: RunError) -> Result<String, AllocError>
+/// The message of an error, which its contract states.
+fn message_of(alloc: Global, error: RunError) -> Result<String, AllocError>
     ensures memory { error ≡ NoMemory → IfOk result (λ s. string_bytes s ≡ codes "out of memory") }
     ensures text { error ≡ Text OddLength
         → IfOk result (λ s. string_bytes s ≡ codes "odd number of digits") }
@@ -49,78 +50,78 @@ fn accepts_1048576_bytes_and_no_more(rt: HostRuntime) {
     assert_eq!(rt; text.pop(), Some(b'\n'));
     let zeros = vec![in rt.alloc(); b'0'; 2_097_152].expect(&rt, "memory");
     assert!(rt; text == zeros);
-    let mut nothing = Vec::new(rt.alloc());
+    let mut output = Vec::new(rt.alloc());
     let mut zeros = io::repeat(0).take(1_048_577);
-    let outcome = run(rt.alloc(), Mode::Encode, &mut zeros, &mut nothing);
-    assert_eq!(rt; outcome, Err(RunError::TooLong));
-    assert!(rt; nothing.is_empty());
+    let result = run(rt.alloc(), Mode::Encode, &mut zeros, &mut output);
+    assert_eq!(rt; result, Err(RunError::TooLong));
+    assert!(rt; output.is_empty());
 }
 
-const KINDS: [ErrorKind; 2] = [ErrorKind::Interrupted, ErrorKind::Other];
+const ERROR_KINDS: [ErrorKind; 2] = [ErrorKind::Interrupted, ErrorKind::Other];
 
-// The tenth call is the one at the end, and the eleventh is not made.
+// The tenth call is the one at the end of the input, and the eleventh is not made.
 #[test]
-fn names_a_failed_read(rt: HostRuntime) {
-    for kind in KINDS {
+fn reports_a_failed_read(rt: HostRuntime) {
+    for kind in ERROR_KINDS {
         for call in 1..=11usize {
-            reads(&rt, kind, call);
+            assert_failing_read(&rt, kind, call);
         }
     }
 }
 
-/// A run whose reader fails at that call.
-fn reads(rt: &impl Testing, kind: ErrorKind, call: usize) {
-    let row = (kind, call);
-    let mut input = Source::new(b"6b697769\n", call, kind);
-    let mut output = Target::new(rt.alloc(), InjectedFault::Nothing);
-    let outcome = run(rt.alloc(), Mode::Decode, &mut input, &mut output);
-    let (want, written, calls) = match call {
+/// Tests a run in which that call of the reader fails.
+fn assert_failing_read(rt: &impl Testing, kind: ErrorKind, call: usize) {
+    let case = (kind, call);
+    let mut input = FailingReader::new(b"6b697769\n", call, kind);
+    let mut output = FailingWriter::new(rt.alloc(), InjectedFault::NoFault);
+    let result = run(rt.alloc(), Mode::Decode, &mut input, &mut output);
+    let (expected, written, calls) = match call {
         11 => (Ok(()), "kiwi", (4, 1)),
         _ => (Err(RunError::ReadFailed), "", (0, 0)),
     };
-    assert_eq!(rt; outcome, want, "{row:?}");
-    assert_eq!(rt; input.reads, call.min(10), "{row:?}");
-    assert_eq!(rt; (output.writes, output.flushes), calls, "{row:?}");
-    assert_eq!(rt; output.taken.as_slice(), written.as_bytes(), "{row:?}");
+    assert_eq!(rt; result, expected, "{case:?}");
+    assert_eq!(rt; input.reads, call.min(10), "{case:?}");
+    assert_eq!(rt; (output.writes, output.flushes), calls, "{case:?}");
+    assert_eq!(rt; output.received.as_slice(), written.as_bytes(), "{case:?}");
 }
 
-// Each answer; then a write that fails or accepts nothing, at each call, and a flush that fails.
+// Each case, first without an error; then with each write failing or accepting nothing, and with a failed flush.
 #[test]
-fn answers_and_names_a_failed_write(rt: HostRuntime) {
-    for row in ANSWERS {
-        writes(&rt, row, InjectedFault::Nothing);
-        for kind in KINDS {
-            writes(&rt, row, InjectedFault::Flush(kind));
-            for call in 1..=row.2.len() {
-                writes(&rt, row, InjectedFault::Full(call));
-                writes(&rt, row, InjectedFault::Write(call, kind));
+fn reports_a_failed_write(rt: HostRuntime) {
+    for case in CASES {
+        assert_write(&rt, case, InjectedFault::NoFault);
+        for kind in ERROR_KINDS {
+            assert_write(&rt, case, InjectedFault::Flush(kind));
+            for call in 1..=case.2.len() {
+                assert_write(&rt, case, InjectedFault::AcceptNothing(call));
+                assert_write(&rt, case, InjectedFault::Write(call, kind));
             }
         }
     }
 }
 
-/// A run with that fault.
-fn writes(rt: &impl Testing, (mode, input, answer): Answered<'_>, fault: InjectedFault) {
-    let (row, failed) = ((mode, input, fault), Err(RunError::WriteFailed));
-    let (outcome, taken, calls) = match fault {
-        InjectedFault::Nothing => (Ok(()), answer.len(), (answer.len(), 1)),
-        InjectedFault::Flush(_) => (failed, answer.len(), (answer.len(), 1)),
-        InjectedFault::Full(at) | InjectedFault::Write(at, _) => (
+/// Tests a run with that fault.
+fn assert_write(rt: &impl Testing, (mode, input, bytes): Case<'_>, fault: InjectedFault) {
+    let (case, failed) = ((mode, input, fault), Err(RunError::WriteFailed));
+    let (expected, received, calls) = match fault {
+        InjectedFault::NoFault => (Ok(()), bytes.len(), (bytes.len(), 1)),
+        InjectedFault::Flush(_) => (failed, bytes.len(), (bytes.len(), 1)),
+        InjectedFault::AcceptNothing(at) | InjectedFault::Write(at, _) => (
             failed,
             at.saturating_sub(1),
             (at, 0),
         ),
     };
-    let (mut input, mut output) = (input, Target::new(rt.alloc(), fault));
+    let (mut input, mut output) = (input, FailingWriter::new(rt.alloc(), fault));
     assert_eq!(rt;
         run(rt.alloc(), mode, &mut input, &mut output),
-        outcome,
-        "{row:?}"
+        expected,
+        "{case:?}"
     );
     assert_eq!(rt;
-        output.taken.as_slice(),
-        answer.get(..taken).unwrap_or(&[]),
-        "{row:?}"
+        output.received.as_slice(),
+        bytes.get(..received).unwrap_or(&[]),
+        "{case:?}"
     );
-    assert_eq!(rt; (output.writes, output.flushes), calls, "{row:?}");
+    assert_eq!(rt; (output.writes, output.flushes), calls, "{case:?}");
 }

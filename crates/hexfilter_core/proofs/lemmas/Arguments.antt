@@ -1,4 +1,4 @@
--- Numbers and letters of arguments, and arguments that are read back.
+-- Parsing numbers and short options, and parsing the arguments for a mode.
 use Rattle.std.proofs.Common.{◌≡◌, ◌∙◌, ap, sym, map, inl, inr, ◌⊎◌, None, ℕ, ◌+◌, ◌<◌, ◌≤◌, ◌==◌, ◌^◌, ◌&&◌, nat_lt, Bool, true, false, if◌then◌else◌, List, [], ◌∷◌, length, get_or, slice_index, take, drop, Result, Ok, Err, refl, arith, is_some, OkIff}
 use Rattle.std.proofs.lemmas.Bool.Decides.{nat_tests}
 use Rattle.std.specs.Str.{IsCharBoundary, IsUtf8, all_ascii_digits}
@@ -18,7 +18,7 @@ tested : {E : Type 0} (a : Bool) (n v m : ℕ) (r : Result ℕ E) → OkIff r ((
     → (if nat_lt 0 n && a && nat_lt v m then Ok v else Err InvalidNumber) ≡ as_number r
 tested a n v m r h = grind (arith, nat_tests)
 
--- what `parse` makes of a text that begins with no plus sign
+-- the result of `parse` for a text without a plus sign at its start
 pub parsed : {E : Type 0} (v : List ℕ) (r : Result ℕ E) → ParsesUnsigned 64 10 v r → (slice_index v 0 == 43) ≡ false
     → number v ≡ as_number r
 parsed v r h plain =
@@ -27,15 +27,15 @@ parsed v r h plain =
     (parse_plain own 64 v r h (grind (arith, nat_tests)))
 
 -- the first letter, and the rest
-pub letter : (o : Options) (t first rest : List ℕ) (found : Result Options UsageErrorKind) → 0 < length t → first ≡ take 1 t
-    → rest ≡ drop 1 t → found ≡ find first (table o)
+pub letter : (o : Options) (t first rest : List ℕ) (found : Result Options UsageErrorKind) → 0 < length t
+    → first ≡ take 1 t → rest ≡ drop 1 t → found ≡ find first (table o)
     → with_letters o t ≡ and_then found
     (λ p. if is_some p.value && nat_lt 0 (length rest) then with_value p.value p rest else with_letters p rest)
 unfolding with_letters
-letter o [] first rest found h front back is = absurd (omega arith)
-letter o (c ∷ t) first rest found h front back is = rw (is, front, back) refl
+letter o [] first rest found nonempty first_eq rest_eq found_eq = absurd (omega arith)
+letter o (c ∷ t) first rest found nonempty first_eq rest_eq found_eq = rw (found_eq, first_eq, rest_eq) refl
 
--- a character that is not ASCII is no letter
+-- a character that is not ASCII is an unknown option
 pub letter_unknown : (o : Options) (t : List ℕ) → IsUtf8 t → 0 < length t → ¬ (IsCharBoundary t 1)
     → with_letters o t ≡ Err UnknownOption
 unfolding with_letters
@@ -50,18 +50,18 @@ unfolding with_letters
 letters_end o [] h = refl
 letters_end o (c ∷ t) h = absurd (omega arith)
 
--- the argument x
+-- the argument x, which has the index i
 pub argument_read : {X : Type 0} (bytes : X → List ℕ) (xs : List X) (i : ℕ) (o : Options)
     (found : Result Options UsageErrorKind) (x : X) (a : List ℕ)
     → i < length xs → x ≡ get_or xs i x → a ≡ bytes x → found ≡ with_argument o i a
     → with_arguments o i (drop i (map bytes xs)) ≡ at i found
     (λ p. with_arguments p (i + 1) (drop (i + 1) (map bytes xs)))
 unfolding with_arguments
-argument_read bytes xs i o found x a h here text is =
+argument_read bytes xs i o found x a inside x_eq a_eq found_eq =
     rw (
-      drop_more (map bytes xs) i a (rw (length-map xs bytes) h),
-      get_or-map bytes xs i x a h ∙ ap bytes (sym here) ∙ sym text,
-      is,
+      drop_more (map bytes xs) i a (rw (length-map xs bytes) inside),
+      get_or-map bytes xs i x a inside ∙ ap bytes (sym x_eq) ∙ sym a_eq,
+      found_eq,
     ) refl
 
 pub arguments_end : {X : Type 0} (bytes : X → List ℕ) (xs : List X) (i : ℕ) (o : Options) → length xs ≤ i
@@ -70,32 +70,39 @@ unfolding with_arguments
 arguments_end bytes xs i o h =
     let all : length (map bytes xs) ≤ i = rw (length-map xs bytes) h in rw (drop_all i (map bytes xs) all) refl
 
--- ---- what is written as arguments is read back
+-- ---- the arguments for a mode are parsed as this mode
 
-reads_back : (check ignores : Bool) (g : Groups) (words : List (List ℕ)) → IsPlain g words ⊎ WritesGroups g words
+read_back_decode : (check ignores : Bool) (g : Groups) (words : List (List ℕ)) → IsPlain g words ⊎ WritesGroups g words
     → let m : Mode = Decode (record { is_check = check; ignore_whitespace = ignores; groups = g }) in
     request_for (arguments_of m words) ≡ Ok (Run m None)
 unfolding with_arguments
-reads_back true true g words (inl (is, none)) = rw (is, none) refl
-reads_back true true g words (inr (v, n, h, size, character, is)) = rw (is, h, character, ← size) refl
-reads_back false true g words (inl (is, none)) = rw (is, none) refl
-reads_back false true g words (inr (v, n, h, size, character, is)) = rw (is, h, character, ← size) refl
-reads_back _ _ g words (inl (is, none)) = rw (is, none) refl
-reads_back _ _ g words (inr (v, n, h, size, character, is)) = rw (is, h, character, ← size) refl
+read_back_decode true true g words (inl (words_eq, groups_eq)) = rw (words_eq, groups_eq) refl
+read_back_decode true true g words (inr (v, n, number_eq, size_eq, separator_valid, words_eq)) =
+    rw (words_eq, number_eq, separator_valid, ← size_eq) refl
+read_back_decode false true g words (inl (words_eq, groups_eq)) = rw (words_eq, groups_eq) refl
+read_back_decode false true g words (inr (v, n, number_eq, size_eq, separator_valid, words_eq)) =
+    rw (words_eq, number_eq, separator_valid, ← size_eq) refl
+read_back_decode _ _ g words (inl (words_eq, groups_eq)) = rw (words_eq, groups_eq) refl
+read_back_decode _ _ g words (inr (v, n, number_eq, size_eq, separator_valid, words_eq)) =
+    rw (words_eq, number_eq, separator_valid, ← size_eq) refl
 
 pub read_back : (m : Mode) (words : List (List ℕ)) → AsksFor m words
     → request_for (arguments_of m words) ≡ Ok (Run m None)
 unfolding with_arguments
-read_back (Encode true true g) words (inl (v, h, newline, is)) = rw (is, h, ← newline) refl
-read_back (Encode true true g) words (inr (inl (is, none))) = rw (is, none) refl
-read_back (Encode true true g) words (inr (inr (v, n, h, size, character, is))) = rw (is, h, character, ← size) refl
-read_back (Encode false true g) words (inl (v, h, newline, is)) = rw (is, h, ← newline) refl
-read_back (Encode false true g) words (inr (inl (is, none))) = rw (is, none) refl
-read_back (Encode false true g) words (inr (inr (v, n, h, size, character, is))) = rw (is, h, character, ← size) refl
-read_back (Encode _ _ g) words (inl (v, h, newline, is)) = rw (is, h, ← newline) refl
-read_back (Encode _ _ g) words (inr (inl (is, none))) = rw (is, none) refl
-read_back (Encode _ _ g) words (inr (inr (v, n, h, size, character, is))) = rw (is, h, character, ← size) refl
-read_back (Decode r) words h = reads_back r.is_check r.ignore_whitespace r.groups words h
+read_back (Encode true true g) words (inl (v, number_eq, newline, words_eq)) = rw (words_eq, number_eq, ← newline) refl
+read_back (Encode true true g) words (inr (inl (words_eq, groups_eq))) = rw (words_eq, groups_eq) refl
+read_back (Encode true true g) words (inr (inr (v, n, number_eq, size_eq, separator_valid, words_eq))) =
+    rw (words_eq, number_eq, separator_valid, ← size_eq) refl
+read_back (Encode false true g) words (inl (v, number_eq, newline, words_eq)) = rw (words_eq, number_eq, ← newline) refl
+read_back (Encode false true g) words (inr (inl (words_eq, groups_eq))) = rw (words_eq, groups_eq) refl
+read_back (Encode false true g) words (inr (inr (v, n, number_eq, size_eq, separator_valid, words_eq))) =
+    rw (words_eq, number_eq, separator_valid, ← size_eq) refl
+read_back (Encode _ _ g) words (inl (v, number_eq, newline, words_eq)) = rw (words_eq, number_eq, ← newline) refl
+read_back (Encode _ _ g) words (inr (inl (words_eq, groups_eq))) = rw (words_eq, groups_eq) refl
+read_back (Encode _ _ g) words (inr (inr (v, n, number_eq, size_eq, separator_valid, words_eq))) =
+    rw (words_eq, number_eq, separator_valid, ← size_eq) refl
+read_back (Decode r) words h = read_back_decode r.is_check r.ignore_whitespace r.groups words h
 
-pub asked : (m : Mode) (arguments : List (List ℕ)) → AreFor m arguments → request_for arguments ≡ Ok (Run m None)
-asked m arguments (words, asks, is) = rw is (read_back m words asks)
+pub request_for_arguments : (m : Mode) (arguments : List (List ℕ)) → AreFor m arguments
+    → request_for arguments ≡ Ok (Run m None)
+request_for_arguments m arguments (words, asks, arguments_eq) = rw arguments_eq (read_back m words asks)

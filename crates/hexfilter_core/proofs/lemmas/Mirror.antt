@@ -1,27 +1,27 @@
--- What was encoded is decoded again.
+-- A text that was encoded is decoded to the same bytes.
 use Rattle.std.proofs.Common.{◌≡◌, ◌≢◌, ℕ, ◌+◌, ◌<◌, ◌≤◌, ◌==◌, ◌&&◌, ◌||◌, Bool, true, false, if◌then◌else◌, List, [], ◌∷◌, ◌++◌, length, min, Option, None, Some, Ok, refl, ap, ◌∙◌, arith, append_assoc, append-nil, All}
 use Rattle.std.proofs.KnownBytes.{Consumes-all}
 use Rattle.std.proofs.lemmas.Bool.Decides.{nat_tests}
 use Rattle.std.proofs.lemmas.List.Elements.{All-cons, All-head, All-nil, All-tail, All-weaker}
 use Rattle.std.specs.Io.KnownBytes.{Appends, Consumes}
 use Rattle.const_hex.proofs.lemmas.Decoding.{body-longer}
-use Rattle.const_hex.proofs.lemmas.Reading.{one_answer}
+use Rattle.const_hex.proofs.lemmas.Reading.{result_unique}
 use Rattle.const_hex.proofs.lemmas.RoundTrip.{Reads-full_text}
 use Rattle.const_hex.specs.Prelude.{AreBytes, IsEven, Reads, body_of, AllDigits, IsDigit, full_text, hex_text, prefix_of}
 use Rattle.const_hex_arch.proofs.lemmas.Digits.{digits_append}
 use Rattle.const_hex_arch.proofs.lemmas.Texts.{Spells-digits, Spells-hex_text}
-use Rattle.hexfilter_core.specs.Dumps.{FromHexError, Groups, HasError, IgnoresLines, InvalidHexCharacter, OddLength, Place, Reading, encoded, groups_from, is_whitespace, mirror, text_from, text_of}
+use Rattle.hexfilter_core.specs.Dumps.{FromHexError, Groups, HasError, IgnoresLines, InvalidHexCharacter, OddLength, Location, Reading, encoded, groups_from, is_whitespace, mirror, text_from, text_of}
 use Rattle.hexfilter_core.specs.Runs.{Decode, RunsToEnd, RunsToError}
 use Rattle.hexfilter_core.proofs.lemmas.Texts.{text-append}
 
--- no whitespace
+-- the byte is not whitespace
 abbrev IsVisible : ℕ → Type 0
 IsVisible b = is_whitespace b ≡ false
 
 abbrev reading : Bool → ℕ → ℕ → Reading
 reading i n s = record { is_check = false; ignore_whitespace = i; groups = record { size = n; separator = s } }
 
--- lines without their ends, or a text without groups
+-- lines, or a text without groups, are read without the ends of lines
 lines_read : (i : Bool) (n k : ℕ) (t : List ℕ) → (0 < n → i ≡ true) → k ≤ n → All IsVisible t
     → text_from (reading i 0 10) 0 (groups_from (record { size = n; separator = 10 }) k t) ≡ t
 unfolding groups_from text_from
@@ -33,7 +33,7 @@ lines_read i n k (b ∷ t) all fits plain =
     let more = lines_read i n (min (k + 1) n) t all (omega arith) rest in
     grind (arith, nat_tests, all, one, first, more)
 
--- groups without their separators
+-- groups are read without their separators
 groups_read : (i : Bool) (n s k : ℕ) (t : List ℕ) → k ≤ n → s ≢ 10 → All IsVisible t
     → text_from (reading i n s) k (groups_from (record { size = n; separator = s }) k t) ≡ t
 unfolding groups_from text_from
@@ -67,7 +67,7 @@ by_separator i n s t true e plain ignores =
     let newline : s ≡ 10 = grind (arith, nat_tests, e) in
     rw newline (lines_read i n 0 t (λ some. ignores (grind (arith, nat_tests, e, some))) (omega arith) plain)
 by_separator i n s t false e plain ignores =
-    rw e (groups_read i n s 0 t (omega arith) (λ is. grind (arith, nat_tests, e, is)) plain)
+    rw e (groups_read i n s 0 t (omega arith) (λ newline. grind (arith, nat_tests, e, newline)) plain)
 
 one_digit : (c d : ℕ) (v : List ℕ) (b : Bool) → ((c == 48) && (d == 120 || d == 88)) ≡ b
     → AllDigits (if b then v else c ∷ d ∷ v) → AllDigits (c ∷ [])
@@ -81,39 +81,40 @@ body_front (c ∷ []) (d ∷ v) h = one_digit c d v _ refl h
 body_front (c ∷ d ∷ u) v h =
     ((digits_append (body_of (c ∷ d ∷ u)) v).0 (rw (body-longer (c ∷ d ∷ u) v (omega arith)) at h)).0
 
--- an input of which a part has an error decodes to no bytes
-pub not_decoded : (r : Reading) (whole : List ℕ) (left : Option (List ℕ)) (x y bytes : List ℕ) (e : FromHexError)
-    (place : Option Place) → Consumes (Some whole) left x → HasError r left x y e place
+-- an input with an error in a part of it cannot be decoded
+pub not_decoded : (r : Reading) (whole : List ℕ) (in_after : Option (List ℕ)) (x y bytes : List ℕ) (e : FromHexError)
+    (location : Option Location) → Consumes (Some whole) in_after x → HasError r in_after x y e location
     → Reads (text_of r whole) (Ok bytes) → ⊥
-not_decoded r whole None x y bytes e place read fails reads = read
-not_decoded r whole (Some rest) x y bytes OddLength place read (none, end, odd, pairs) (even, spelled) =
+not_decoded r whole None x y bytes e location read fails reads = read
+not_decoded r whole (Some rest) x y bytes OddLength location read (none, end, odd, pairs) (even, spelled) =
     let same : IsEven (length (text_of r x)) = rw (read ∙ ap (λ l. x ++ l) end ∙ append-nil x) at even in
     omega (arith, odd, same)
-not_decoded r whole (Some rest) x y bytes (InvalidHexCharacter c k) place read fails (even, spelled) =
+not_decoded r whole (Some rest) x y bytes (InvalidHexCharacter c k) location read fails (even, spelled) =
     let front = fails.front ++ c ∷ [] in
     let more = fails.rest ++ rest in
     let cut : whole ≡ front ++ more = simp append_assoc (rw (fails.cut, append_assoc) at read) in
     let digits = Spells-digits (body_of (text_of r whole)) bytes spelled in
     fails.invalid (body_front (text_of r front) _ (rw (cut, text-append r 0 front more) at digits))
-not_decoded r whole left x y bytes _ place read fails reads = fails
+not_decoded r whole in_after x y bytes _ location read fails reads = fails
 
 module _ (prefix up i : Bool) (g : Groups) (ignores : IgnoresLines i g) (bytes : List ℕ) (are : AreBytes bytes) where
-  -- the bytes are what the text of the encoded bytes decodes to
+  -- the encoded text decodes to the bytes
   read : (x : List ℕ) → x ≡ encoded prefix up g bytes → Reads (text_of (mirror i g) x) (Ok bytes)
-  read x is =
-      Reads-full_text _ prefix up bytes are (ap (text_of (mirror i g)) is
+  read x text_eq =
+      Reads-full_text _ prefix up bytes are (ap (text_of (mirror i g)) text_eq
       ∙ by_separator i g.size g.separator _ _ refl (text_plain_chars prefix up bytes are) ignores)
 
   -- the bytes are decoded again
-  pub decoded_again : (x : List ℕ) (left old new : Option (List ℕ)) → x ≡ encoded prefix up g bytes
-      → RunsToEnd (Decode (mirror i g)) (Some x) left old new → Appends old new bytes
-  decoded_again x left old new is (y, z, consumed, end, (found, reads, same), wrote) =
-      let whole = Consumes-all (Some x) left y [] y consumed end refl in
-      let again : found ≡ bytes = cc (one_answer _ (Ok found) (Ok bytes) reads (read y (whole ∙ is))) in
+  pub decoded_again : (x : List ℕ) (in_after out_before out_after : Option (List ℕ)) → x ≡ encoded prefix up g bytes
+      → RunsToEnd (Decode (mirror i g)) (Some x) in_after out_before out_after → Appends out_before out_after bytes
+  decoded_again x in_after out_before out_after text_eq (y, z, consumed, end, (found, reads, same), wrote) =
+      let whole = Consumes-all (Some x) in_after y [] y consumed end refl in
+      let again : found ≡ bytes = cc (result_unique _ (Ok found) (Ok bytes) reads (read y (whole ∙ text_eq))) in
       rw (same ∙ again) at wrote
 
   -- and never rejected
-  pub never_rejected : (x : List ℕ) (left old new : Option (List ℕ)) (e : FromHexError) (place : Option Place)
-      → x ≡ encoded prefix up g bytes → RunsToError (Decode (mirror i g)) (Some x) left old new e place → ⊥
-  never_rejected x left old new e place is (y, z, consumed, (found, fails, same), wrote) =
-      not_decoded (mirror i g) x left y found bytes e place consumed fails (read x is)
+  pub never_rejected : (x : List ℕ) (in_after out_before out_after : Option (List ℕ)) (e : FromHexError)
+      (location : Option Location) → x ≡ encoded prefix up g bytes
+      → RunsToError (Decode (mirror i g)) (Some x) in_after out_before out_after e location → ⊥
+  never_rejected x in_after out_before out_after e location text_eq (y, z, consumed, (found, fails, same), wrote) =
+      not_decoded (mirror i g) x in_after y found bytes e location consumed fails (read x text_eq)

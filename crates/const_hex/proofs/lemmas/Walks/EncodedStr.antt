@@ -1,5 +1,8 @@
--- A function that fills a lent slice by one call if the text fits, and shares it with a second call,
--- which returns it as text, or an error. One walk serves uppercase and lowercase.
+-- Symbolic execution (see `Walks`) of a function that fills a borrowed slice by one call if the text fits, and shares
+-- it with a second call, which returns it as text, or an error. One walk serves uppercase and lowercase.
+--
+-- `e` is the function, `g` the first call and `h` the second. A list in brackets is the symbolic state: the resources
+-- that are held there, in order.
 use Rattle.std.proofs.Common.{subst, IsAscii, ◌≢◌}
 use Rattle.std.proofs.result.Result.TheLaws.{the_row_laws as result_laws}
 use base.Fml.{Lft, Share}
@@ -31,7 +34,7 @@ use Rattle.const_hex.specs.contracts.codec.encoders.encoded_text as h
 use Rattle.const_hex.proofs.error.FromHexError.TheLaws as refusal_laws
 use Rattle.const_hex.proofs.lemmas.Walks.{flag, flag_lit}
 
--- what the slice ends as, and what is lent of it
+-- what the slice holds at the end, and what the result borrows of it
 ends : {A : Type 0} {m k : ℕ} {text old new : List ℕ} (r : Result (Bor (List ℕ)) A) → IsOk r ↔ (k ≡ m)
     → IfOk r (λ w. w.now ≡ new)
     → ((k ≡ m) → new ≡ text) → ((k ≢ m) → new ≡ old)
@@ -67,7 +70,7 @@ code_of up = record {
 module _ {M : Type 1} (𝓤 : Ura M) (𝓛 : Logic 𝓤) (𝓜 : Model 𝓤 𝓛.H) (𝓡 : Running 𝓤 𝓛.H 𝓜) where
   open 𝓛 use {H, A}
 
-  -- a slice ends as its last value
+  -- once its borrow has ended, a slice holds its last value
   Rests-of : (s : MutBor (List ℕ)) (P : List ℕ → Type 0) (bs : List ℕ) → P bs
       → ent 𝓤 (A.res s.ghost_name ((coded_list u8.coded).code bs)) (sem 𝓛 (Rests (Array u8 0) s P))
   unfolding such_by follows_by
@@ -76,7 +79,7 @@ module _ {M : Type 1} (𝓤 : Ura M) (𝓛 : Logic 𝓤) (𝓜 : Model 𝓤 𝓛
       A.res s.ghost_name ((coded_list u8.coded).code y.0.1))
       (((λ w. w), bs), (λ w. tt), h)
 
-  -- a slice that is shared for as long as it lives ends as it is
+  -- a slice that is shared for the rest of its borrow holds what it held
   shared : (ℓ : Lifetime) (κ : Lft) (q : Share) (s : MutBor (List ℕ))
       → ent 𝓤 (sep 𝓤 (sem 𝓛 ((MutSlice ℓ κ u8).own_val s (mut_slice_vals s))) (A.lft κ q))
       (H.⇛ (sep 𝓤 (sem 𝓛 ((ShrSlice ℓ κ u8).own_val (as_bor s) (mut_slice_vals s)))
@@ -100,7 +103,8 @@ module _ {M : Type 1} (𝓤 : Ura M) (𝓛 : Logic 𝓤) (𝓜 : Model 𝓤 𝓛
     ensures = λ ghost r at. sep 𝓤 (fact 𝓤 (IsOk r ↔ (length a.1.0.now ≡ 2 * length a.0.now)))
         (sep 𝓤 (fact 𝓤 (IfOk r (λ text. text.now ≡ hex_text up a.0.now)))
         (sep 𝓤 (fact 𝓤 (IfErr r (λ x. x ≡ InvalidStringLength)))
-        (sem 𝓛 (Rests (Array u8 0) a.1.0 (λ new. MatchResult r (λ _. new ≡ hex_text up a.0.now) (λ _. new ≡ a.1.0.now))))));
+        (sem 𝓛 (Rests (Array u8 0) a.1.0
+        (λ new. MatchResult r (λ _. new ≡ hex_text up a.0.now) (λ _. new ≡ a.1.0.now))))));
   }
 
   pub text_or_error : (up : Bool) (self : Callee)
@@ -158,13 +162,13 @@ module _ {M : Type 1} (𝓤 : Ura M) (𝓛 : Logic 𝓤) (𝓜 : Model 𝓤 𝓛
       (λ ws. split ! $ drop ! $ split ! $ heard ! _ (λ same. split ! $ heard ! _ (λ long.
       split ! $ heard ! _ (λ filled. split ! $ heard ! _ (λ ascii. heard ! _ (λ kept.
       -- [the tokens; the slice; the input; the locals]
-      move ! (1 ∷ []) $ peeks ! Out (Is Out) (shows 𝓛 Out) s (v ∷ []) (λ is.
-      rewrite ! 0 (λ (vs : List Val). ‵ (Out.own_val s vs)) is.0.0 refl $
-      lands_as ! (ap only is.0.0) refl (tt, (tt, (record { fits = is.0.1.0 }, tt))) $
+      move ! (1 ∷ []) $ peeks ! Out (Is Out) (shows 𝓛 Out) s (v ∷ []) (λ repr.
+      rewrite ! 0 (λ (vs : List Val). ‵ (Out.own_val s vs)) repr.0.0 refl $
+      lands_as ! (ap only repr.0.0) refl (tt, (tt, (record { fits = repr.0.1.0 }, tt))) $
       sets ! (addr ! (from ! (fld ! refl (hop ! (look_in_at ! 3 (sub ! 0 refl (whole !))) (stop !))))) refl (tt, tt) $
       sets ! (agg !
       (and_then ! (get ! refl) (and_then ! (get_in ! (fld ! refl (stop !)) (sub ! 1 refl (whole !))) (no_more !)))) refl
-      (tt, (tt, (record { fits = is.0.1.0 }, tt))) $
+      (tt, (tt, (record { fits = repr.0.1.0 }, tt))) $
       move ! (1 ∷ []) $ split ! $ move ! (1 ∷ []) $ split ! $ move ! (3 ∷ 0 ∷ []) $
       use2 𝓛 (later
       (‵ (Bytes.own_val (as_bor s) (mut_slice_vals s)) ⊛ ‵ (fres s.ghost_name ((coded_list u8.coded).code s.now)) ⊛ ‵
@@ -188,10 +192,10 @@ module _ {M : Type 1} (𝓤 : Ura M) (𝓛 : Logic 𝓤) (𝓜 : Model 𝓤 𝓛
       (λ r. split ! $ split ! $ move ! (2 ∷ []) $ pick !
       (λ ws'. split ! $ drop ! $ split ! $ heard ! _ (λ fits. split ! $ heard ! _ (λ lent. heard ! _ (λ error.
       -- [the tokens; the result; how the slice ends; the locals]
-      move ! (1 ∷ []) $ peeks ! Returned (Is Returned) (shows 𝓛 Returned) r (v' ∷ []) (λ is'.
+      move ! (1 ∷ []) $ peeks ! Returned (Is Returned) (shows 𝓛 Returned) r (v' ∷ []) (λ repr'.
       let text_laws = of_field (str-field loan) (str-laws loan) refl (copy_shared (str-field loan) (str-copy loan)) in
       let typed = (((result_laws (str-field loan).row refusal.the_row text_laws refusal_laws.the_row_laws).lawful
-      𝓛).typed r _ is').0 in
+      𝓛).typed r _ repr').0 in
       lands_as ! refl refl typed $
       returns ! (look_at ! 0 refl) $ free_all ! refl $
       suffices ! _

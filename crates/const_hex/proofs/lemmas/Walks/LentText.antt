@@ -1,5 +1,7 @@
--- A function that fills a buffer by one call, and lends the text that this call lends in a struct.
--- One walk serves every such function, whatever the two promise.
+-- Symbolic execution (see `Walks`) of a function that fills a buffer by one call, which returns a borrow of the text in
+-- a struct, and returns this borrow. One walk serves every such function, whatever the contracts are.
+--
+-- A list in brackets is the symbolic state: the resources that are held there, in order.
 use Rattle.const_hex_arch.proofs.lemmas.Walks.{ℕ, length, Bool, List, [], ◌∷◌, refl, ap, T, proved, id⊢, ftrue, Ty, Fn, Callee, local, value_local, ty_ref, ty_int, imm, mut, erased, field, deref, place, copy, rv_opd, addr_of, assign, call, seq, a_number, named, w8, Val, vptr, WT, has_ty, Running, tables, Model, Closed, Ura, Logic, ‵, raw, ◌⊛◌, some, later, ◌$◌, ◌∵◌, !, qed, done, move, drop, use1, use2, split, join, pick, await, suffices, enter, of_opd, addr, fld, stop, no_more, and_then, returns, alloc_all, pass_all, free_all, look_at, get, get_in, sub, whole, through, sets, lands_as, u8, bool, RefOf, SliceRefOf, RefMutOf, yes, no, left, Is, Tells, shows, bool_vals, bool_Makes, Slot, plain, nothing, owned, peeks, only, calls_at, Clauses, Ended, closing, lasts, Lasts, Meets, triple_of, RattleType, framed, ends_at}
 use mir.Syntax.{return as end}
 use types.Kit.{fsplit, fjoin}
@@ -24,7 +26,7 @@ use Rattle.const_hex.specs.contracts.buffer.Lent as lent
 use Rattle.const_hex.proofs.buffer.Lent.TheLaws as lent_laws
 use Rattle.const_hex.proofs.lemmas.Walks.{flag, flag_lit}
 
--- what is left of a parameter is what the contract says of it
+-- of a parameter only what the contract says of it stays known
 abbrev stays : {n : ℕ} (s : Slot n) (k : Kept) → Stay s k
 stays s k = record { fit = λ κs x f. Unit {0}; has = λ κs x f vs. left ((s.row κs).exit k) x f }
 
@@ -35,7 +37,7 @@ abbrev pub ended_of : (params : List (Slot 5)) → Kepts params → Slot 5 → E
 ended_of params kept result =
     record { signature = record { lifetimes = 5; outlives = []; params = params; result = result }; kept = kept }
 
--- the parameter for the bytes: its type, and its machine value
+-- the parameter for the bytes: its type, and its value in MIR
 pub record Input : Type 2 where
   pub slot : Slot 5
   pub val : (κs : Lfts 5) → (slot.row κs).Denot → Val
@@ -51,11 +53,11 @@ slice_input = record {
   val = λ κs x. slice_val x.ref_ptr (length x.now);
   reports = λ κs. shr_slice_Tells (named 1) κs.1.0 u8;
   ty = slice_ty (ty_ref (named 1) imm (ty_int w8));
-  typed = λ κs x is. (tt, (tt, (record { fits = is.0.1.0 }, tt)));
+  typed = λ κs x repr. (tt, (tt, (record { fits = repr.0.1.0 }, tt)));
 }
 
 module _ (n p len : ℕ) where
-  -- the parameters' rows
+  -- the const parameters, as type parameters
   abbrev pub numbers : Types (a_number ∷ a_number ∷ a_number ∷ [])
   numbers = (number n, (number p, (number len, tt)))
 
@@ -66,23 +68,23 @@ module _ (n p len : ℕ) where
     val = λ κs x. vptr x.ref_ptr.0 x.ref_ptr.1;
     reports = λ κs. shr_Tells (named 1) κs.1.0 A;
     ty = ty_ref (named 1) imm (pointee A.written);
-    typed = λ κs x is. (tt, tt);
+    typed = λ κs x repr. (tt, tt);
   }
 
   abbrev B : RattleType
   B = the_row (param 0 (number n)) (param 1 (number p)) (param 2 (number len))
 
-  abbrev lender : Slot 5
-  lender = RefMutOf (0 ∷ []) tt (plain (λ κs. B)) (λ κs. tt)
+  abbrev receiver : Slot 5
+  receiver = RefMutOf (0 ∷ []) tt (plain (λ κs. B)) (λ κs. tt)
 
   module _ (I : Input) (up : Bool) where
-    -- what is called, and what calls it
+    -- the signature of the call, and that of the function
     abbrev pub Fills : Ended
-    Fills = ended_of (lender ∷ I.slot ∷ plain (λ κs. bool) ∷ []) (no, (yes, (yes, tt)))
+    Fills = ended_of (receiver ∷ I.slot ∷ plain (λ κs. bool) ∷ []) (no, (yes, (yes, tt)))
         (plain (λ κs. lent.the_row (named_lft 5 0 tt κs)))
 
     abbrev pub Lends : Ended
-    Lends = ended_of (lender ∷ I.slot ∷ []) (no, (yes, tt)) (StrRefOf (0 ∷ []) tt)
+    Lends = ended_of (receiver ∷ I.slot ∷ []) (no, (yes, tt)) (StrRefOf (0 ∷ []) tt)
 
     abbrev code_of : Callee → Fn
     code_of fills = record {
@@ -104,7 +106,7 @@ module _ (n p len : ℕ) where
     }
 
     module _ {M : Type 1} (𝓤 : Ura M) (𝓛 : Logic 𝓤) (𝓜 : Model 𝓤 𝓛.H) (𝓡 : Running 𝓤 𝓛.H 𝓜) (c : Clauses 𝓤 Fills) where
-      -- it requires what the call requires, and ensures of the text what the call ensures
+      -- the function requires what the call requires, and ensures for the text what the call ensures
       abbrev passed_on : Clauses 𝓤 Lends
       passed_on κs a = let at = c κs (a.0, (a.1.0, (up, tt))) in record {
         ghost = at.ghost;
@@ -112,14 +114,14 @@ module _ (n p len : ℕ) where
         ensures = λ g r e. at.ensures g (record { text = r }) (e.0, (e.1.0, (up, tt)));
       }
 
-      pub hands_on : (self fills : Callee)
+      pub passes_on : (self fills : Callee)
           → Closed 𝓤 𝓛.H (tables 𝓤 𝓛.H 𝓜 𝓡 𝓡.env).C (tables 𝓤 𝓛.H 𝓜 𝓡 𝓡.env).Λ self (code_of fills)
           → Meets 𝓛 Fills.signature (𝓡.run (𝓡.env fills)) (closing 𝓛 Fills c)
           → Meets 𝓛 Lends.signature (𝓡.run (𝓡.env self)) (closing 𝓛 Lends passed_on)
-      hands_on self fills unfolded fills_met =
+      passes_on self fills unfolded fills_met =
           let 𝓣 = tables 𝓤 𝓛.H 𝓜 𝓡 𝓡.env in
-          let hs : Stays Lends.signature.params Lends.kept = (stays lender no, (stays I.slot yes, tt)) in
-          proved 𝓛 Lends hs passed_on 𝓜 𝓡 (goes 𝓛 lender no, (goes 𝓛 I.slot yes, tt)) self (code_of fills) unfolded
+          let hs : Stays Lends.signature.params Lends.kept = (stays receiver no, (stays I.slot yes, tt)) in
+          proved 𝓛 Lends hs passed_on 𝓜 𝓡 (goes 𝓛 receiver no, (goes 𝓛 I.slot yes, tt)) self (code_of fills) unfolded
           (λ κs. (mut_vals, ((λ x. I.val κs x ∷ []), tt))) (λ κs. (mut_Tells (named 0) κs.0 B, (I.reports κs, tt)))
           (λ κs qs bounds a g are.
           let loan = named_lft 5 0 tt κs in let L = lent.the_type loan in let laws = lent_laws.the_laws loan in
@@ -129,8 +131,8 @@ module _ (n p len : ℕ) where
           let z : G.Ghost = ((κs, qs, bounds, (a.0, (a.1.0, (up, tt))), (vs0, (vs1, (bool_vals up, tt)))), g) in
           let at = c κs z.0.3 in
           let tokens = raw (alive 𝓛 Lends.signature κs qs) in
-          qed 𝓛 ((tokens ⊛ ‵ ((lender.row κs).own_val a.0 vs0) ⊛ ‵ ((I.slot.row κs).own_val a.1.0 vs1) ⊛ ‵ ftrue) ∷ raw
-          (at.requires g) ∷ []) ∵
+          qed 𝓛 ((tokens ⊛ ‵ ((receiver.row κs).own_val a.0 vs0) ⊛ ‵ ((I.slot.row κs).own_val a.1.0 vs1) ⊛ ‵ ftrue)
+          ∷ raw (at.requires g) ∷ []) ∵
           split ! $ move ! (1 ∷ []) $ split ! $ move ! (1 ∷ []) $ split ! $ move ! (1 ∷ []) $
           owned ! bool _ (bool_Makes 𝓛) up (bool_vals up) refl $ join ! $
           move ! (1 ∷ 0 ∷ []) $ join ! $ move ! (1 ∷ 0 ∷ []) $ join ! $ move ! (1 ∷ 0 ∷ []) $ join ! $
@@ -146,9 +148,9 @@ module _ (n p len : ℕ) where
           -- [what is left of the parameters; what is ensured; the tokens; the struct; the locals]
           fsplit ! $ move ! (1 ∷ []) $ fsplit ! $ move ! (1 ∷ []) $ drop ! $ nothing ! $ move ! (1 ∷ 0 ∷ []) $ fjoin ! $
           move ! (1 ∷ 0 ∷ []) $ fjoin ! $
-          move ! (3 ∷ []) $ peeks ! Filled (Is Filled) (shows 𝓛 Filled) d (v ∷ []) (λ is.
-          let typed = (((str-laws loan).lawful 𝓛).typed d.text _ (owed L laws d _ is).0).0 in
-          lands_as ! (ap only (tells L laws d _ is)) refl (tt, (typed.1, tt)) $
+          move ! (3 ∷ []) $ peeks ! Filled (Is Filled) (shows 𝓛 Filled) d (v ∷ []) (λ repr.
+          let typed = (((str-laws loan).lawful 𝓛).typed d.text _ (owed L laws d _ repr).0).0 in
+          lands_as ! (ap only (tells L laws d _ repr)) refl (tt, (typed.1, tt)) $
           sets ! (of_opd ! (get_in ! (fld ! refl (stop !)) (sub ! 0 refl (whole !)))) refl typed $
           use1 𝓛 (‵ (Text.own_val d.text _) ⊛ ‵ ftrue)
           (takes 𝓛 (shape L) (spells L.parts laws) (tellss L.parts laws) (d.text, tt) (v ∷ [])) $

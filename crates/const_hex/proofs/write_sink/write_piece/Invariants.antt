@@ -1,3 +1,4 @@
+-- Loop invariant: `l` has the live variables, `g` the type parameters and their traits' members.
 use Rattle.std.proofs.Common.{length, take, ◌≤◌}
 use Rattle.std.specs.Io.KnownBytes.{Appends}
 use Rattle.const_hex.proofs.write_sink.write_piece.Given as goal

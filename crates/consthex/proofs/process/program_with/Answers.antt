@@ -1,3 +1,4 @@
+-- Proofs of open goals: `c` has the facts that are known at a goal, `g` the type parameters and their traits' members.
 use Rattle.consthex.proofs.lemmas.Statuses.{ends_failed}
 use Rattle.consthex.proofs.process.program_with.Goals as goal
 

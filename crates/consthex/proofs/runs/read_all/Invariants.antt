@@ -1,3 +1,4 @@
+-- Loop invariant and measure: `l` has the live variables, `g` the type parameters and their traits' members.
 use Rattle.std.proofs.Common.{◌-◌, vec_len}
 use Rattle.std.specs.Io.KnownBytes.{Consumes}
 use Rattle.consthex.proofs.runs.read_all.Given as goal

@@ -1,3 +1,4 @@
+-- Proofs of open goals: `c` has the facts that are known at a goal, `g` the type parameters and their traits' members.
 use Rattle.std.proofs.Common.{◌≡◌, ◌∙◌, ◌++◌, [], ℕ, List, None, Option, Some, Ok, ap, append-nil, inl, inr, refl, subst, true, false}
 use Rattle.std.specs.Io.KnownBytes.{Appends, Consumes, Keeps}
 use Rattle.hexfilter_core.proofs.lemmas.Mirror.{not_decoded}
@@ -11,18 +12,23 @@ use Rattle.hexfilter_core.proofs.callers.check.Goals as goal
 abbrev plain : Reading
 plain = record { is_check = true; ignore_whitespace = false; groups = record { size = 0; separator = 10 } }
 
-nothing_written : (old new : Option (List ℕ)) (y : List ℕ) → y ≡ [] → Appends old new y → Keeps old new
-nothing_written None new y none wrote = tt
+nothing_written : (out_before out_after : Option (List ℕ)) (y : List ℕ) → y ≡ [] → Appends out_before out_after y
+    → Keeps out_before out_after
+nothing_written None out_after y none wrote = tt
 nothing_written (Some x) None y none wrote = absurd wrote
 nothing_written (Some x) (Some z) y none wrote = wrote ∙ ap (λ l. x ++ l) none ∙ append-nil x
 
-nothing : (s : ℕ) (had left old new : Option (List ℕ)) → Ends (Decode plain) s had left old new → Keeps old new
-nothing s had left old new (done, text, begun, inl zero) =
-    let (x, y, read, end, (bytes, reads, is), wrote) = done zero in nothing_written old new y is wrote
-nothing s had left old new (done, text, begun, inr (inl one)) =
-    let (e, place, (x, y, read, (bytes, fails, is), wrote)) = text one in nothing_written old new y is wrote
-nothing s had left old new (done, text, begun, inr (inr three)) =
-    let (x, y, read, (bytes, spelled, is), wrote) = begun three in nothing_written old new y is wrote
+nothing : (status : ℕ) (in_before in_after out_before out_after : Option (List ℕ))
+    → Ends (Decode plain) status in_before in_after out_before out_after → Keeps out_before out_after
+nothing status in_before in_after out_before out_after (done, text, partly_written, inl zero) =
+    let (x, y, read, end, (bytes, reads, output_eq), wrote) = done zero in
+    nothing_written out_before out_after y output_eq wrote
+nothing status in_before in_after out_before out_after (done, text, partly_written, inr (inl one)) =
+    let (e, location, (x, y, read, (bytes, fails, output_eq), wrote)) = text one in
+    nothing_written out_before out_after y output_eq wrote
+nothing status in_before in_after out_before out_after (done, text, partly_written, inr (inr three)) =
+    let (x, y, read, (bytes, spelled, output_eq), wrote) = partly_written three in
+    nothing_written out_before out_after y output_eq wrote
 
 pub returns : goal.returns
 unfolding with_arguments
@@ -30,12 +36,13 @@ returns g c =
     let ends = ends_always _ (Decode plain) _ _ _ _ _
     (c.program.ensures.input (Decode plain) None (rw c.requires refl) refl) in record {
       done = λ zero.
-          let (x, y, read, end, (bytes, reads, is), wrote) = ends.0 zero in
+          let (x, y, read, end, (bytes, reads, output_eq), wrote) = ends.0 zero in
           let same : Reads x (Ok bytes) = rw (text_plain plain x refl) at reads in (x, bytes, read, end, same);
-      rejected = λ x y is reads one.
-          let (e, place, (z, w, read, (bytes, fails, same), wrote)) = ends.1 one in
-          let left = g.R.Read.remaining c.program.new.input in
-          not_decoded plain x left z bytes y e place (subst (λ (had : Option (List ℕ)). Consumes had left z) is read)
+      rejected = λ x y remaining_eq reads one.
+          let (e, location, (z, w, read, (bytes, fails, same), wrote)) = ends.1 one in
+          let in_after = g.R.Read.remaining c.program.new.input in
+          not_decoded plain x in_after z bytes y e location
+          (subst (λ (in_before : Option (List ℕ)). Consumes in_before in_after z) remaining_eq read)
           fails (rw (text_plain plain x refl) reads);
       nothing = nothing _ _ _ _ _ ends;
     }

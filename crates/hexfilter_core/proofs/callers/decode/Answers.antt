@@ -1,3 +1,4 @@
+-- Proofs of open goals: `c` has the facts that are known at a goal, `g` the type parameters and their traits' members.
 use Rattle.std.proofs.Common.{◌∷◌, ◌++◌, ◌*◌, [], Ok, false, length, refl, take}
 use Rattle.std.proofs.lemmas.Result.{on_err_weaker, on_ok_weaker}
 use Rattle.hexfilter_core.proofs.lemmas.Texts.{text_plain}
@@ -11,29 +12,30 @@ plain = record { is_check = false; ignore_whitespace = false; groups = record { 
 pub returns-clause-ok : goal.returns-clause-ok
 returns-clause-ok g c =
     on_ok_weaker c.run.result (λ done.
-    let (x, y, read, end, (bytes, reads, is), wrote) = done in
-    let same : Reads x (Ok bytes) = rw (text_plain plain x refl) at reads in (x, y, read, end, rw is same, wrote))
+    let (x, y, read, end, (bytes, reads, output_eq), wrote) = done in
+    let same : Reads x (Ok bytes) = rw (text_plain plain x refl) at reads in
+    (x, y, read, end, rw output_eq same, wrote))
     c.run.ensures.ok
 
 pub returns-clause-odd : goal.returns-clause-odd
-returns-clause-odd g c = λ place is.
-    let (x, y, read, (bytes, fails, same), wrote) = c.run.ensures.text OddLength place is in
+returns-clause-odd g c = λ location result_eq.
+    let (x, y, read, (bytes, fails, same), wrote) = c.run.ensures.text OddLength location result_eq in
     let odd : IsOdd (length x) = rw (text_plain plain x refl) at fails.2 in
     let pairs = rw (text_plain plain x refl) at fails.3 in
     (fails.0, (x, y, read, fails.1, odd, pairs.0, rw same pairs.1, wrote))
 
 pub returns-clause-invalid : goal.returns-clause-invalid
-returns-clause-invalid g c = λ b i place is.
-    let (x, y, read, (bytes, fails, same), wrote) = c.run.ensures.text (InvalidHexCharacter b i) place is in
+returns-clause-invalid g c = λ b i location result_eq.
+    let (x, y, read, (bytes, fails, same), wrote) = c.run.ensures.text (InvalidHexCharacter b i) location result_eq in
     let pairs = rw (text_plain plain fails.front refl) at fails.bytes in
     let no_digit = rw (text_plain plain (fails.front ++ b ∷ []) refl) at fails.invalid in (
-      fails.stands,
+      fails.located,
       (
         fails.front,
         fails.rest,
         y,
         rw fails.cut at read,
-        fails.soon,
+        fails.rest_is_short,
         fails.position,
         pairs.0,
         no_digit,
@@ -42,9 +44,9 @@ returns-clause-invalid g c = λ b i place is.
       ),
     )
 
-pub returns-clause-begun : goal.returns-clause-begun
-returns-clause-begun g c =
+pub returns-clause-partly_written : goal.returns-clause-partly_written
+returns-clause-partly_written g c =
     on_err_weaker c.run.result (λ part.
-    let (x, y, read, (bytes, spelled, is), wrote) = part in
-    let begun : Spells (take (2 * length bytes) (body_of x)) bytes = rw (text_plain plain x refl) at spelled in
-    (x, y, read, rw is begun, wrote)) c.run.ensures.begun
+    let (x, y, read, (bytes, spelled, output_eq), wrote) = part in
+    let partly_written : Spells (take (2 * length bytes) (body_of x)) bytes = rw (text_plain plain x refl) at spelled in
+    (x, y, read, rw output_eq partly_written, wrote)) c.run.ensures.partly_written

@@ -1,9 +1,17 @@
-use Rattle.hexfilter_core.proofs.lemmas.PlacesOfCharacters.{place_in_line}
+-- Proofs of open goals: `c` has the facts that are known at a goal, `g` the type parameters and their traits' members.
+use Rattle.hexfilter_core.proofs.lemmas.Locations.{location_in_line}
 use Rattle.hexfilter_core.specs.Dumps.{InvalidHexCharacter}
 use Rattle.hexfilter_core.proofs.callers.decode_lines.Goals as goal
 
 pub returns : goal.returns
-returns g c = λ b i place is.
-    let (x, y, read, (bytes, fails, same), wrote) = c.run.ensures.text (InvalidHexCharacter b i) place is in
-    let (p, at, here) = fails.stands in
-    (p, fails.front, fails.rest, at, rw fails.cut at read, λ lines line cut short. place_in_line fails.front lines line p here cut short)
+returns g c = λ b i location result_eq.
+    let (x, y, read, (bytes, fails, same), wrote) = c.run.ensures.text (InvalidHexCharacter b i) location result_eq in
+    let (p, at, here) = fails.located in
+    (
+      p,
+      fails.front,
+      fails.rest,
+      at,
+      rw fails.cut at read,
+      λ lines line cut short. location_in_line fails.front lines line p here cut short,
+    )

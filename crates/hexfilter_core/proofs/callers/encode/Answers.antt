@@ -1,3 +1,4 @@
+-- Proofs of open goals: `c` has the facts that are known at a goal, `g` the type parameters and their traits' members.
 use Rattle.std.proofs.Common.{◌≡◌, ◌∙◌, [], ℕ, List, None, append-nil, arith, false, refl, sym}
 use Rattle.hexfilter_core.proofs.lemmas.Groups.{without_groups}
 use Rattle.hexfilter_core.proofs.lemmas.Runs.{ends_always, not_rejected}
@@ -18,9 +19,11 @@ unfolding with_arguments
 returns g c =
     let m : Mode = Encode false false plain in
     let ends = ends_always _ m _ _ _ _ _ (c.program.ensures.input m None (rw c.requires refl) refl) in record {
-      done = λ zero. let (x, y, read, end, is, wrote) = ends.0 zero in (x, read, end, rw (is ∙ text x) at wrote);
-      begun = λ three.
-          let (x, y, read, (rest, is), wrote) = ends.2 three in (x, y, rest, read, sym (text x) ∙ is, wrote);
+      done = λ zero.
+          let (x, y, read, end, output_eq, wrote) = ends.0 zero in (x, read, end, rw (output_eq ∙ text x) at wrote);
+      partly_written = λ three.
+          let (x, y, read, (rest, output_eq), wrote) = ends.2 three in
+          (x, y, rest, read, sym (text x) ∙ output_eq, wrote);
       statuses = not_rejected m _ _ _ _ _ ends
-          (λ e place rejected. let (x, y, read, fails, wrote) = rejected in fails);
+          (λ e location rejected. let (x, y, read, fails, wrote) = rejected in fails);
     }

@@ -1,3 +1,4 @@
+-- Proofs of open goals: `c` has the facts that are known at a goal, `g` the type parameters and their traits' members.
 use Rattle.std.proofs.Common.{arith, ◌∙◌, Some}
 use Rattle.std.proofs.lemmas.Result.{on_ok_weaker}
 use Rattle.const_hex.specs.Prelude.{AreBytes}
@@ -15,11 +16,13 @@ returns g c =
     (Some c.args.text.now.items) (Some c.run.new.output.items) = rw write at c.in_ok-run.ensures.ok in
     let text = c.as_slice-input.ensures.value ∙ text_written prefix up groups bytes _ _ _ c.requires.empty first in
     let rest = Some c.run-2.new.input.now in
-    let old = g.W.Write.contents c.args.output.now in
-    let new = g.W.Write.contents c.run-2.new.output in record {
+    let out_before = g.W.Write.contents c.args.output.now in
+    let out_after = g.W.Write.contents c.run-2.new.output in record {
       done = on_ok_weaker c.run-2.result
-          (λ ran. decoded_again prefix up ignores groups lines bytes are _ rest old new text (rw read at ran))
+          (λ ran.
+          decoded_again prefix up ignores groups lines bytes are _ rest out_before out_after text (rw read at ran))
           c.run-2.ensures.ok;
-      never_text = λ e place is. never_rejected prefix up ignores groups lines bytes are _ rest old new e place text
-          (rw read at (c.run-2.ensures.text e place is));
+      never_text = λ e location result_eq.
+          never_rejected prefix up ignores groups lines bytes are _ rest out_before out_after e location text
+          (rw read at (c.run-2.ensures.text e location result_eq));
     }

@@ -1,14 +1,15 @@
+-- Proofs of open goals: `c` has the facts that are known at a goal, `g` the type parameters and their traits' members.
 use Rattle.std.proofs.Common.{◌≡◌, ◌⊎◌, ◌∷◌, [], ℕ, List, Ok, codes, inl, inr, refl}
 use Rattle.hexfilter_core.specs.Options.{Version, request_for, with_arguments, with_letters}
 use Rattle.hexfilter_core.proofs.callers.print_version.Goals as goal
 
-asked : (words : List (List ℕ)) → (words ≡ codes "--version" ∷ []) ⊎ (words ≡ codes "-V" ∷ [])
+is_version : (words : List (List ℕ)) → (words ≡ codes "--version" ∷ []) ⊎ (words ≡ codes "-V" ∷ [])
     → request_for words ≡ Ok Version
 unfolding with_arguments with_letters
-asked words (inl is) = rw is refl
-asked words (inr is) = rw is refl
+is_version words (inl words_eq) = rw words_eq refl
+is_version words (inr words_eq) = rw words_eq refl
 
 pub returns : goal.returns
 returns g c =
-    let (done, failed, statuses) = (c.program.ensures.version (asked _ c.requires)).1 in
+    let (done, failed, statuses) = (c.program.ensures.version (is_version _ c.requires)).1 in
     record { done = done; failed = failed; statuses = statuses }

@@ -1,3 +1,4 @@
+-- Proofs of open goals: `c` has the facts that are known at a goal.
 use Rattle.std.proofs.Common.{◌≡◌, ◌∙◌, ◌+◌, ◌-◌, ◌++◌, take, drop, ap, arith, take-take}
 use Rattle.hexfilter_core.proofs.lemmas.Groups.{goes_on, puts_more}
 use Rattle.hexfilter_core.proofs.lemmas.Texts.{take_put}
@@ -23,14 +24,14 @@ groups-preserved c =
           (omega arith) (omega arith) (omega arith) _ put;
     }
 
-pub groups-preserved-then-text-done-gt-SHORT : goal.groups-preserved-then-text-done-gt-SHORT
-groups-preserved-then-text-done-gt-SHORT c =
+pub groups-preserved-then-text-done-gt-BLOCK : goal.groups-preserved-then-text-done-gt-BLOCK
+groups-preserved-then-text-done-gt-BLOCK c =
     let laid = c.groups.invariant in
     let put = c.put_short-taken.ensures in record {
       within = omega arith;
       space = omega arith;
       column = omega arith;
-      groups = rw c.if-column-groups.true (puts_more c.args.groups c.args.column _ _ c.args.text.now c.groups.done _ c.groups.output
-          c.put_short-taken.new.output c.groups.end _ _ (omega arith) (omega arith) (omega arith)
+      groups = rw c.if-column-groups.true (puts_more c.args.groups c.args.column _ _ c.args.text.now c.groups.done _
+          c.groups.output c.put_short-taken.new.output c.groups.end _ _ (omega arith) (omega arith) (omega arith)
           (rw c.if-column-groups.true at laid.groups) put.groups);
     }

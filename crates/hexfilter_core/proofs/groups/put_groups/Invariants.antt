@@ -1,3 +1,4 @@
+-- Loop invariant and measure: `l` has the live variables.
 use Rattle.std.proofs.Common.{◌-◌, ◌*◌, ◌≤◌, length, take}
 use Rattle.hexfilter_core.specs.Dumps.{PutsInto}
 use Rattle.hexfilter_core.proofs.groups.put_groups.Given as goal

@@ -1,3 +1,4 @@
+-- Proofs of open goals: `c` has the facts that are known at a goal.
 use Rattle.std.proofs.Common.{◌≡◌, ◌≤◌, ◌++◌, ◌∙◌, drop, length, length-take, refl, arith}
 use Rattle.hexfilter_core.proofs.lemmas.Groups.{puts_pairs}
 use Rattle.hexfilter_core.proofs.lemmas.Texts.{take_put}

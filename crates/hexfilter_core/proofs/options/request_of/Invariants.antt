@@ -1,3 +1,4 @@
+-- Loop invariant: `l` has the live variables.
 use Rattle.std.proofs.Common.{◌≡◌, drop, map, string_bytes}
 use Rattle.hexfilter_core.specs.Options.{request_for, with_arguments}
 use Rattle.hexfilter_core.proofs.options.request_of.Given as goal

@@ -1,3 +1,4 @@
+-- Proofs of open goals: `c` has the facts that are known at a goal, `g` the type parameters and their traits' members.
 use Rattle.std.proofs.Common.{length, arith, take_all}
 use Rattle.std.proofs.KnownBytes.{Appends-kept}
 use Rattle.hexfilter_core.proofs.lemmas.Runs.{failed}

@@ -1,10 +1,11 @@
+-- Proofs of open goals: `c` has the facts that are known at a goal, `g` the type parameters and their traits' members.
 use Rattle.std.proofs.Common.{◌≡◌, List, ℕ, Some, Option, true, false, refl, Bor, option_copied}
 use Rattle.hexfilter_core.proofs.lemmas.Runs.{ends}
 use Rattle.hexfilter_core.proofs.process.run_on.Goals as goal
 
 same_name : (name : Option (Bor (List ℕ))) (b : Bor (List ℕ)) (n : List ℕ) → name ≡ Some b → option_copied name ≡ Some n
     → b.now ≡ n
-same_name name b n is named = cc
+same_name name b n name_eq named = cc
 
 pub returns-then-is_output-clause-file : goal.returns-then-is_output-clause-file
 returns-then-is_output-clause-file g c = λ n named.
@@ -21,7 +22,7 @@ returns-in-Ok-clause-file g c = λ n named.
       refl,
       (
         g.H.File.Read.remaining c.run-in-Ok.new.input,
-        rw (written, opened, ← bytes) (ends c.args.mode _ _ _ _ c.run-in-Ok.result ran.ok ran.text ran.begun),
+        rw (written, opened, ← bytes) (ends c.args.mode _ _ _ _ c.run-in-Ok.result ran.ok ran.text ran.partly_written),
       ),
     )
 

@@ -1,3 +1,4 @@
+-- Proofs of open goals: `c` has the facts that are known at a goal, `g` the type parameters and their traits' members.
 use Rattle.std.proofs.Common.{rules, ◌++◌, ◌+◌, [], Some, length, take, arith, length-take, refl}
 use Rattle.std.proofs.KnownBytes.{Appends-kept, Appends-trans, Consumes-kept, Consumes-trans}
 use Rattle.std.proofs.Math.Seq.{take-append-add}
@@ -6,20 +7,20 @@ use Rattle.hexfilter_core.proofs.lemmas.Runs.{same_value}
 use Rattle.hexfilter_core.proofs.lemmas.Texts.{fewer_made, reached_begun, so_far_made}
 use Rattle.hexfilter_core.proofs.runs.run.Goals as goal
 
--- x was read and y written so far; has, read and wrote are the facts of the invariant
-pub returns-in_err-count-clause-begun : goal.returns-in_err-count-clause-begun
-returns-in_err-count-clause-begun g c =
+-- by the loop invariant, x was read and y was written so far: has, read and wrote are its three facts
+pub returns-in_err-count-clause-partly_written : goal.returns-in_err-count-clause-partly_written
+returns-in_err-count-clause-partly_written g c =
     let (x, y, has, read, wrote) = c.chunks.invariant in
     if_err c.from_residual.result
     (x, y, Consumes-kept _ _ _ x read c.in_err-count.ensures.nothing_read, so_far_made c.args.mode _ x y has, wrote)
 
-pub returns-in_err-write_piece-clause-begun : goal.returns-in_err-write_piece-clause-begun
-returns-in_err-write_piece-clause-begun g c =
+pub returns-in_err-write_piece-clause-partly_written : goal.returns-in_err-write_piece-clause-partly_written
+returns-in_err-write_piece-clause-partly_written g c =
     let (x, y, has, read, wrote) = c.chunks.invariant in
-    let piece = take c.next-end.result.0 c.next-end.new.output in
-    let (n, begun) = c.in_err-write_piece.ensures.begun in
+    let piece = take c.process_chunk-end.result.0 c.process_chunk-end.new.output in
+    let (n, begun) = c.in_err-write_piece.ensures.partly_written in
     let fewer = rw (take-append-add y piece n) at (fewer_made c.args.mode _ (y ++ piece) (length y + n)
-    (reached_begun _ _ (Some []) _ _ _ _ (c.next-end.ensures.made x y (Some []) has (λ none. refl)))) in
+    (reached_begun _ _ (Some []) _ _ _ _ (c.process_chunk-end.ensures.made x y (Some []) has (λ none. refl)))) in
     if_err c.from_residual-in_err-write_piece.result
     (_, _, Consumes-trans _ _ _ x _ read c.in_ok-count.ensures.bytes, fewer, Appends-trans _ _ _ y _ wrote begun)
 
@@ -28,15 +29,16 @@ returns-in-Some g c =
     let (x, y, has, read, wrote) = c.chunks.invariant in
     let bytes = Consumes-trans _ _ _ x _ read c.in_ok-count.ensures.bytes in
     let more = Appends-trans _ _ _ y _ wrote c.in_ok-write_piece.ensures.ok in
-    let made = c.next-end.ensures.made x y (Some []) has (λ none. refl) in record {
+    let made = c.process_chunk-end.ensures.made x y (Some []) has (λ none. refl) in record {
       ok = search rules;
-      text = λ e place is.
-          let fails = rw c.in-Some.is at (c.next-end.ensures.made x y (g.R.Read.remaining c.read_chunk.new.input) has
+      text = λ e location result_eq.
+          let fails = rw c.in-Some.is at
+          (c.process_chunk-end.ensures.made x y (g.R.Read.remaining c.read_chunk.new.input) has
           (λ none. c.in_ok-count.ensures.end
           (omega (arith, none, length-take c.in_ok-count.count c.read_chunk.new.buffer, c.in_ok-count.ensures.bound))
           (omega (arith, c.read_chunk.auto.buffer)))) in
-          (_, _, bytes, rw (same_value _ _ is) at fails, more);
-      begun = (_, _, bytes, reached_begun _ _ (Some []) _ _ _ _ made, more);
+          (_, _, bytes, rw (same_value _ _ result_eq) at fails, more);
+      partly_written = (_, _, bytes, reached_begun _ _ (Some []) _ _ _ _ made, more);
       retried = let fails = rw c.in-Some.is at made in grind (arith, fails);
     }
 
@@ -46,7 +48,7 @@ chunks-preserved g c =
     let more = Appends-trans _ _ _ y _ wrote c.in_ok-write_piece.ensures.ok in (
       _,
       _,
-      (rw c.in_default.is at (c.next-end.ensures.made x y (Some []) has (λ none. refl))).0 (omega (
+      (rw c.in_default.is at (c.process_chunk-end.ensures.made x y (Some []) has (λ none. refl))).0 (omega (
         arith,
         length-take c.in_ok-count.count c.read_chunk.new.buffer,
         c.in_ok-count.ensures.bound,
@@ -56,8 +58,8 @@ chunks-preserved g c =
       more,
     )
 
-pub returns-clause-begun : goal.returns-clause-begun
-returns-clause-begun g c =
+pub returns-clause-partly_written : goal.returns-clause-partly_written
+returns-clause-partly_written g c =
     search (rules, so_far_made)
 
 pub returns-then-count-eq0 : goal.returns-then-count-eq0
@@ -67,12 +69,12 @@ returns-then-count-eq0 g c =
     let bytes = Consumes-trans _ _ _ x _ read got.bytes in
     let more = Appends-trans _ _ _ y _ wrote c.in_ok-write_piece.ensures.ok in
     let kept = Appends-kept _ _ _ _ more c.flush.ensures.bytes in
-    let made = c.next-end.ensures.made x y (Some []) has (λ none. refl) in
+    let made = c.process_chunk-end.ensures.made x y (Some []) has (λ none. refl) in
     let makes = (rw c.in_default.is at made).1
     (omega (arith, length-take c.in_ok-count.count c.read_chunk.new.buffer, c.if-count-eq0.true)) in
     let end = got.end c.if-count-eq0.true (omega (arith, c.read_chunk.auto.buffer)) in record {
       ok = if_ok c.flush.result (_, _, bytes, end, makes, kept);
       text = search rules;
-      begun = if_err c.flush.result (_, _, bytes, reached_begun _ _ (Some []) _ _ _ _ made, kept);
+      partly_written = if_err c.flush.result (_, _, bytes, reached_begun _ _ (Some []) _ _ _ _ made, kept);
       retried = search rules;
     }

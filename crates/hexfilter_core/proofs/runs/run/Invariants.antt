@@ -1,3 +1,4 @@
+-- Loop invariant: `l` has the live variables, `g` the type parameters and their traits' members.
 use Rattle.std.proofs.Common.{ℕ, List}
 use Rattle.std.specs.Io.KnownBytes.{Appends, Consumes}
 use Rattle.hexfilter_core.specs.Stages.{HasMade}

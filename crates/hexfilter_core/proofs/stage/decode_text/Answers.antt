@@ -1,3 +1,4 @@
+-- Proofs of open goals: `c` has the facts that are known at a goal.
 use Rattle.std.proofs.Common.{arith, refl}
 use Rattle.std.proofs.lemmas.Result.{IfOk-weaker}
 use Rattle.const_hex_arch.proofs.lemmas.FirstInvalid.{digits_no_bad}
@@ -5,20 +6,24 @@ use Rattle.hexfilter_core.proofs.stage.decode_text.Goals as goal
 
 pub returns-in-Ok-clause-ok : goal.returns-in-Ok-clause-ok
 returns-in-Ok-clause-ok c = λ t z has.
-    let given = rw c.if-reading.true at has.given in
-    record { bytes = _; read = (c.in-Ok.ensures.ok t has.bytes has.read).1; given = rw (c.if-reading.true, given) refl }
+    let output = rw c.if-reading.true at has.output in
+    record {
+      bytes = _;
+      read = (c.in-Ok.ensures.ok t has.bytes has.read).1;
+      output = rw (c.if-reading.true, output) refl;
+    }
 
 pub returns-in-Err-clause-err : goal.returns-in-Err-clause-err
 returns-in-Err-clause-err c =
-    λ t z has space. grind (arith, digits_no_bad, c.in-Err.ensures.answer t has.bytes has.read)
+    λ t z has space. grind (arith, digits_no_bad, c.in-Err.ensures.outcome t has.bytes has.read)
 
 pub returns-clause-ok : goal.returns-clause-ok
 returns-clause-ok c = λ t z has.
-    let given = rw c.if-reading.false at has.given in
+    let output = rw c.if-reading.false at has.output in
     IfOk-weaker c.decode.result _ _
-    (λ n read. record { bytes = _; read = read; given = rw (c.if-reading.false, given) refl })
+    (λ n read. record { bytes = _; read = read; output = rw (c.if-reading.false, output) refl })
     (c.decode.ensures.ok t has.bytes has.read)
 
 pub returns-clause-err : goal.returns-clause-err
 returns-clause-err c = λ t z has space.
-    grind (arith, digits_no_bad, c.decode.ensures.answer t has.bytes has.read, c.decode.ensures.enough space)
+    grind (arith, digits_no_bad, c.decode.ensures.outcome t has.bytes has.read, c.decode.ensures.enough space)

@@ -1,3 +1,4 @@
+-- Loop invariant: `l` has the live variables, `g` the type parameters and their traits' members.
 use Rattle.std.specs.Io.KnownBytes.{Keeps}
 use Rattle.hexfilter_core.proofs.transfer.read_chunk.Given as goal
 

@@ -1,7 +1,7 @@
--- `format_slice_upper` passes on the text that `write_text` lends.
+-- `format_slice_upper` returns the text that `write_text` borrows: see `lemmas/Walks.antt`.
 use Rattle.std.specs.Prelude.{true}
 use denote.Param.{number}
-use Rattle.const_hex.proofs.lemmas.Walks.LentText.{slice_input, numbers, hands_on}
+use Rattle.const_hex.proofs.lemmas.Walks.LentText.{slice_input, numbers, passes_on}
 use Rattle.const_hex.specs.contracts.buffer.Buffer.write_text as fills
 use Rattle.const_hex.proofs.buffer.Buffer.format_slice_upper.Statement.{statement}
 use Rattle.const_hex.proofs.buffer.Buffer.format_slice_upper.Code as code
@@ -9,7 +9,7 @@ use Rattle.const_hex.proofs.buffer.Buffer.write_text.Met as filled
 
 pub format_slice_upper_spec : {M : Type 1} → statement M
 format_slice_upper_spec 𝓤 𝓛 𝓜 𝓡 wired n p len fits_n fits_p fits_len =
-    hands_on n p len slice_input true 𝓤 𝓛 𝓜 𝓡
+    passes_on n p len slice_input true 𝓤 𝓛 𝓜 𝓡
     (fills.clauses (number n) (number p) (number len) 𝓛 𝓜.mem 𝓡.returns) _ _
     (code.unfolded 𝓤 𝓛.H 𝓜 𝓡 wired (numbers n p len))
     (filled.met 𝓤 𝓛 𝓜 𝓡 (code.calls-const_hex::buffer::Buffer::write_text 𝓡.env wired) n p len fits_n fits_p fits_len)

@@ -1,3 +1,4 @@
+-- Proofs of open goals: `c` has the facts that are known at a goal.
 use Rattle.const_hex.proofs.lemmas.Searching.{both_digits}
 use Rattle.const_hex.proofs.codec.body.are_digits.Goals as goal
 

@@ -1,3 +1,4 @@
+-- Loop invariant and measure: `l` has the live variables.
 use Rattle.std.proofs.Common.{◌-◌, ◌≤◌, length, take}
 use Rattle.const_hex.specs.Prelude.{AllDigits}
 use Rattle.const_hex.proofs.codec.body.find_first_invalid_from.Given as goal

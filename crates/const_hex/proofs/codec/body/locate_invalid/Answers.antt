@@ -1,8 +1,14 @@
+-- Proofs of open goals: `c` has the facts that are known at a goal, `g` the type parameters and their traits' members.
 use Rattle.std.proofs.Common.{◌∙◌, refl}
 use Rattle.const_hex.proofs.codec.body.locate_invalid.Goals as goal
 
 pub returns : goal.returns
 returns g c = λ n.
-    let is = c.find_first_invalid-byte.ensures in
+    let found = c.find_first_invalid-byte.ensures in
     let body = c.strip_prefix-body.ensures.body in
-    (c.find_first_invalid-byte.result.1, rw body at (is.bad (rw (← body) at n)), c.from.ensures ∙ (rw body at is.byte), rw body refl)
+    (
+      c.find_first_invalid-byte.result.1,
+      rw body at (found.invalid (rw (← body) at n)),
+      c.from.ensures ∙ (rw body at found.byte),
+      rw body refl,
+    )

@@ -1,3 +1,4 @@
+-- Proofs of open goals: `c` has the facts that are known at a goal, `g` the type parameters and their traits' members.
 use Rattle.std.proofs.Common.{Ok, rules}
 use Rattle.const_hex.proofs.lemmas.Reading.{Reads-digits, ChecksText-from_Checks}
 use Rattle.const_hex.proofs.codec.checks.check_with.Goals as goal

@@ -1,3 +1,4 @@
+-- Proofs of open goals: `c` has the facts that are known at a goal.
 use Rattle.std.proofs.Common.{◌≡◌, ◌+◌, ◌-◌, length, Ok, arith}
 use Rattle.const_hex.specs.Prelude.{body_of}
 use Rattle.const_hex.proofs.lemmas.Decoding.{body-shorter}
@@ -10,10 +11,13 @@ returns-then-index-body c =
     let found = c.find_first_invalid_from-byte.ensures in
     let p = c.find_first_invalid_from-byte.result.1 in
     let body = c.strip_prefix-body.ensures.body in
-    let bad = found.bad (λ all. absurd (omega (arith, found.all.1 all, c.if-index-body.true))) in
+    let invalid = found.invalid (λ all. absurd (omega (arith, found.all.1 all, c.if-index-body.true))) in
     let at : p + length t - length (body_of t) ≡ p + (length t - length (body_of t)) = omega (arith, body-shorter t) in
     ChecksText-from_Checks t _
-    (rw c.invalid_character.ensures (omega (arith, c.if-input-ne0.false), (p, rw (← body) bad, rw (← body) found.byte, rw body at)))
+    (rw c.invalid_character.ensures (
+      omega (arith, c.if-input-ne0.false),
+      (p, rw (← body) invalid, rw (← body) found.byte, rw body at),
+    ))
 
 pub returns : goal.returns
 returns c =

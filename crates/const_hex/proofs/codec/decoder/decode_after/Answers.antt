@@ -1,7 +1,8 @@
+-- Proofs of open goals: `c` has the facts that are known at a goal, `g` the type parameters and their traits' members.
 use Rattle.std.proofs.Common.{◌≡◌, ◌*◌, suc, [], ◌∷◌, refl, arith, get_or, length, take, drop}
 use Rattle.std.proofs.lemmas.List.{drop_more, take_rest}
 use Rattle.const_hex_arch.proofs.lemmas.Texts.{Spells-append}
-use Rattle.const_hex.proofs.lemmas.Decoding.{Partial-longer, rest_refused, partial_pairs}
+use Rattle.const_hex.proofs.lemmas.Decoding.{Partial-longer, rest_rejected, partial_pairs}
 use Rattle.const_hex.proofs.codec.decoder.decode_after.Goals as goal
 
 pub returns-then-decode_body-clause-spells : goal.returns-then-decode_body-clause-spells
@@ -20,7 +21,7 @@ returns-then-decode_body-clause-invalid g c = λ h.
     let digits = c.args.digits.now in
     let rest = drop 1 digits in
     rw (drop_more digits 0 0 (omega arith))
-    (rest_refused (c.args.high ∷ get_or digits 0 0 ∷ []) rest c.args.output.now _ _ 1 (omega arith)
+    (rest_rejected (c.args.high ∷ get_or digits 0 0 ∷ []) rest c.args.output.now _ _ 1 (omega arith)
     (c.if-decode_body.ensures.spells refl) (omega (arith, c.requires))
     (rw (c.split_at_mut-first.ensures.back, take_rest digits 1) at (c.decode_digits.ensures.invalid h)))
 

@@ -1,7 +1,8 @@
+-- Proofs of open goals: `c` has the facts that are known at a goal, `g` the type parameters and their traits' members.
 use Rattle.std.proofs.Common.{refl, arith, length, ◌*◌}
 use Rattle.const_hex_arch.proofs.lemmas.Digits.{digits_parts}
 use Rattle.const_hex_arch.proofs.lemmas.Texts.{Spells-digits}
-use Rattle.const_hex.proofs.lemmas.Decoding.{last_refused, pairs_refused}
+use Rattle.const_hex.proofs.lemmas.Decoding.{last_rejected, pairs_rejected}
 use Rattle.const_hex.proofs.codec.decoder.decode_digits.Goals as goal
 
 pub returns-then-decode_body-clause-digits : goal.returns-then-decode_body-clause-digits
@@ -11,7 +12,7 @@ returns-then-decode_body-clause-digits g c = λ h.
     (Spells-digits _ _ s, rw c.split_at.ensures.back at (c.check_last.ensures.0 h))
 
 pub returns-then-decode_body-clause-invalid : goal.returns-then-decode_body-clause-invalid
-returns-then-decode_body-clause-invalid g c = grind (arith, last_refused)
+returns-then-decode_body-clause-invalid g c = grind (arith, last_rejected)
 
 pub returns-else-decode_body-clause-invalid : goal.returns-else-decode_body-clause-invalid
-returns-else-decode_body-clause-invalid g c = grind (arith, pairs_refused)
+returns-else-decode_body-clause-invalid g c = grind (arith, pairs_rejected)

@@ -1,3 +1,4 @@
+-- Proofs of open goals: `c` has the facts that are known at a goal, `g` the type parameters and their traits' members.
 use Rattle.std.proofs.Common.{◌*◌, rules, arith, take_all}
 use Rattle.std.proofs.lemmas.Grind.{common_steps}
 use Rattle.const_hex_arch.proofs.lemmas.Digits.{digit_values}
@@ -13,12 +14,12 @@ returns-then-body g c = DecodesToArray-from_ReadsSized g.row.N c.args.input.now 
 
 pub returns-in-Err : goal.returns-in-Err
 returns-in-Err g c =
-    let checked = c.in-Err.ensures.answer in
+    let checked = c.in-Err.ensures.outcome in
     DecodesToArray-from_ReadsSized g.row.N c.args.input.now _ (grind (arith, checked))
 
 pub pairs-init : goal.pairs-init
 pairs-init g c =
-    let (bytes, reads) = c.in_default.ensures.answer in record {
+    let (bytes, reads) = c.in_default.ensures.outcome in record {
       digits = rw c.strip_prefix-body.ensures.body (Spells-digits _ bytes reads.1);
       front = search rules;
       size = grind (arith, common_steps);

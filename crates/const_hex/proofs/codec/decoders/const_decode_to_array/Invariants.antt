@@ -1,3 +1,4 @@
+-- Loop invariant and measure: `l` has the live variables, `g` the type parameters and their traits' members.
 use Rattle.std.proofs.Common.{◌≡◌, ◌≤◌, ◌*◌, ◌-◌, length, take}
 use Rattle.const_hex.specs.Prelude.{AllDigits, Spells}
 use Rattle.const_hex.proofs.codec.decoders.const_decode_to_array.Given as goal

@@ -1,4 +1,4 @@
--- `encode_to_str_upper` lends the text in the slice, or leaves the slice unchanged.
+-- `encode_to_str_upper` returns a borrow of the text in the slice, or leaves it unchanged: see `lemmas/Walks.antt`.
 use Rattle.std.specs.Prelude.{true}
 use Rattle.const_hex.proofs.lemmas.Walks.EncodedStr.{text_or_error}
 use Rattle.const_hex.proofs.codec.encoders.encode_to_str_upper.Statement.{statement}

@@ -1,3 +1,4 @@
+-- Proofs of open goals: `c` has the facts that are known at a goal, `g` the type parameters and their traits' members.
 use Rattle.const_hex.proofs.lemmas.WriteSinks.{streamed_text}
 use Rattle.const_hex.proofs.write_sink.WriteSink.write_hex.Goals as goal
 

@@ -1,3 +1,4 @@
+-- Proofs of open goals: `c` has the facts that are known at a goal.
 use Rattle.std.proofs.Common.{[], arith}
 use Rattle.const_hex_tests.proofs.examples.streams.decode_whole.Goals as goal
 

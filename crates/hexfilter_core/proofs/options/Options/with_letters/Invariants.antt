@@ -1,3 +1,4 @@
+-- Loop invariant and measure: `l` has the live variables.
 use Rattle.std.proofs.Common.{◌≡◌, length}
 use denote.Text.{Utf8}
 use denote.Shadow.{shadow}

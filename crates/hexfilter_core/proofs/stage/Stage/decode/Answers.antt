@@ -1,14 +1,15 @@
+-- Proofs of open goals: `c` has the facts that are known at a goal.
 use Rattle.std.proofs.Common.{◌≡◌, ◌∷◌, ◌++◌, ◌+◌, ◌<◌, ℕ, List, length, take, drop, get_or, sym, arith, append_assoc, length-drop, take_all}
 use Rattle.std.proofs.lemmas.Grind.{common_steps}
 use Rattle.std.proofs.lemmas.Slice.{take-put_mid_below}
-use Rattle.hexfilter_core.proofs.lemmas.Texts.{joined_one, take_put}
+use Rattle.hexfilter_core.proofs.lemmas.Texts.{append_chunk_byte, take_put}
 use Rattle.hexfilter_core.proofs.stage.Stage.decode.Goals as goal
 
 cut_at : (x u : List ℕ) (k : ℕ) → k < length u → (x ++ take k u) ++ get_or u k 0 ∷ drop (k + 1) u ≡ x ++ u
 cut_at x u k h = grind (arith, common_steps)
 
 pub returns-in-Ok-clause-made : goal.returns-in-Ok-clause-made
-returns-in-Ok-clause-made c = λ x y left has.
+returns-in-Ok-clause-made c = λ x y in_after has.
     (λ some. c.in-Ok.ensures.ok x y has, λ none. absurd (omega (arith, none, c.requires.chunk)))
 
 pub bytes-preserved : goal.bytes-preserved
@@ -26,12 +27,16 @@ bytes-preserved c =
       decoded = λ x y has.
           let put = take_put end _ count out new (omega (arith, space, i.fewer, c.bytes-test.true, c.requires.space))
           (omega (arith, ensured.lengths.1, ensured.within, space)) in
-          rw (joined_one x chunk done c.bytes-test.true, append_assoc y (take end out) (take count new), sym put) at
+          rw (
+            append_chunk_byte x chunk done c.bytes-test.true,
+            append_assoc y (take end out) (take count new),
+            sym put,
+          ) at
           (ensured.ok (x ++ take done chunk) (y ++ take end out) (i.decoded x y has));
     }
 
 pub returns-in-Err-clause-made : goal.returns-in-Err-clause-made
-returns-in-Err-clause-made c = λ x y left has.
+returns-in-Err-clause-made c = λ x y in_after has.
     let chunk = c.args.chunk.now in
     let done = c.bytes.done in
     let end = c.bytes.end in
@@ -45,11 +50,11 @@ returns-in-Err-clause-made c = λ x y left has.
     rw (take-put_mid_below end _ out c.decode_part-in-bytes.new.output end (omega arith)
     (omega (arith, space, i.fewer, inside, c.requires.space)))
     (rw (cut_at x chunk done inside) at
-    (c.error.ensures (x ++ take done chunk) (y ++ take end out) (drop (done + 1) chunk) left read
+    (c.error.ensures (x ++ take done chunk) (y ++ take end out) (drop (done + 1) chunk) in_after read
     (omega (arith, length-drop (done + 1) chunk, c.requires.chunk, inside)) invalid))
 
 pub returns-clause-made : goal.returns-clause-made
-returns-clause-made c = λ x y left has. (
+returns-clause-made c = λ x y in_after has. (
   λ some. rw (take_all c.bytes.done c.args.chunk.now (omega arith)) at (c.bytes.invariant.decoded x y has),
   λ none. absurd (omega (arith, none, c.requires.chunk)),
 )

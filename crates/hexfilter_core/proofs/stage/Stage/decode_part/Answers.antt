@@ -1,3 +1,4 @@
+-- Proofs of open goals: `c` has the facts that are known at a goal.
 use Rattle.std.proofs.Common.{arith, length-take, refl}
 use Rattle.std.proofs.lemmas.Result.{IfOk-weaker}
 use Rattle.hexfilter_core.proofs.lemmas.Texts.{decoded_more, plain_added}
@@ -7,14 +8,16 @@ use Rattle.hexfilter_core.proofs.stage.Stage.decode_part.Goals as goal
 pub returns-then-leaves_out-clause-ok : goal.returns-then-leaves_out-clause-ok
 returns-then-leaves_out-clause-ok c = λ x y has.
     IfOk-weaker c.decode_text.result _ _
-    (λ n wrote. decoded_more _ _ _ _ x _ _ y _ has (c.text-count.ensures.added x has.scanned) wrote refl c.saturating_add-self.ensures)
+    (λ n wrote.
+    decoded_more _ _ _ _ x _ _ y _ has (c.scan-count.ensures.added x has.scanned) wrote refl
+    c.saturating_add-self.ensures)
     (c.decode_text.ensures.ok (text_of c.args.reading x) y has.text)
 
 pub returns-then-leaves_out-clause-err : goal.returns-then-leaves_out-clause-err
 returns-then-leaves_out-clause-err c = λ x y has space.
-    rw (c.text-count.ensures.added x has.scanned).text
+    rw (c.scan-count.ensures.added x has.scanned).text
     (c.decode_text.ensures.err (text_of c.args.reading x) y has.text
-    (omega (arith, space, c.text-count.ensures.within, length-take c.text-count.result c.text-count.new.output)))
+    (omega (arith, space, c.scan-count.ensures.within, length-take c.scan-count.result c.scan-count.new.output)))
 
 pub returns-clause-ok : goal.returns-clause-ok
 returns-clause-ok c = λ x y has.

@@ -1,19 +1,20 @@
+-- Proofs of open goals: `c` has the facts that are known at a goal.
 use Rattle.std.proofs.Common.{refl}
 use Rattle.hexfilter_core.proofs.lemmas.Texts.{pairs}
 use Rattle.hexfilter_core.proofs.stage.Stage.error.Goals as goal
 
 pub returns : goal.returns
-returns c = λ x y rest left has soon invalid. (
+returns c = λ x y rest in_after has is_short invalid. (
   has.text.bytes,
   record {
     front = x;
     rest = rest;
     cut = rw c.from.ensures refl;
-    soon = soon;
+    rest_is_short = is_short;
     bytes = pairs c.args.reading c.args.self.now.decoder x has.text.bytes has.text.read;
     invalid = rw c.from.ensures invalid;
     position = has.count;
-    stands = c.place.ensures x has.scanned;
+    located = c.location.ensures x has.scanned;
   },
-  has.text.given,
+  has.text.output,
 )

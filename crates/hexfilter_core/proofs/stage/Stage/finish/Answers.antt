@@ -1,3 +1,4 @@
+-- Proofs of open goals: `c` has the facts that are known at a goal.
 use Rattle.std.proofs.Common.{rules, refl}
 use Rattle.hexfilter_core.proofs.lemmas.Runs.{same_value}
 use Rattle.hexfilter_core.proofs.lemmas.Texts.{pairs}
@@ -5,12 +6,13 @@ use Rattle.hexfilter_core.specs.Dumps.{text_of}
 use Rattle.hexfilter_core.proofs.stage.Stage.finish.Goals as goal
 
 pub returns-in-Ok : goal.returns-in-Ok
-returns-in-Ok c = λ r x y left has end. let ok = c.in-Ok.ensures.ok (text_of r x) has.text.bytes has.text.read in search rules
+returns-in-Ok c = λ r x y in_after has end.
+    let ok = c.in-Ok.ensures.ok (text_of r x) has.text.bytes has.text.read in search rules
 
 pub returns-in-Err : goal.returns-in-Err
-returns-in-Err c = λ r x y left has end.
+returns-in-Err c = λ r x y in_after has end.
     let bytes = has.text.bytes in
     let ensured = c.in-Err.ensures.err (text_of r x) bytes has.text.read in
     let odd = (c.in-Err.ensures.odd (text_of r x) bytes has.text.read).0 ensured in
     rw (same_value _ _ ensured)
-    (bytes, (refl, end, odd, pairs r c.args.self.now.decoder x bytes has.text.read), has.text.given)
+    (bytes, (refl, end, odd, pairs r c.args.self.now.decoder x bytes has.text.read), has.text.output)

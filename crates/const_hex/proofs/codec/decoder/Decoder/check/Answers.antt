@@ -1,29 +1,31 @@
+-- Proofs of open goals: `c` has the facts that are known at a goal.
 use Rattle.std.proofs.Common.{◌∙◌, refl, rules}
 use Rattle.std.proofs.lemmas.Bool.{false≢true}
-use Rattle.const_hex.proofs.lemmas.Decoding.{bad_by_now, digits_by_now, goes_on_unwritten}
+use Rattle.const_hex.proofs.lemmas.Decoding.{first_invalid_in_chunk, body_is_digits, check_more}
 use Rattle.const_hex.proofs.codec.decoder.Decoder.check.Goals as goal
 
 pub returns-then-not-check : goal.returns-then-not-check
 returns-then-not-check c =
-    let next = c.next_digits-waiting in
-    let (p, bad, is) = c.fail.ensures.names (λ a. false≢true (c.if-not-check.ensures.1 a)) in record {
+    let next = c.next_digits-pending in
+    let (p, invalid_at, error_eq) = c.fail.ensures.names (λ a. false≢true (c.if-not-check.ensures.1 a)) in record {
       ok = search rules;
-      answer = λ t bs r.
-          rw is
-          (bad_by_now _ c.args.chunk.now _ _ next.ensures.whole next.ensures.waits t bs r p next.ensures.shorter bad);
-      ended = search rules;
-      kept_error = search rules;
+      outcome = λ t bs r.
+          rw error_eq
+          (first_invalid_in_chunk _ c.args.chunk.now _ _ next.ensures.body next.ensures.pending_valid t bs r p
+          next.ensures.shorter invalid_at);
+      error_stored = search rules;
+      error_repeated = search rules;
     }
 
 pub returns : goal.returns
 returns c =
-    let next = c.next_digits-waiting in
+    let next = c.next_digits-pending in
     let all = c.if-not-check.ensures.0 refl in record {
       ok = λ t bs r.
-          goes_on_unwritten _ c.args.chunk.now _ _ next.ensures.whole next.ensures.waits t bs r c.advance.new.self _ all
+          check_more _ c.args.chunk.now _ _ next.ensures.body next.ensures.pending_valid t bs r c.advance.new.self _ all
           c.advance.ensures.no_error c.advance.ensures.index
-          (c.advance.ensures.waiting ∙ c.left_over.ensures) c.count_pairs-pairs.ensures;
-      answer = λ t bs r. digits_by_now _ c.args.chunk.now _ _ next.ensures.whole next.ensures.waits t bs r all;
-      ended = search rules;
-      kept_error = search rules;
+          (c.advance.ensures.pending ∙ c.left_over.ensures) c.count_pairs-pairs.ensures;
+      outcome = λ t bs r. body_is_digits _ c.args.chunk.now _ _ next.ensures.body next.ensures.pending_valid t bs r all;
+      error_stored = search rules;
+      error_repeated = search rules;
     }

@@ -1,32 +1,35 @@
+-- Proofs of open goals: `c` has the facts that are known at a goal, `g` the type parameters and their traits' members.
 use Rattle.std.proofs.Common.{◌++◌, ℕ, List, Err, arith, refl, sym, length, ◌≡◌, ◌∙◌, take, drop, rules, length-take-le, take_at, drop_at}
 use Rattle.const_hex.specs.Prelude.{HasRead, InvalidStringLength, ReadsOn}
 use Rattle.const_hex_arch.proofs.lemmas.Digits.{digits_append}
 use Rattle.const_hex_arch.proofs.lemmas.FirstInvalid.{digits_no_bad}
-use Rattle.const_hex.proofs.lemmas.Decoding.{added, bad_by_now, digits_by_now, goes_on, spelled_by_now, partial_pairs}
+use Rattle.const_hex.proofs.lemmas.Decoding.{body_added, first_invalid_in_chunk, body_is_digits, decode_more, decoded_length, partial_pairs}
 use Rattle.const_hex.proofs.codec.decoder.Decoder.decode_with.Goals as goal
 
 pub returns-then-count-output : goal.returns-then-count-output
 returns-then-count-output g c =
-    let next = c.next_digits-waiting in
-    let answer : (t bs : List ℕ) → HasRead c.args.self.now t bs
+    let next = c.next_digits-pending in
+    let outcome : (t bs : List ℕ) → HasRead c.args.self.now t bs
     → ReadsOn (t ++ c.args.chunk.now) bs (length c.args.output.now) (Err InvalidStringLength) =
     λ t bs r.
-    let size = spelled_by_now _ c.args.chunk.now _ _ next.ensures.whole next.ensures.waits t bs r _
-    c.count_pairs-count.ensures in omega (arith, size) in search (rules, answer)
+    let size = decoded_length _ c.args.chunk.now _ _ next.ensures.body next.ensures.pending_valid t bs r _
+    c.count_pairs-count.ensures in omega (arith, size) in search (rules, outcome)
 
 pub returns-then-not-decode_next : goal.returns-then-not-decode_next
 returns-then-not-decode_next g c =
-    let next = c.next_digits-waiting in
+    let next = c.next_digits-pending in
     let invalid = c.if-not-decode_next.ensures.invalid refl in record {
       ok = search rules;
-      answer = λ t bs r.
-          let size = spelled_by_now _ c.args.chunk.now _ _ next.ensures.whole next.ensures.waits t bs r _
+      outcome = λ t bs r.
+          let size = decoded_length _ c.args.chunk.now _ _ next.ensures.body next.ensures.pending_valid t bs r _
           c.count_pairs-count.ensures in
-          let (p, bad, is) = c.fail.ensures.names (λ a.
-          digits_no_bad _ invalid.bad ((digits_append _ _).1 (next.ensures.waits r.waits, a)) invalid.first_bad) in
-          rw is (
+          let (p, invalid_at, error_eq) = c.fail.ensures.names (λ a.
+          digits_no_bad _ invalid.bad ((digits_append _ _).1 (next.ensures.pending_valid r.pending_valid, a))
+          invalid.first_bad) in
+          rw error_eq (
             omega (arith, size),
-            bad_by_now _ c.args.chunk.now _ _ next.ensures.whole next.ensures.waits t bs r p next.ensures.shorter bad,
+            first_invalid_in_chunk _ c.args.chunk.now _ _ next.ensures.body next.ensures.pending_valid t bs r p
+                next.ensures.shorter invalid_at,
           );
       within = search rules;
       most = search rules;
@@ -34,16 +37,16 @@ returns-then-not-decode_next g c =
       rest = search rules;
       unchanged = search rules;
       after_error = λ t bs r _.
-          rw (added _ c.args.chunk.now _ _ next.ensures.whole next.ensures.waits t bs r)
+          rw (body_added _ c.args.chunk.now _ _ next.ensures.body next.ensures.pending_valid t bs r)
           (partial_pairs c.args.output.now _ c.decode_next.new.output c.count_pairs-count.result (omega arith)
           (sym c.count_pairs-count.ensures) invalid);
-      ended = search rules;
-      kept_error = search rules;
+      error_stored = search rules;
+      error_repeated = search rules;
     }
 
 pub returns : goal.returns
 returns g c =
-    let next = c.next_digits-waiting in
+    let next = c.next_digits-pending in
     let n = c.count_pairs-count.result in
     let new = c.decode_next.new.output in
     let space : length (take n c.args.output.now) ≡ n = length-take-le n c.args.output.now (omega arith) in
@@ -51,14 +54,15 @@ returns g c =
     let reported = c.if-not-decode_next.ensures in record {
       ok = λ t bs r.
           rw (take_at new (drop n c.args.output.now) n size)
-          (goes_on _ c.args.chunk.now _ _ next.ensures.whole next.ensures.waits t bs r c.advance.new.self n
+          (decode_more _ c.args.chunk.now _ _ next.ensures.body next.ensures.pending_valid t bs r c.advance.new.self n
           (reported.digits refl) c.advance.ensures.no_error c.advance.ensures.index
-          (c.advance.ensures.waiting ∙ c.left_over.ensures) new (rw space at (reported.spells refl)));
-      answer = λ t bs r. (
+          (c.advance.ensures.pending ∙ c.left_over.ensures) new (rw space at (reported.spells refl)));
+      outcome = λ t bs r. (
         omega arith,
-        spelled_by_now _ c.args.chunk.now _ _ next.ensures.whole next.ensures.waits t bs r _
+        decoded_length _ c.args.chunk.now _ _ next.ensures.body next.ensures.pending_valid t bs r _
             c.count_pairs-count.ensures,
-        digits_by_now _ c.args.chunk.now _ _ next.ensures.whole next.ensures.waits t bs r (reported.digits refl),
+        body_is_digits _ c.args.chunk.now _ _ next.ensures.body next.ensures.pending_valid t bs r
+            (reported.digits refl),
       );
       within = search rules;
       most = search rules;
@@ -66,6 +70,6 @@ returns g c =
       rest = drop_at new (drop n c.args.output.now) n size;
       unchanged = search rules;
       after_error = search rules;
-      ended = search rules;
-      kept_error = search rules;
+      error_stored = search rules;
+      error_repeated = search rules;
     }

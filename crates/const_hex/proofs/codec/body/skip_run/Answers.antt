@@ -1,6 +1,0 @@
-use Rattle.std.proofs.Common.{refl, arith}
-use Rattle.const_hex_arch.proofs.lemmas.Steps.{digits_step}
-use Rattle.const_hex.proofs.codec.body.skip_run.Goals as goal
-
-pub returns-then-check-clause-digits : goal.returns-then-check-clause-digits
-returns-then-check-clause-digits g c = digits_step _ _ _ _ (omega arith) c.requires.digits (c.if-check.ensures.0 refl)

@@ -1,8 +1,0 @@
-use Rattle.std.proofs.Common.{true, arith}
-use Rattle.const_hex.specs.Prelude.{AreBytes}
-use Rattle.const_hex_tests.proofs.examples.store.copy.Goals as goal
-
-pub returns : goal.returns
-returns c =
-    let are : AreBytes c.args.key.now = λ k. let fits = c.type_inv.key k in omega (arith, fits) in
-    grind (arith, c.decode.ensures.round_trip true true c.args.key.now are)

@@ -1,8 +1,0 @@
-use Rattle.std.proofs.Common.{false, arith}
-use Rattle.const_hex.specs.Prelude.{AreBytes}
-use Rattle.const_hex_tests.proofs.examples.store.copy_array.Goals as goal
-
-pub returns : goal.returns
-returns c =
-    let are : AreBytes c.args.key.now = λ k. let fits = c.fits-key k in omega (arith, fits) in
-    grind (arith, c.decode_to_array.ensures.round_trip false false c.args.key.now are)

@@ -1,0 +1,61 @@
+//! A sink that records each call.
+
+ghost use Rattle.std.specs.Prelude.{◌≡◌, false, None, refl};
+
+use const_hex::{Sink, SinkError};
+use std::alloc::{AllocError, Global};
+
+/// Records the piece of each call, also of the call that fails and of any later one.
+#[derive(Drop)]
+pub struct RecordingSink {
+    alloc: Global,
+    /// The pieces, in the order of the calls.
+    pub pieces: Vec<String>,
+    fail_at: usize,
+    refused: bool,
+}
+
+impl RecordingSink {
+    /// A sink whose call number `fail_at` fails, counted from 1. With 0 no call fails.
+    pub fn new(alloc: Global, fail_at: usize) -> RecordingSink
+        ensures { result.refused ≡ false }
+    {
+        RecordingSink {
+            alloc,
+            pieces: Vec::new(alloc),
+            fail_at,
+            refused: false,
+        }
+    }
+
+    fn push_piece(&mut self, piece: &str) -> Result<(), AllocError>
+        ensures fail_at { self.new.fail_at ≡ self.old.fail_at }
+        ensures refused { self.new.refused ≡ self.old.refused }
+    {
+        let copy = piece.to_string(self.alloc)?;
+        self.pieces.push(copy)?;
+        Ok(())
+    }
+}
+
+impl Sink for RecordingSink {
+    ghost step = { λ s piece t. t.fail_at ≡ s.fail_at };
+
+    ghost is_refused = { λ s. s.refused };
+
+    ghost reported = { λ s. None };
+
+    fn refused(&self) -> bool {
+        self.refused
+    }
+
+    fn write_str(&mut self, s: &str) -> Result<(), SinkError> {
+        if self.push_piece(s).is_err() || self.pieces.len() == self.fail_at {
+            self.refused = true;
+            return Err(SinkError);
+        }
+        Ok(())
+    }
+
+    ghost reports = { λ s piece t h. refl };
+}

@@ -1,0 +1,10 @@
+-- Proofs of open goals: `c` has the facts that are known at a goal.
+use Rattle.std.proofs.Common.{arith}
+use Rattle.hexfilter_core.proofs.lemmas.Groups.{puts_one}
+use Rattle.hexfilter_core.proofs.groups.put_block.Goals as goal
+
+pub returns-clause-groups : goal.returns-clause-groups
+returns-clause-groups c =
+    puts_one c.args.groups c.args.text.now c.args.output.now c.copy_from_slice.new.self
+    (omega (arith, c.requires.size)) c.requires.short (omega (arith, c.requires.text))
+    (omega (arith, c.requires.text, c.requires.space)) c.copy_from_slice.ensures.after

@@ -1,6 +1,0 @@
-use Rattle.std.proofs.Common.{refl}
-use Rattle.hexfilter_core.proofs.lemmas.PlacesOfCharacters.{place_after_newline}
-use Rattle.hexfilter_core.proofs.place.Place.after.Goals as goal
-
-pub returns-then-byte-eq10 : goal.returns-then-byte-eq10
-returns-then-byte-eq10 c = λ x is. rw c.if-byte-eq10.true (place_after_newline x c.args.self _ is refl)

@@ -1,0 +1,15 @@
+-- Loop invariant and measure: `l` has the live variables.
+use Rattle.std.proofs.Common.{◌-◌, ◌≤◌, List, ℕ, length, take}
+use Rattle.hexfilter_core.specs.Stages.{HasAdded, HasScanned}
+use Rattle.hexfilter_core.proofs.scanner.Scanner.scan.Given as goal
+
+abbrev pub invariant-runs : goal.invariant-runs
+invariant-runs l = record {
+  within : l.done ≤ length l.chunk;
+  fewer : l.end ≤ l.done;
+  so_far : (x : List ℕ) → HasScanned l.reading l.fn.self x
+      → HasAdded l.reading l.scanner x (take l.done l.chunk) (take l.end l.output);
+}
+
+abbrev pub decreases-runs : goal.decreases-runs
+decreases-runs l = length l.chunk - l.done
