@@ -20,23 +20,29 @@ fn printing_with_a_width() {
     assert_eq!(format!("{:>20}", display(BYTES)), TEXT);
 }
 
-/// A writer with space for so many characters. No call follows one that has failed.
-struct Space(Option<usize>);
+/// A writer with capacity for so many characters, and the lengths of the calls. No call follows one that has failed.
+struct Limited(Option<usize>, Vec<usize>);
 
-impl Write for Space {
+impl Write for Limited {
     fn write_str(&mut self, text: &str) -> std::fmt::Result {
+        self.1.push(text.len());
         self.0 = self.0.expect("no call has failed").checked_sub(text.len());
         self.0.map(drop).ok_or(std::fmt::Error)
     }
 }
 
-/// Printing stops at an error of the writer, which is returned.
+/// Each call of the writer but the last passes 4096 characters. Printing stops at its first error, which is returned.
 #[test]
-fn errors_of_a_writer() {
+fn calls_and_errors_of_a_writer() {
     for length in [0, 1, 128, 512, 2047, 2048, 2049, 4095, 4096, 40_000] {
-        for space in [0, 4095, 4096, 32_768, 79_999, 2 * length + 2] {
-            let printed = write!(Space(Some(space)), "{:#}", display(vec![0; length]));
-            assert_eq!(printed.is_ok(), space >= 2 * length + 2);
+        let all = vec![b'0'; 2 * length + 2];
+        let calls: Vec<usize> = all.chunks(4096).map(<[u8]>::len).collect();
+        for capacity in [0, 4095, 4096, 32_768, 79_999, all.len()] {
+            let mut writer = Limited(Some(capacity), Vec::new());
+            let printed = write!(writer, "{:#}", display(vec![0; length]));
+            assert_eq!(printed.is_ok(), capacity >= all.len());
+            let count = calls.len().min(capacity / 4096 + 1);
+            assert_eq!(writer.1[..], calls[..count]);
         }
     }
 }

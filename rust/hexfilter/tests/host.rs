@@ -114,15 +114,29 @@ fn an_argument_that_is_no_text() {
     assert_eq!(end, (Some(2), vec![], error.to_string()));
 }
 
-/// The manual page has each option of the help.
+/// The manual page has each option, description and example of the help, apart from its markup.
 #[test]
 fn the_manual_page() {
-    let page = include_str!("../hexfilter.1").replace('\\', "");
+    let words = |text: &str| {
+        let words = text.replace(['"', ',', '\\'], "");
+        words.split_whitespace().collect::<Vec<_>>().join(" ")
+    };
+    let page = include_str!("../hexfilter.1")
+        .replace("\\fI", "")
+        .replace("\\fR", "")
+        .replace("\n.BR ", "\n");
+    let page = words(&page);
     let help = String::from_utf8(run(&mut hexfilter(&["--help"]), b"").1).unwrap();
-    for option in help
-        .split_whitespace()
-        .filter(|word| word.starts_with("--"))
-    {
-        assert!(page.contains(option), "{option} is not in the manual page");
+    let (_, help) = help.split_once("\n\n").unwrap();
+    let joined = help
+        .replace("\n                           ", " ")
+        .replace("\n3 ", " 3 ")
+        .replace("Exit status: ", "");
+    let columns = joined.lines().flat_map(|line| line.split("  "));
+    for column in columns.filter(|column| *column != "Examples:") {
+        assert!(
+            page.contains(&words(column)),
+            "{column:?} is not in the manual page"
+        );
     }
 }
