@@ -14,6 +14,7 @@ use std::fmt::{Error, Result, Write};
 use valgrind::black_box;
 
 const LENGTHS: [usize; 6] = [1, 8, 20, 32, 64, 256];
+const LONG: usize = 32_768;
 
 /// For each call, how many instructions it takes at these lengths: by vectors on x86-64, by portable code, and on AArch64.
 /// 0 is not counted: QEMU prints each instruction, which takes seconds.
@@ -72,6 +73,10 @@ fn cells() -> Vec<(&'static str, usize, u64)> {
     }
     // Printing to a writer that returns an error at once encodes no more than a part of the bytes.
     cells.push(("display", 1 << 20, [25_000, 500_000, 0][column]));
+    cells.push(("check", LONG, [13_600, 393_000, 0][column]));
+    // Where the last of 65,536 characters is invalid, the kernel checks halves of them once more to find it.
+    let halves = [27_000, 786_000, 0][column];
+    cells.push(("check, the last character invalid", LONG, halves));
     cells.retain(|(_, _, count)| *count > 0);
     cells
 }
@@ -114,7 +119,11 @@ fn make(call: &str, bytes: usize, times: usize) {
             .for_each(|_| hex::decode_to_slice(black_box(&text), black_box(&mut data)).unwrap()),
         "display" => (0..times)
             .for_each(|_| assert!(write!(Full, "{}", hex::display(black_box(&data))).is_err())),
-        _ => (0..times).for_each(|_| hex::check(black_box(&text)).unwrap()),
+        "check" => (0..times).for_each(|_| hex::check(black_box(&text)).unwrap()),
+        _ => {
+            text[2 * bytes - 1] = b'g';
+            (0..times).for_each(|_| assert!(hex::check(black_box(&text)).is_err()))
+        }
     }
 }
 
