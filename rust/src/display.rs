@@ -1,6 +1,6 @@
 //! Printing, which does not allocate.
 
-use crate::kernel::Space;
+use crate::kernel::StackBuffer;
 use crate::proved::ascii_text;
 use core::fmt;
 
@@ -57,7 +57,8 @@ fn write_with_buffer<const N: usize, const UPPER: bool, const PREFIX: bool>(
     bytes: &[u8],
     f: &mut fmt::Formatter<'_>,
 ) -> fmt::Result {
-    f.write_str(ascii_text(Space::<N>::new().text(bytes, PREFIX, UPPER)))
+    let mut buffer = StackBuffer::<N>::new();
+    f.write_str(ascii_text(buffer.encode(bytes, PREFIX, UPPER)))
 }
 
 /// Does the same for more than 256 characters. Up to 1024 have a smaller buffer, which is copied without optimization.

@@ -2,7 +2,7 @@
 
 #[cfg(feature = "alloc")]
 use crate::kernel::encode_append;
-use crate::kernel::Space;
+use crate::kernel::StackBuffer;
 use crate::proved::tables::digits_at;
 use crate::FromHexError;
 #[cfg(all(feature = "alloc", target_has_atomic = "ptr"))]
@@ -244,8 +244,8 @@ fn digits_of_byte<const UPPER: bool, T: FromIterator<char>>(byte: u8) -> T {
 fn collect_with_buffer<const COUNT: usize, const UPPER: bool, T: FromIterator<char>>(
     bytes: &[u8],
 ) -> T {
-    Space::<COUNT>::new()
-        .text(bytes, false, UPPER)
+    StackBuffer::<COUNT>::new()
+        .encode(bytes, false, UPPER)
         .iter()
         .map(|digit| character(*digit))
         .collect()

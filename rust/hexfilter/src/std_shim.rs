@@ -7,7 +7,7 @@ pub struct System;
 
 impl io::Eprint for System {}
 
-/// What each proved file names without a path.
+/// What each proved file uses without a path.
 pub mod prelude {}
 
 pub mod io {
