@@ -1,4 +1,4 @@
-//! Buffers: what no line of the table asks.
+//! Buffers: what no line of the table tests.
 
 use const_hex_proved::Buffer;
 #[cfg(panic = "unwind")]

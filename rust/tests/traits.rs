@@ -1,9 +1,9 @@
-//! Printing, and the traits, at what no line of the table asks.
+//! Printing and the traits: what no line of the table tests.
 
 use const_hex_proved::{display, ToHex};
 use std::fmt::Write;
 
-/// Bytes of each kind that a signed number tells apart, and their text.
+/// Bytes at the limits of a signed number, and their text.
 const BYTES: [u8; 4] = [0, 127, 128, 255];
 const TEXT: &str = "007f80ff";
 
@@ -57,7 +57,7 @@ fn collections_of_characters() {
     assert_eq!(bytes.encode_hex::<String>(), TEXT);
 }
 
-/// The digits of one to three bytes, of few and of more have code of their own, and so do those of many without `alloc`.
+/// One to three bytes, few and more bytes take different code paths, and so do many without `alloc`.
 #[test]
 fn numbers_of_characters() {
     let bytes: Vec<u8> = (0..2050).map(|index| index as u8).collect();
@@ -123,8 +123,8 @@ mod owned {
         let mut full = b"kiwi".to_vec();
         full.shrink_to_fit();
         let capacity = full.capacity();
-        for (text, wanted) in [("0x", Ok(0)), ("0x7", Err(FromHexError::OddLength))] {
-            assert_eq!(decode_append(text, &mut full), wanted);
+        for (text, expected) in [("0x", Ok(0)), ("0x7", Err(FromHexError::OddLength))] {
+            assert_eq!(decode_append(text, &mut full), expected);
             assert_eq!(full.capacity(), capacity);
         }
     }
