@@ -72,9 +72,8 @@ const RUNS: [(&str, &[u8], &str, &[u8]); 6] = [
 
 /// Runs the program, with a fault in one call.
 fn run_with_fault(options: &str, input: &[u8], failing: usize, kind: ErrorKind) -> Outcome {
-    let calls = String::new();
     let log = RefCell::new(Log {
-        calls,
+        calls: String::new(),
         failing,
         kind,
     });
@@ -84,28 +83,19 @@ fn run_with_fault(options: &str, input: &[u8], failing: usize, kind: ErrorKind) 
         Err(RunError::Read(error)) => Some((true, error.kind())),
         Err(RunError::Write(error)) => Some((false, error.kind())),
     };
-    let written = output.1;
-    (error, written, log.into_inner().calls)
+    (error, output.1, log.into_inner().calls)
 }
 
 /// What such a run should do: an interrupted call is repeated, and any other fault ends the run.
 fn expected(calls: &str, output: &[u8], failing: usize, kind: ErrorKind) -> Outcome {
     let (before, after) = calls.split_at(failing);
-    match after.chars().next() {
-        None => (None, output.to_vec(), calls.to_string()),
-        Some(call) if kind == ErrorKind::Interrupted => {
-            (None, output.to_vec(), format!("{before}{call}{after}"))
-        }
-        Some(call) => {
-            let writes = before.matches('w').count();
-            let error = (call == 'r', kind);
-            (
-                Some(error),
-                output[..writes].to_vec(),
-                format!("{before}{call}"),
-            )
-        }
+    let call = after.get(..1).unwrap_or("");
+    if call.is_empty() || kind == ErrorKind::Interrupted {
+        return (None, output.to_vec(), format!("{before}{call}{after}"));
     }
+    let output = &output[..before.matches('w').count()];
+    let error = Some((call == "r", kind));
+    (error, output.to_vec(), format!("{before}{call}"))
 }
 
 #[test]
