@@ -6,7 +6,7 @@
 
 enum { COUNT = 100, LENGTH = 2 * COUNT };
 
-/* A text that another thread makes valid and invalid in turn, until it is told to stop. */
+/* A text that another thread makes valid and invalid in turn, until `stops` is set. */
 static volatile char changing[LENGTH];
 static volatile bool stops;
 

@@ -169,7 +169,7 @@ static void decode_chunks(const struct line *line, size_t cut) {
   expect(memcmp(&decoder, &old, sizeof old) == 0, "an unchanged decoder", line->length, cut);
 }
 
-/* ---- What the questions ask ---- */
+/* ---- The tests of each kind of line ---- */
 
 static void read_digits(const struct line *line) {
   bool is_raw = const_hex_check_raw(line->input, line->length);
@@ -260,7 +260,7 @@ static void message(const struct line *line) {
 
 static const struct {
   const char *name;
-  void (*ask)(const struct line *line);
+  void (*run)(const struct line *line);
 } QUESTIONS[] = {
     {"read", read_text},     {"read-times", read_text}, {"read-into", read_into},
     {"digits", read_digits}, {"each-byte", each_byte},  {"read-chunks", read_chunks},
@@ -269,10 +269,10 @@ static const struct {
 
 /* Other lines are for what this library does not have: JSON, sinks, the functions of a kernel, and outputs that have to
  * be full. Returns whether the library has a function for the line. */
-static bool ask(const struct line *line) {
+static bool run_line(const struct line *line) {
   for (size_t which = 0; which < sizeof QUESTIONS / sizeof *QUESTIONS; which++) {
     if (strcmp(line->question, QUESTIONS[which].name) == 0) {
-      QUESTIONS[which].ask(line);
+      QUESTIONS[which].run(line);
       return true;
     }
   }
@@ -282,9 +282,9 @@ static bool ask(const struct line *line) {
 static void test(void) {
   static struct line line;
   FILE *file = fopen(TABLE, "r");
-  size_t asked = 0;
+  size_t run = 0;
   while (file != NULL && read_line(file, &line)) {
-    asked += ask(&line);
+    run += run_line(&line);
   }
-  expect(asked > 1000 && feof(file) && fclose(file) == 0, "the whole table", asked, 0);
+  expect(run > 1000 && feof(file) && fclose(file) == 0, "the whole table", run, 0);
 }

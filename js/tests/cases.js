@@ -3,7 +3,7 @@ import * as hex from '../dist/const_hex.js';
 
 const { check, decode, decodeInto, decoder, decoderStream, encode, encoderStream, HexError, isHex } = hex;
 const TABLE = new URL('../../crates/const_hex_vectors/data/vectors.tsv', import.meta.url);
-const CHUNK = 32768; // So many characters are decoded at a time, and half as many bytes encoded.
+const CHUNK = 32768; // The characters that are decoded at a time. Half as many bytes are encoded.
 const utf8 = (string) => new TextEncoder().encode(string);
 const stringOf = (bytes) => new TextDecoder('utf-8', { ignoreBOM: true }).decode(bytes);
 const KIWI = utf8('kiwi');
@@ -101,11 +101,11 @@ async function tableOfTestVectors() {
     const table = await read(TABLE, 'utf8');
     const count = { write: 0, read: 0, 'read-into': 0, 'read-chunks': 0, message: 0 };
     for (const line of table.split('\n')) {
-        const [asked, input, result] = line.split('\t');
-        const [question, number] = asked.split(' ');
+        const [kind, input, result] = line.split('\t');
+        const [question, number] = kind.split(' ');
         if (!(question in questions)) continue;
-        const [bytes, answer] = [input, result].map(cellBytes);
-        const expected = question.startsWith('read') && !result.startsWith('!') ? digitsOf(answer) : stringOf(answer);
+        const [bytes, output] = [input, result].map(cellBytes);
+        const expected = question.startsWith('read') && !result.startsWith('!') ? digitsOf(output) : stringOf(output);
         const isText = question !== 'write' && digitsOf(utf8(stringOf(bytes))) === digitsOf(bytes);
         const forms = isText ? [bytes, stringOf(bytes)] : [bytes];
         for (const form of forms) questions[question](form, expected, number && Number(number));

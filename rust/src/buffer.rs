@@ -170,7 +170,7 @@ impl<const N: usize, const PREFIX: bool> Buffer<N, PREFIX> {
     #[must_use]
     pub const fn as_byte_array<const LEN: usize>(&self) -> &[u8; LEN] {
         assert!(LEN == Self::LEN, "the text has another length");
-        // SAFETY: the text has so many bytes, and an array of bytes needs no alignment.
+        // SAFETY: the text has `LEN` bytes, and an array of bytes needs no alignment.
         unsafe { &*self.as_ptr().cast() }
     }
 
@@ -178,7 +178,7 @@ impl<const N: usize, const PREFIX: bool> Buffer<N, PREFIX> {
     #[inline]
     #[must_use]
     pub const fn as_bytes(&self) -> &[u8] {
-        // SAFETY: the text has so many bytes, and is borrowed with `self`.
+        // SAFETY: the text has `LEN` bytes, and is borrowed with `self`.
         unsafe { slice(self.as_ptr(), Self::LEN) }
     }
 
@@ -189,7 +189,7 @@ impl<const N: usize, const PREFIX: bool> Buffer<N, PREFIX> {
     /// The bytes must be UTF-8 when the borrow ends.
     #[inline]
     pub unsafe fn as_mut_bytes(&mut self) -> &mut [u8] {
-        // SAFETY: the text has so many bytes, and is borrowed with `self`.
+        // SAFETY: the text has `LEN` bytes, and is borrowed with `self`.
         unsafe { core::slice::from_raw_parts_mut(self.as_mut_ptr(), Self::LEN) }
     }
 
@@ -200,7 +200,7 @@ impl<const N: usize, const PREFIX: bool> Buffer<N, PREFIX> {
     /// The bytes must be UTF-8 when the borrow ends.
     #[inline]
     pub unsafe fn buffer(&mut self) -> &mut [u8] {
-        // SAFETY: the caller promises what `as_mut_bytes` asks.
+        // SAFETY: the caller promises what `as_mut_bytes` requires.
         unsafe { &mut self.as_mut_bytes()[Self::PREFIX_LEN..] }
     }
 

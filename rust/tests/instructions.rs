@@ -72,7 +72,8 @@ fn cells() -> Vec<(&'static str, usize, u64)> {
     }
     // Printing to a writer that returns an error at once encodes no more than a part of the bytes.
     cells.push(("display", 1 << 20, [25_000, 500_000, 0][column]));
-    // Text whose last character is invalid takes at most three times as many as valid text: the search checks halves.
+    // The search for an invalid character skips halves of the text: where the last is invalid, `check` takes at most three
+    // times the instructions of valid text.
     let valid = [13_600, 393_000, 0][column];
     cells.push(("check", 1 << 15, valid));
     cells.push(("check, the last is invalid", 1 << 15, 3 * valid));

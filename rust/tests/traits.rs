@@ -20,8 +20,7 @@ fn printing_with_a_width() {
     assert_eq!(format!("{:>20}", display(BYTES)), TEXT);
 }
 
-/// A writer with capacity for so many characters. Each call but the last has to pass 4096, and none may follow one that has
-/// failed.
+/// A writer of limited capacity. Each call but the last has to pass 4096 characters, and none may follow a failed one.
 struct Limited {
     capacity: Option<usize>,
     is_last: bool,

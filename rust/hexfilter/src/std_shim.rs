@@ -64,7 +64,7 @@ pub mod simd {
     pub struct Mask([u64; 4]);
 
     impl u8x32 {
-        /// Returns the first 32 bytes. It is proved of the caller that there are so many.
+        /// Returns the first 32 bytes. It is proved that callers pass as many.
         #[inline(always)]
         pub fn from_slice(slice: &[u8]) -> u8x32 {
             let mut words = [0; 4];

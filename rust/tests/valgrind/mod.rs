@@ -5,7 +5,7 @@ use std::io::{BufRead, BufReader};
 use std::process::{Command, Stdio};
 use std::{env, fs, process};
 
-/// Returns the value, of which the compiler then knows nothing, as `std::hint::black_box` does from Rust 1.66 on.
+/// An optimization barrier, as `std::hint::black_box` is from Rust 1.66 on.
 pub fn black_box<T>(value: T) -> T {
     // SAFETY: this is no instruction.
     unsafe { std::arch::asm!("/* {} */", in(reg) &value, options(nostack, preserves_flags)) };
