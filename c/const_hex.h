@@ -243,8 +243,8 @@ struct const_hex_error {
  * their number, as in '\u{1b}'. Any other byte above 127 is shown as the Unicode character with that number,
  * in UTF-8.
  */
-/*@ // How many characters show a character, the digits of a number, and the whole message.
-    logic integer const_hex_shown_length(integer byte) =
+/*@ // The lengths of a character with its escape sequence, of a number in decimal, and of the whole message.
+    logic integer const_hex_escaped_length(integer byte) =
         byte == 0 || byte == '\t' || byte == '\n' || byte == '\r' || byte == '\'' || byte == '\\' ? 2 :
         byte < 16 ? 5 :
         byte < 32 || 127 <= byte <= 160 || byte == 173 ? 6 :
@@ -259,7 +259,7 @@ struct const_hex_error {
         error->kind == CONST_HEX_ODD_LENGTH ? 20 :
         error->kind == CONST_HEX_INVALID_LENGTH ? 21 :
         error->kind == CONST_HEX_INVALID_CHARACTER && error->byte < 256 ?
-            33 + const_hex_shown_length(error->byte) + const_hex_decimal_length(error->index) :
+            33 + const_hex_escaped_length(error->byte) + const_hex_decimal_length(error->index) :
         error->kind == 4 ? 13 : 0;
 */
 /*@ requires \valid_read(error);

@@ -11,8 +11,9 @@
  */
 #include "const_hex.h"
 
-/* What timing may tell of a text: whether characters are digits, and whether two are a prefix.
- * tests/constant_time.c defines this macro, and tests that it tells nothing else. */
+/* Declassifies a value, on which branches may depend: whether characters are digits, and whether
+ * two are a prefix. tests/constant_time.c defines this macro for memcheck, and tests that no branch
+ * and no address depends on anything else that is secret. */
 #ifndef PUBLIC
 #define PUBLIC(value) (value)
 #endif
@@ -30,7 +31,7 @@ static char digit(unsigned value, bool upper) {
 /*@ requires character < 256 && first < 256;
     assigns \nothing;
     ensures \result == (character >= first ? 1 : 0); */
-static unsigned is_from(unsigned character, unsigned first) {
+static unsigned is_at_least(unsigned character, unsigned first) {
   return (character + 256 - first) / 256;
 }
 
@@ -40,9 +41,9 @@ static unsigned is_from(unsigned character, unsigned first) {
     ensures const_hex_is_digit(byte) ==> \result == const_hex_value(byte);
     ensures !const_hex_is_digit(byte) ==> 256 <= \result < 512; */
 static unsigned value_of_byte(unsigned byte) {
-  unsigned decimal = is_from(byte, '0') - is_from(byte, '9' + 1);
-  unsigned upper = is_from(byte, 'A') - is_from(byte, 'F' + 1);
-  unsigned lower = is_from(byte, 'a') - is_from(byte, 'f' + 1);
+  unsigned decimal = is_at_least(byte, '0') - is_at_least(byte, '9' + 1);
+  unsigned upper = is_at_least(byte, 'A') - is_at_least(byte, 'F' + 1);
+  unsigned lower = is_at_least(byte, 'a') - is_at_least(byte, 'f' + 1);
   return byte + 256 - (256 + '0') * decimal - (256 + 'A' - 10) * upper - (256 + 'a' - 10) * lower;
 }
 
@@ -82,7 +83,7 @@ static bool fail(struct const_hex_error *error, uint32_t kind, uint32_t byte, si
   return false;
 }
 
-/* No message is longer. */
+/* The length of the longest message. */
 enum { MAX_MESSAGE = 59 };
 
 /* Writes a text before what starts at `start`, and returns where it starts. */
@@ -121,12 +122,13 @@ static size_t prepend_decimal(char *space, size_t number) {
   return start;
 }
 
-/* Writes what shows a character before what starts at `start`, and returns where it starts. */
+/* Writes a character, as an escape sequence if it needs one, before what starts at `start`, and
+ * returns where it starts. */
 /*@ requires byte < 256 && 6 <= start <= MAX_MESSAGE;
     requires \valid(space + (0 .. MAX_MESSAGE - 1));
     assigns space[0 .. start - 1];
-    ensures \result == start - const_hex_shown_length(byte); */
-static size_t prepend_shown(char *space, size_t start, unsigned byte) {
+    ensures \result == start - const_hex_escaped_length(byte); */
+static size_t prepend_escaped(char *space, size_t start, unsigned byte) {
   char escape = byte == 0      ? '0'
                 : byte == '\t' ? 't'
                 : byte == '\n' ? 'n'
@@ -151,7 +153,7 @@ static size_t prepend_shown(char *space, size_t start, unsigned byte) {
   return start;
 }
 
-/* Writes as much of a text as fits, and a NUL. Returns the number of characters before the NUL. */
+/* Writes as much of a text as fits, and a NUL terminator. Returns the number of characters before it. */
 /*@ requires \valid_read(text + (0 .. length - 1));
     requires \valid(message + (0 .. size - 1));
     requires \separated(text + (0 .. length - 1), message + (0 .. size - 1));
@@ -159,7 +161,7 @@ static size_t prepend_shown(char *space, size_t start, unsigned byte) {
     ensures size == 0 ==> \result == 0;
     ensures size > 0 ==> \result == \min(size - 1, length) && message[\result] == 0;
     ensures \forall integer k; \result < k < size ==> message[k] == \old(message[k]); */
-static size_t write_ended(const char *text, size_t length, char *message, size_t size) {
+static size_t write_terminated(const char *text, size_t length, char *message, size_t size) {
   size_t count = 0;
   if (size == 0) {
     return 0;
@@ -181,37 +183,38 @@ size_t const_hex_error_message(const struct const_hex_error *error, char *messag
   char space[MAX_MESSAGE];
   size_t start = MAX_MESSAGE;
   if (error->kind == CONST_HEX_ODD_LENGTH) {
-    return write_ended("odd number of digits", 20, message, message_size);
+    return write_terminated("odd number of digits", 20, message, message_size);
   }
   if (error->kind == CONST_HEX_INVALID_LENGTH) {
-    return write_ended("invalid string length", 21, message, message_size);
+    return write_terminated("invalid string length", 21, message, message_size);
   }
   if (error->kind == 4) {
-    return write_ended("out of memory", 13, message, message_size);
+    return write_terminated("out of memory", 13, message, message_size);
   }
   if (error->kind == CONST_HEX_INVALID_CHARACTER && error->byte < 256) {
     start = prepend_decimal(space, error->index);
     start = prepend(space, start, "' at position ", 14);
-    start = prepend_shown(space, start, error->byte);
+    start = prepend_escaped(space, start, error->byte);
     start = prepend(space, start, "invalid character '", 19);
   }
-  return write_ended(space + start, MAX_MESSAGE - start, message, message_size);
+  return write_terminated(space + start, MAX_MESSAGE - start, message, message_size);
 }
 
 /* ---- Encoding ---- */
 
+/* The size of the prefix and of the NUL terminator. */
 /*@ assigns \nothing;
     ensures \result == const_hex_size(0, flags); */
-static size_t size_beside(unsigned flags) {
+static size_t size_of_extras(unsigned flags) {
   return (flags / 2 % 2 == 1 ? 2u : 0u) + (flags / 4 % 2 == 0 ? 1u : 0u);
 }
 
 size_t const_hex_encoded_size(size_t bytes_length, unsigned flags) {
-  size_t beside = size_beside(flags);
-  if (flags > 7 || bytes_length > (SIZE_MAX - beside) / 2) {
+  size_t extras = size_of_extras(flags);
+  if (flags > 7 || bytes_length > (SIZE_MAX - extras) / 2) {
     return SIZE_MAX;
   }
-  return 2 * bytes_length + beside;
+  return 2 * bytes_length + extras;
 }
 
 /*@ requires start <= 2 && start + 2 * length <= SIZE_MAX;
@@ -233,9 +236,9 @@ static void fill(const unsigned char *bytes, size_t length, char *text, size_t s
 
 bool const_hex_encode(const void *bytes, size_t bytes_length, char *text, size_t text_size,
                       unsigned flags) {
-  size_t beside = size_beside(flags), start = 0;
+  size_t extras = size_of_extras(flags), start = 0;
   bool has_nul = flags / 4 % 2 == 0;
-  if (flags > 7 || text_size < beside || bytes_length > (text_size - beside) / 2) {
+  if (flags > 7 || text_size < extras || bytes_length > (text_size - extras) / 2) {
     if (has_nul && text_size > 0) {
       text[0] = 0;
     }
@@ -353,7 +356,8 @@ bool const_hex_check_raw(const char *text, size_t text_length) {
 
 /* ---- Decoding text that arrives in chunks ---- */
 
-/* state[1] is a status times 256, and a character: the digit that waits, or the invalid one. */
+/* state[1] is 256 * status + character: the digit that waits for the second one of its byte, or the
+ * invalid character. */
 enum { EVEN = 0, WAITS = 1, FAILED = 2 };
 
 /* Decodes a chunk whose digits start at `start` to `count` bytes, after the digit that waits if
@@ -421,7 +425,7 @@ static size_t count_pairs(size_t digits, bool waits) {
   return digits / 2 + (digits % 2 + waits) / 2;
 }
 
-/* Goes on after `count` characters, with this status and character. */
+/* Advances the decoder by `count` characters, and stores a status and a character. */
 /*@ requires \valid(decoder) && status <= FAILED;
     assigns decoder->state[0 .. 1];
     ensures decoder->state[0] == \min(\old(decoder->state[0]) + count, SIZE_MAX);
@@ -434,7 +438,7 @@ static void advance(struct const_hex_decoder *decoder, size_t count, size_t stat
   decoder->state[1] = 256 * status + character;
 }
 
-/* Goes on after a chunk of valid characters. */
+/* Advances the decoder past a chunk of valid characters. */
 /*@ requires \valid(decoder) && \valid_read(text + (0 .. length - 1));
     requires \separated(decoder, text + (0 .. length - 1));
     requires start == const_hex_chunk_start(decoder, text, length);
@@ -461,8 +465,8 @@ static void advance_past(struct const_hex_decoder *decoder, const char *text, si
   advance(decoder, length, is_odd ? WAITS : EVEN, last);
 }
 
-/* Decodes a chunk's digits to `count` bytes, and goes on after it, or fails. Returns the position of
- * the first invalid character, or the length. */
+/* Decodes a chunk's digits to `count` bytes, and advances the decoder past it or to a failure.
+ * Returns the position of the first invalid character, or the length. */
 /*@ requires \valid(decoder) && \valid_read(text + (0 .. length - 1));
     requires \valid(bytes + (0 .. count - 1));
     requires \separated(decoder, text + (0 .. length - 1), bytes + (0 .. count - 1));
@@ -497,7 +501,7 @@ static size_t decode_chunk(struct const_hex_decoder *decoder, const char *text, 
   return end;
 }
 
-/* Fails with the invalid character that the decoder has. */
+/* Fails with the invalid character that the decoder has stored. */
 /*@ requires \valid_read(decoder);
     requires error == \null || \valid(error);
     requires \separated(decoder, error);
@@ -505,7 +509,7 @@ static size_t decode_chunk(struct const_hex_decoder *decoder, const char *text, 
     ensures \result == \false;
     ensures const_hex_is_error(error, CONST_HEX_INVALID_CHARACTER,
         const_hex_character(decoder), const_hex_position(decoder)); */
-static bool fail_as(const struct const_hex_decoder *decoder, struct const_hex_error *error) {
+static bool fail_again(const struct const_hex_decoder *decoder, struct const_hex_error *error) {
   return fail(error, CONST_HEX_INVALID_CHARACTER, decoder->state[1] % 256, decoder->state[0]);
 }
 
@@ -519,7 +523,7 @@ bool const_hex_decoder_update(struct const_hex_decoder *decoder, const char *tex
   /*@ assert waits == const_hex_chunk_waiting(decoder, text, text_length); */
   *written = 0;
   if (status > WAITS) {
-    return fail_as(decoder, error);
+    return fail_again(decoder, error);
   }
   if (count > bytes_size) {
     return fail(error, CONST_HEX_INVALID_LENGTH, 0, 0);
@@ -532,7 +536,7 @@ bool const_hex_decoder_update(struct const_hex_decoder *decoder, const char *tex
     /*@ assert partial: \at(const_hex_is_state(decoder), Pre) ==> const_hex_chunk_partial{Pre, Here}(
           (unsigned char *)bytes, bytes_size, text, start, waits,
           \at(const_hex_character(decoder), Pre), end); */
-    return fail_as(decoder, error);
+    return fail_again(decoder, error);
   }
   *written = count;
   return true;
@@ -542,7 +546,7 @@ bool const_hex_decoder_finish(const struct const_hex_decoder *decoder,
                               struct const_hex_error *error) {
   size_t status = PUBLIC(decoder->state[1] / 256);
   if (status > WAITS) {
-    return fail_as(decoder, error);
+    return fail_again(decoder, error);
   }
   if (status == WAITS) {
     return fail(error, CONST_HEX_ODD_LENGTH, 0, 0);

@@ -17,12 +17,12 @@ pub struct Case {
     prepare: Box<dyn Fn() -> Repeat>,
 }
 
-/// Makes a call so many times. The loop stands with the call, so that only the loop is called through a pointer.
+/// Makes a call a number of times. The loop is in the closure, so that only the loop is called through a pointer.
 pub type Repeat = Box<dyn FnMut(usize)>;
 
 impl Case {
-    /// The call with its buffers. If they are made for each measurement, they have the same addresses for each library: a
-    /// store that crosses a page takes long.
+    /// The call with its buffers. If they are allocated for each measurement, they have the same addresses for each
+    /// library: a store that crosses a page is slow.
     pub fn prepared(&self) -> Repeat {
         (self.prepare)()
     }

@@ -37,10 +37,10 @@ pub fn cases(size: usize) -> Vec<Case> {
     cases.list
 }
 
-/// The texts that are decoded: what is added to a call's name.
+/// The variants of the text: what is added to a call's name.
 const TEXTS: [&str; 3] = ["", ", first character invalid", ", last character invalid"];
 
-/// The cases for bytes, and for texts that are made of their text in lowercase.
+/// The cases for these bytes, and for variants of their lowercase text.
 struct Cases {
     bytes: Vec<u8>,
     text: Vec<u8>,
@@ -85,7 +85,7 @@ impl Cases {
         }
     }
 
-    /// Adds a case that calls `run` on a copy of the input and on a buffer of so many bytes.
+    /// Adds a case that calls `run` on a copy of the input and on a buffer of `size` bytes.
     fn add<T>(
         &mut self,
         call: &str,

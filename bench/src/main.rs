@@ -3,7 +3,7 @@
 //!
 //!     cargo run --release                            # every call of every library
 //!     cargo run --release -- const-hex               # of these libraries alone
-//!     MAX_BYTES=2048 cargo run                       # without optimization, up to so many bytes
+//!     MAX_BYTES=2048 cargo run                       # without optimization, up to this number of bytes
 //!
 //! The program runs itself once, with all calls. A cell is what two rounds of calls differ by, by the number of calls.
 

@@ -1,6 +1,6 @@
 /*
- * What neither a proof nor the table of test vectors says of the library: macros, the text of messages that no function
- * gives, buffers that are NULL, and lengths that no text has.
+ * What neither a proof nor the table of test vectors covers: macros, messages for errors that no function returns, NULL
+ * buffers, and lengths that no text has.
  */
 #include "common.h"
 
@@ -30,13 +30,13 @@ static void messages(void) {
   };
   for (size_t row = 0; row < sizeof rows / sizeof *rows; row++) {
     for (size_t size = 0; size <= CONST_HEX_MESSAGE_SIZE; size++) {
-      char *message = marked(areas.text, size);
+      char *message = canary_buffer(areas.text, size);
       size_t length = const_hex_error_message(&rows[row].error, message, size);
-      size_t nul = least(size, 1);
-      size_t wanted = least(strlen(rows[row].message), size - nul);
-      expect(length == wanted && memcmp(message, rows[row].message, wanted) == 0 &&
-                 memcmp(message + wanted, "", nul) == 0 &&
-                 is_rest_marked(areas.text, size, wanted + nul),
+      size_t nul = min_size(size, 1);
+      size_t expected = min_size(strlen(rows[row].message), size - nul);
+      expect(length == expected && memcmp(message, rows[row].message, expected) == 0 &&
+                 memcmp(message + expected, "", nul) == 0 &&
+                 is_rest_unchanged(areas.text, size, expected + nul),
              "error_message", row, size);
     }
   }
@@ -70,8 +70,8 @@ static void null_buffers(void) {
  * them would warn. */
 static void lengths_that_wrap(void) {
   const volatile size_t most = SIZE_MAX;
-  const char *text = memset(position(areas.text, 4096), '1', 4096);
-  char *bytes = marked(areas.decoded, 4096);
+  const char *text = memset(buffer_start(areas.text, 4096), '1', 4096);
+  char *bytes = canary_buffer(areas.decoded, 4096);
   for (size_t less = 0; less <= 80; less += 2) {
     struct const_hex_error exact = UNSET, decode = UNSET, check = UNSET;
     size_t written = 99;
@@ -84,7 +84,7 @@ static void lengths_that_wrap(void) {
     expect(!const_hex_check(text, most - less, &check) && check.kind == CONST_HEX_ODD_LENGTH,
            "check", less, 0);
   }
-  expect(is_rest_marked(areas.decoded, 4096, 0), "a written buffer", 0, 0);
+  expect(is_rest_unchanged(areas.decoded, 4096, 0), "a written buffer", 0, 0);
 }
 
 static void test(void) {

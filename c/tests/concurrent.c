@@ -1,12 +1,12 @@
 /*
- * Each function of the library, over text that another thread changes meanwhile.
+ * Data races: each function of the library, while another thread changes the text.
  */
 #include "common.h"
 #include <pthread.h>
 
 enum { COUNT = 100, LENGTH = 2 * COUNT };
 
-/* A text that another thread makes valid and invalid in turn, until it is told to stop. */
+/* A text that another thread makes valid and invalid in turn, until `stops` is set. */
 static volatile char changing[LENGTH];
 static volatile bool stops;
 
@@ -38,10 +38,10 @@ static bool read_once(size_t turn, char *bytes) {
   }
 }
 
-/* Each function returns, whatever it returns, and writes only where it may. On one processor the other thread seldom
- * runs between two calls, so the results seldom change: after so many turns, once is enough. */
+/* Each function returns some result, and writes only to its output. On one processor the other thread seldom runs
+ * between two calls, so the results seldom change: after 2,000,000 turns, one change is enough. */
 static void test(void) {
-  char *bytes = marked(areas.decoded, COUNT);
+  char *bytes = canary_buffer(areas.decoded, COUNT);
   pthread_t writer;
   memset((char *)changing, '0', LENGTH);
   stops = false;
@@ -54,5 +54,5 @@ static void test(void) {
     stops = turn > 200000 && changes > (turn > 2000000 ? 0 : 10000);
   }
   expect(pthread_join(writer, NULL) == 0, "the other thread", 0, 0);
-  expect(is_rest_marked(areas.decoded, COUNT, COUNT), "a write outside", 0, 0);
+  expect(is_rest_unchanged(areas.decoded, COUNT, COUNT), "a write outside", 0, 0);
 }

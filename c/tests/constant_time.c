@@ -1,6 +1,6 @@
 /*
- * Calls each function of portable.c with bytes or digits that valgrind's memcheck takes for undefined, at each length
- * to 200. It names each branch and each address that depends on one, but by what is public.
+ * Calls each function of portable.c with bytes or digits that are marked as undefined for valgrind's memcheck, at each
+ * length up to 200. It reports each branch and each address that depends on one, except through PUBLIC.
  */
 #include <stddef.h>
 #include <stdlib.h>
@@ -16,7 +16,7 @@ static size_t public(size_t value) {
 
 enum { MAX_LENGTH = 200 };
 
-/* Not on the stack: a compiler might then leave out what writes them. */
+/* Global, so that the compiler cannot remove the writes. */
 unsigned char bytes[MAX_LENGTH];
 char text[CONST_HEX_ENCODED_SIZE(MAX_LENGTH, CONST_HEX_PREFIX)];
 
@@ -30,7 +30,7 @@ static void encode(size_t length, unsigned flags) {
   }
 }
 
-/* Whether each function takes the text for what it is. */
+/* Whether each function returns the right result. */
 static bool decode(size_t length, const char *prefix) {
   size_t written, start = strlen(prefix);
   bool is_even = length % 2 == 0;

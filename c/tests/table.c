@@ -1,6 +1,5 @@
 /*
- * The table of test vectors of crates/const_hex_vectors, at both ends of memory that cannot be crossed. TABLE is its
- * file.
+ * The table of test vectors of crates/const_hex_vectors, in buffers beside guard pages. TABLE is its file.
  */
 #include "common.h"
 #include <ctype.h>
@@ -90,38 +89,38 @@ struct output {
 };
 
 static struct output new_output(size_t size) {
-  struct output output = {false, 99, size, marked(areas.decoded, size), UNSET};
+  struct output output = {false, 99, size, canary_buffer(areas.decoded, size), UNSET};
   return output;
 }
 
-/* Compares what came of the characters from one position to another: their bytes, or the error that is wanted. After
- * an invalid character something may be in the place of the bytes before it. */
+/* Compares the result for the characters from one position to another: their bytes, or the expected error. After an
+ * invalid character the bytes before it may have been written. */
 static void compare(const struct line *line, struct output output, size_t from, size_t to,
-                    struct const_hex_error wanted, const char *what) {
+                    struct const_hex_error expected, const char *what) {
   size_t first = count_before(line, from);
   size_t written = 0;
   size_t changed = 0;
-  if (wanted.kind == 0) {
+  if (expected.kind == 0) {
     written = changed = count_before(line, to) - first;
-  } else if (wanted.kind == CONST_HEX_INVALID_CHARACTER && wanted.index > from) {
-    changed = least(count_before(line, wanted.index) - first, output.size);
+  } else if (expected.kind == CONST_HEX_INVALID_CHARACTER && expected.index > from) {
+    changed = min_size(count_before(line, expected.index) - first, output.size);
   }
   const char *bytes = line->error.kind == 0 ? line->result + first : output.bytes;
-  expect(agrees(output.result, output.error, wanted) && output.written == written &&
+  expect(has_outcome(output.result, output.error, expected) && output.written == written &&
              memcmp(output.bytes, bytes, written) == 0 &&
-             is_rest_marked(areas.decoded, output.size, changed),
+             is_rest_unchanged(areas.decoded, output.size, changed),
          what, from, to);
 }
 
 static void decode_exact(const struct line *line, const char *text, size_t size,
-                         struct const_hex_error wanted) {
+                         struct const_hex_error expected) {
   struct output output = new_output(size);
   output.result = const_hex_decode_exact(text, line->length, output.bytes, size, &output.error);
   output.written = output.result ? size : 0;
-  compare(line, output, 0, line->length, wanted, "decode_exact");
+  compare(line, output, 0, line->length, expected, "decode_exact");
 }
 
-/* Decodes the text into a buffer of this size, which has to be right or, for decode_exact, the number of bytes. */
+/* Decodes the text into a buffer of this size, which has to suffice or, for decode_exact, to be the number of bytes. */
 static void decode(const struct line *line, const char *text, size_t size) {
   static const struct const_hex_error no_space = {CONST_HEX_INVALID_LENGTH, 0, 0};
   size_t length = line->length;
@@ -136,41 +135,41 @@ static void decode(const struct line *line, const char *text, size_t size) {
 
 /* Decodes a chunk into a buffer of this size. */
 static void update(const struct line *line, struct const_hex_decoder *decoder, size_t from,
-                   size_t to, size_t size, struct const_hex_error wanted) {
-  const char *chunk = memcpy(position(areas.text, to - from), line->input + from, to - from);
+                   size_t to, size_t size, struct const_hex_error expected) {
+  const char *chunk = memcpy(buffer_start(areas.text, to - from), line->input + from, to - from);
   struct output output = new_output(size);
   output.result = const_hex_decoder_update(decoder, chunk, to - from, output.bytes, size,
                                            &output.written, &output.error);
-  compare(line, output, from, to, wanted, "decoder_update");
+  compare(line, output, from, to, expected, "decoder_update");
 }
 
 /* Decodes the text in two chunks, each first into a buffer that is too small, unless there has been an error. */
 static void decode_chunks(const struct line *line, size_t cut) {
   static const struct const_hex_error none = {0, 0, 0}, no_space = {CONST_HEX_INVALID_LENGTH, 0, 0};
   struct const_hex_decoder decoder = {{0, 0}}, old;
-  struct const_hex_error wanted = none, error = UNSET;
+  struct const_hex_error expected = none, error = UNSET;
   size_t ends[] = {0, cut, line->length};
   for (size_t chunk = 1; chunk <= 2; chunk++) {
     size_t from = ends[chunk - 1];
     size_t to = ends[chunk];
     size_t count = count_before(line, to) - count_before(line, from);
     old = decoder;
-    if (count > 0 && wanted.kind == 0) {
+    if (count > 0 && expected.kind == 0) {
       update(line, &decoder, from, to, count - 1, no_space);
       expect(memcmp(&decoder, &old, sizeof old) == 0, "an unchanged decoder", from, to);
     }
     if (line->error.kind == CONST_HEX_INVALID_CHARACTER && line->error.index < to) {
-      wanted = line->error;
+      expected = line->error;
     }
-    update(line, &decoder, from, to, count + chunk, wanted);
+    update(line, &decoder, from, to, count + chunk, expected);
   }
   old = decoder;
   bool result = const_hex_decoder_finish(&decoder, &error);
-  expect(agrees(result, error, line->error), "decoder_finish", line->length, cut);
+  expect(has_outcome(result, error, line->error), "decoder_finish", line->length, cut);
   expect(memcmp(&decoder, &old, sizeof old) == 0, "an unchanged decoder", line->length, cut);
 }
 
-/* ---- What the questions ask ---- */
+/* ---- The tests of each kind of line ---- */
 
 static void read_digits(const struct line *line) {
   bool is_raw = const_hex_check_raw(line->input, line->length);
@@ -187,10 +186,10 @@ static void read_chunks(const struct line *line) {
 static void read_text(const struct line *line) {
   size_t length = line->length;
   size_t count = count_before(line, length);
-  const char *text = memcpy(position(areas.text, length), line->input, length);
+  const char *text = memcpy(buffer_start(areas.text, length), line->input, length);
   struct const_hex_error error = UNSET;
   bool result = const_hex_check(text, length, &error);
-  expect(agrees(result, error, line->error), "check", length, 0);
+  expect(has_outcome(result, error, line->error), "check", length, 0);
   for (size_t size = count > 0 ? count - 1 : 0; size <= count + 2; size++) {
     decode(line, text, size);
   }
@@ -230,19 +229,19 @@ static size_t add_by_flags(const struct line *line, unsigned flags, char *text) 
 
 /* With all flags, into buffers from one character too small to two too large. */
 static void write_text(const struct line *line) {
-  static char wanted[AREA];
+  static char expected[AREA];
   for (unsigned flags = 0; flags < 8; flags++) {
     size_t count = line->length;
-    size_t size = add_by_flags(line, flags, wanted);
+    size_t size = add_by_flags(line, flags, expected);
     size_t cleared = flags & CONST_HEX_NO_NUL ? 0 : 1;
-    const void *bytes = memcpy(position(areas.bytes, count), line->input, count);
+    const void *bytes = memcpy(buffer_start(areas.bytes, count), line->input, count);
     expect(const_hex_encoded_size(count, flags) == size, "encoded_size", count, flags);
     for (size_t text_size = size > 0 ? size - 1 : 0; text_size <= size + 2; text_size++) {
-      char *text = marked(areas.text, text_size);
+      char *text = canary_buffer(areas.text, text_size);
       bool fits = const_hex_encode(bytes, count, text, text_size, flags);
-      size_t written = fits ? size : least(cleared, text_size);
-      expect(fits == (text_size >= size) && memcmp(text, fits ? wanted : "", written) == 0 &&
-                 is_rest_marked(areas.text, text_size, written),
+      size_t written = fits ? size : min_size(cleared, text_size);
+      expect(fits == (text_size >= size) && memcmp(text, fits ? expected : "", written) == 0 &&
+                 is_rest_unchanged(areas.text, text_size, written),
              "encode", count, flags);
     }
   }
@@ -261,19 +260,19 @@ static void message(const struct line *line) {
 
 static const struct {
   const char *name;
-  void (*ask)(const struct line *line);
+  void (*run)(const struct line *line);
 } QUESTIONS[] = {
     {"read", read_text},     {"read-times", read_text}, {"read-into", read_into},
     {"digits", read_digits}, {"each-byte", each_byte},  {"read-chunks", read_chunks},
     {"write", write_text},   {"message", message},      {"write-times", write_text},
 };
 
-/* Other lines are about what this library does not have: JSON, sinks, the functions of a kernel, and outputs that have
- * to be full. Returns whether the line is no such one. */
-static bool ask(const struct line *line) {
+/* Other lines are for what this library does not have: JSON, sinks, the functions of a kernel, and outputs that have to
+ * be full. Returns whether the library has a function for the line. */
+static bool run_line(const struct line *line) {
   for (size_t which = 0; which < sizeof QUESTIONS / sizeof *QUESTIONS; which++) {
     if (strcmp(line->question, QUESTIONS[which].name) == 0) {
-      QUESTIONS[which].ask(line);
+      QUESTIONS[which].run(line);
       return true;
     }
   }
@@ -283,9 +282,9 @@ static bool ask(const struct line *line) {
 static void test(void) {
   static struct line line;
   FILE *file = fopen(TABLE, "r");
-  size_t asked = 0;
+  size_t run = 0;
   while (file != NULL && read_line(file, &line)) {
-    asked += ask(&line);
+    run += run_line(&line);
   }
-  expect(asked > 1000 && feof(file) && fclose(file) == 0, "the whole table", asked, 0);
+  expect(run > 1000 && feof(file) && fclose(file) == 0, "the whole table", run, 0);
 }

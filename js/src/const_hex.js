@@ -20,17 +20,20 @@ const [ODD_LENGTH, INVALID_LENGTH, INVALID_CHARACTER] = [1, 2, 3];
 const KINDS = [undefined, 'OddLength', 'InvalidStringLength', 'InvalidHexCharacter'];
 const MESSAGES = [undefined, 'odd number of digits', 'invalid string length'];
 
-// Addresses in the memory, in which the module's constants follow its stack. A decoder has two numbers,
-// which are 0 if it is new. Then come the number of bytes that it wrote, and the kind, the byte and the
-// position of an error.
+// Addresses in the memory, in which the module's constants follow its stack: of a `struct const_hex_decoder`, of the
+// number of bytes that it wrote, of a `struct const_hex_error`, and of the buffers for bytes and text.
 const DECODER = 16 * Math.ceil(__heap_base.value / 16);
 const [WRITTEN, ERROR] = [DECODER + 8, DECODER + 16];
 const BYTES = DECODER + 32;
 const TEXT = BYTES + BYTES_CHUNK + 16;
-const numbers = new Uint32Array(memory.buffer, DECODER, 7);
+// The position in the text, and the pending digit with a status. Both are 0 in a new decoder.
+const decoderWords = new Uint32Array(memory.buffer, DECODER, 2);
+const writtenWord = new Uint32Array(memory.buffer, WRITTEN, 1);
+// The kind, the byte and the index.
+const errorWords = new Uint32Array(memory.buffer, ERROR, 3);
 const bytes = new Uint8Array(memory.buffer, BYTES, BYTES_CHUNK + 1);
-// The first bytes of these, as many as `decodeInto` last copied: a view takes longer to make than to copy.
-let front = bytes;
+// A view of their front, as long as `decodeInto` last needed it: it takes longer to create a view than to copy.
+let cachedView = bytes;
 // The last character of a chunk may have four bytes.
 const text = new Uint8Array(memory.buffer, TEXT, TEXT_CHUNK + 4);
 
@@ -40,12 +43,12 @@ const textBuffer = Buffer?.from(memory.buffer, TEXT, text.length);
 const textEncoder = globalThis.TextEncoder ? new TextEncoder() : { encodeInto: const_hex_decoder_update };
 const textDecoder = globalThis.TextDecoder && new TextDecoder();
 
-// Up to so many characters are copied by a loop, since calls of the engine take long to begin.
-const SHORT = Buffer ? 16 : 96;
-// From so many bytes on, Node joins chunks of text faster as bytes than as strings.
-const LONG = Buffer ? 2 ** 17 : Infinity;
+// Up to this length a loop copies text, since calls into the engine have an overhead.
+const MAX_LOOP_LENGTH = Buffer ? 16 : 96;
+// From this number of bytes on, Node concatenates chunks of text faster in a Buffer than as strings.
+const MIN_BUFFER_LENGTH = Buffer ? 2 ** 17 : Infinity;
 
-// What an array says of itself by these cannot be changed by its own properties or by a subclass.
+// These getters of the prototype ignore properties of an array itself or of a subclass.
 const { prototype: typedArray } = Object.getPrototypeOf(Uint8Array);
 const getterOf = (name) => Object.getOwnPropertyDescriptor(typedArray, name).get;
 const [typeOf, lengthOf] = [getterOf(Symbol.toStringTag), getterOf('length')];
@@ -68,61 +71,61 @@ export function encode(input, options) {
 function encodeBytes(input, flags) {
     const { value, length } = bytesIn(input, 'encode takes bytes: a Uint8Array, another view, or a buffer');
     if (length <= BYTES_CHUNK) return textAsString(encodeChunk(value, length, flags));
-    // A string that is too long for the engine throws a RangeError when it is joined.
-    const isJoined = length >= LONG && length < 2 ** 27;
-    const joined = isJoined ? Buffer.allocUnsafeSlow(2 * length + (flags & PREFIX)) : undefined;
+    // Text that is too long for a string of the engine throws a RangeError when strings are concatenated.
+    const usesBuffer = length >= MIN_BUFFER_LENGTH && length < 2 ** 27;
+    const buffer = usesBuffer ? Buffer.allocUnsafeSlow(2 * length + (flags & PREFIX)) : undefined;
     let string = '';
-    let written = 0;
+    let offset = 0;
     for (let index = 0; index < length; index += BYTES_CHUNK) {
-        const part = value.subarray(index, index + BYTES_CHUNK);
-        const count = encodeChunk(part, part.length, index === 0 ? flags : flags & ~PREFIX);
-        if (joined) joined.set(text.subarray(0, count), written);
+        const chunk = value.subarray(index, index + BYTES_CHUNK);
+        const count = encodeChunk(chunk, chunk.length, index === 0 ? flags : flags & ~PREFIX);
+        if (buffer) buffer.set(text.subarray(0, count), offset);
         else string += textAsString(count);
-        written += count;
+        offset += count;
     }
-    return joined ? joined.toString('latin1') : string;
+    return buffer ? buffer.toString('latin1') : string;
 }
 
 export function decode(input) {
     const source = sourceOf(input);
     loadDecoder(0, 0);
     const output = decodeSource(source);
-    if (!output || !finishes()) throw errorOf(source);
+    if (!output || !isComplete()) throw errorOf(source);
     return output;
 }
 
 export function decodeInto(input, target) {
     if (typeOf.call(target) !== 'Uint8Array') throw new TypeError('the target is not a Uint8Array');
     const length = lengthOf.call(target);
-    if (length === 0) typedArray.keys.call(target); // Throws if the target has lost its bytes.
+    if (length === 0) typedArray.keys.call(target); // Throws if the target's buffer is detached or too short.
     const source = sourceOf(input);
     loadDecoder(0, 0);
     const output = decodeSource(source, true);
     try {
-        if (!output || !finishes()) throw errorOf(source, length);
+        if (!output || !isComplete()) throw errorOf(source, length);
         if (output.length !== length) throw new HexError(INVALID_LENGTH);
         typedArray.set.call(target, output);
         return target;
     } finally {
-        if (output !== front) output?.fill(0);
+        if (output !== cachedView) output?.fill(0);
     }
 }
 
 export function decoder() {
-    let [first, second] = [0, 0];
+    let [positionWord, pendingWord] = [0, 0];
     return {
         push(chunk) {
             const source = sourceOf(chunk);
-            loadDecoder(first, second);
+            loadDecoder(positionWord, pendingWord);
             const output = decodeSource(source);
-            // Not before there is an output: if there is no memory for it, the chunk can be pushed again.
-            [first, second] = numbers;
+            // Only after the output is allocated: if that fails, the chunk can be pushed again.
+            [positionWord, pendingWord] = decoderWords;
             if (!output) throw errorOf();
             return output;
         },
         end() {
-            loadDecoder(first, second);
-            if (!finishes()) throw errorOf();
+            loadDecoder(positionWord, pendingWord);
+            if (!isComplete()) throw errorOf();
         },
     };
 }
@@ -145,10 +148,10 @@ export function decoderStream() {
 
 export function check(input) {
     const source = sourceOf(input);
-    if (!accepts(source)) throw errorOf(source);
+    if (!isValid(source)) throw errorOf(source);
 }
 
-export const isHex = (input) => accepts(sourceOf(input));
+export const isHex = (input) => isValid(sourceOf(input));
 
 export function wipe() {
     new Uint8Array(memory.buffer).fill(0, 0, STACK_SIZE).fill(0, DECODER);
@@ -189,68 +192,69 @@ function encodeChunk(array, length, flags) {
     return 2 * length + (flags & PREFIX);
 }
 
-/** Copies the first bytes of an array to the front of `memory`, which may then have some more bytes of it. */
-function copyBytes(array, length, memory) {
+/** Copies the first bytes of an array to the front of the destination, which may then have some more bytes of it. */
+function copyBytes(array, length, destination) {
     try {
-        memory.set(array);
+        destination.set(array);
     } catch (error) {
-        if (!(error instanceof RangeError)) throw error; // The array has lost its bytes.
-        // Another thread has let its buffer grow. Other arrays are not asked for their buffer: for one of few bytes V8
-        // would make a buffer, and leave a copy of the bytes where they were.
-        memory.set(new Uint8Array(bufferOf.call(array), offsetOf.call(array), length));
+        if (!(error instanceof RangeError)) throw error; // The array's buffer is detached or too short.
+        // Another thread has let a shared buffer grow. No other array's buffer is read: V8 would allocate one for a
+        // short array, and leave a copy of the bytes on its heap.
+        destination.set(new Uint8Array(bufferOf.call(array), offsetOf.call(array), length));
     }
 }
 
-function loadDecoder(first, second) {
-    numbers[0] = first;
-    numbers[1] = second;
+function loadDecoder(positionWord, pendingWord) {
+    decoderWords[0] = positionWord;
+    decoderWords[1] = pendingWord;
 }
 
 /**
- * Returns what a source decodes to, or undefined after an error. What a caller copies may be `front`, or be the
- * beginning of its buffer. No other array keeps any of it.
+ * Returns the bytes that a source decodes to, or undefined after an error. If the caller copies them, the result may be
+ * a view of the module's memory or of a larger array. No other array keeps any of them.
  */
 function decodeSource(source, isCopied = false) {
     let count = decodeChunk(source, 0);
     if (count < 0) return undefined;
-    if (source.length <= TEXT_CHUNK) return isCopied ? frontOf(count) : bytes.slice(0, count);
+    if (source.length <= TEXT_CHUNK) return isCopied ? viewOf(count) : bytes.slice(0, count);
     const output = new Uint8Array(count + Math.ceil(source.length / 2) - BYTES_CHUNK);
-    let written = 0;
+    let offset = 0;
     for (let index = TEXT_CHUNK; count >= 0; index += TEXT_CHUNK) {
-        output.set(bytes.subarray(0, count), written);
-        written += count;
+        output.set(bytes.subarray(0, count), offset);
+        offset += count;
         if (index >= source.length) break;
         count = decodeChunk(source, index);
     }
-    if (count >= 0 && (isCopied || written === output.length)) return output.subarray(0, written);
-    const result = count < 0 ? undefined : output.slice(0, written);
+    if (count >= 0 && (isCopied || offset === output.length)) return output.subarray(0, offset);
+    const result = count < 0 ? undefined : output.slice(0, offset);
     output.fill(0);
     return result;
 }
 
-function frontOf(count) {
-    if (front.length !== count) front = bytes.subarray(0, count);
-    return front;
+/** Returns a view of the first of `bytes`. */
+function viewOf(count) {
+    if (cachedView.length !== count) cachedView = bytes.subarray(0, count);
+    return cachedView;
 }
 
 /** Decodes the chunk at an index into `bytes`, and returns how many bytes it is, or -1 after an error. */
 function decodeChunk(source, index) {
     const length = copyChunk(source, index);
     const isDecoded = const_hex_decoder_update(DECODER, TEXT, length, BYTES, bytes.length, WRITTEN, ERROR);
-    return isDecoded ? numbers[2] : -1;
+    return isDecoded ? writtenWord[0] : -1;
 }
 
-/** Returns whether the decoder in the memory has read a whole text. */
-const finishes = () => const_hex_decoder_finish(DECODER, ERROR) === 1;
+/** Returns whether the chunks that the decoder in the memory has read form a complete text. */
+const isComplete = () => const_hex_decoder_finish(DECODER, ERROR) === 1;
 
-function accepts(source) {
+function isValid(source) {
     loadDecoder(0, 0);
     let index = 0;
     do {
         if (decodeChunk(source, index) < 0) return false;
         index += TEXT_CHUNK;
     } while (index < source.length);
-    return finishes();
+    return isComplete();
 }
 
 /** Copies the chunk at an index into `text`, and returns its length. */
@@ -258,68 +262,68 @@ function copyChunk({ value, length: total }, index) {
     const length = Math.min(total - index, TEXT_CHUNK);
     if (typeof value !== 'string') {
         copyBytes(length < total ? value.subarray(index, index + length) : value, length, text);
-    } else if (length > SHORT || !copyAscii(value, index, length)) {
-        // An invalid character comes within this length, as none has fewer bytes than units of the string.
-        // One unit more, so that no surrogate pair is cut.
+    } else if (length > MAX_LOOP_LENGTH || !copyAscii(value, index, length)) {
+        // No character has fewer bytes in UTF-8 than code units, so the first `length` bytes have an invalid character
+        // if these units have. One unit more is encoded, so that no surrogate pair is split.
         textEncoder.encodeInto(value.slice(index, index + length + 1), text);
     }
     return length;
 }
 
-/** Copies characters into `text`, and returns whether all are ASCII. */
+/** Copies code units into `text`, and returns whether all are ASCII. */
 function copyAscii(string, start, length) {
-    let joined = 0;
+    let allBits = 0;
     for (let index = 0; index < length; index++) {
         const unit = string.charCodeAt(start + index);
         text[index] = unit;
-        joined |= unit;
+        allBits |= unit;
     }
-    return joined < 128;
+    return allBits < 128;
 }
 
 /** Returns the first characters of `text`. */
 function textAsString(length) {
     if (textBuffer) return textBuffer.toString('latin1', 0, length);
-    if (length > SHORT) return textDecoder.decode(text.subarray(0, length));
+    if (length > MAX_LOOP_LENGTH) return textDecoder.decode(text.subarray(0, length));
     const units = new Array(length);
     for (let index = 0; index < length; index++) units[index] = text[index];
     return String.fromCharCode.apply(null, units);
 }
 
-/** Returns text, and its length now: another thread may let the buffer of an array grow. */
+/** Returns the text and its present length: another thread may let the buffer of an array grow. */
 const sourceOf = (input) => (
     typeof input === 'string' ? { value: input, length: input.length } : bytesIn(input, 'not text or bytes')
 );
 
-/** Returns the bytes of a buffer or of a view, and how many they are, or throws a TypeError with the message. */
+/** Returns the bytes of a buffer or of a view and their number, or throws a TypeError with the message. */
 function bytesIn(value, message) {
     const type = typeOf.call(value);
     const length = type === 'Uint8Array' ? lengthOf.call(value) : Infinity;
-    // Copying throws if the array has lost its bytes.
+    // Copying throws if the array's buffer is detached or too short.
     if (length <= BYTES_CHUNK) return { value, length };
     try {
-        if (type) typedArray.keys.call(value); // Throws if the array has lost its bytes.
+        if (type) typedArray.keys.call(value); // Throws if the array's buffer is detached or too short.
         const view = ArrayBuffer.isView(value) ? value : new DataView(value);
         const get = (name) => Reflect.get(type ? typedArray : DataView.prototype, name, view);
         const array = new Uint8Array(get('buffer'), get('byteOffset'), get('byteLength'));
         return { value: array, length: array.length };
     } catch (cause) {
-        const lost = typeof value === 'object' ? ' (or the buffer is detached or too short)' : '';
-        throw new TypeError(message + lost, { cause });
+        const hint = typeof value === 'object' ? ' (or the buffer is detached or too short)' : '';
+        throw new TypeError(message + hint, { cause });
     }
 }
 
-/** Returns the error that the module stored, or for a whole text an error of its length, which is first. */
+/** Returns the error that the module stored, or for a whole text an error of its length, which takes precedence. */
 function errorOf(source, targetLength) {
-    const [kind, byte, index] = numbers.subarray(4);
+    const [kind, byte, index] = errorWords;
     if (source !== undefined) {
         const { value } = source;
         const isString = typeof value === 'string';
         const length = isString ? utf8Length(value) : source.length;
         const start = isString ? value : String.fromCharCode(value[0], value[1]);
-        const digits = /^0x/i.test(start) ? length - 2 : length;
+        const digitCount = /^0x/i.test(start) ? length - 2 : length;
         if (length % 2 === 1) return new HexError(ODD_LENGTH);
-        if (targetLength !== undefined && digits !== 2 * targetLength) return new HexError(INVALID_LENGTH);
+        if (targetLength !== undefined && digitCount !== 2 * targetLength) return new HexError(INVALID_LENGTH);
     }
     return new HexError(kind, kind === INVALID_CHARACTER ? { index, byte } : undefined);
 }

@@ -3,13 +3,13 @@ import * as hex from '../dist/const_hex.js';
 
 const { check, decode, decodeInto, decoder, decoderStream, encode, encoderStream, HexError, isHex } = hex;
 const TABLE = new URL('../../crates/const_hex_vectors/data/vectors.tsv', import.meta.url);
-const CHUNK = 32768; // So many characters are decoded at a time, and half as many bytes encoded.
+const CHUNK = 32768; // The characters that are decoded at a time. Half as many bytes are encoded.
 const utf8 = (string) => new TextEncoder().encode(string);
 const stringOf = (bytes) => new TextDecoder('utf-8', { ignoreBOM: true }).decode(bytes);
 const KIWI = utf8('kiwi');
 
-function equal(found, wanted, what = '') {
-    if (found !== wanted) throw new Error(`${what}: ${found}, and not ${wanted}`.slice(0, 500));
+function equal(actual, expected, what = '') {
+    if (actual !== expected) throw new Error(`${what}: ${actual}, expected ${expected}`.slice(0, 500));
 }
 
 /** Returns the result of a call, or its error. */
@@ -41,23 +41,23 @@ function errorAt(text, index, [byte]) {
 }
 
 /** Compares each function that reads a text. */
-function compare(text, wanted) {
-    const fails = wanted.startsWith('!');
-    equal(resultOf(() => decode(text)), wanted, text);
-    equal(resultOf(() => check(text)), fails ? wanted : 'undefined', text);
+function compare(text, expected) {
+    const fails = expected.startsWith('!');
+    equal(resultOf(() => decode(text)), expected, text);
+    equal(resultOf(() => check(text)), fails ? expected : 'undefined', text);
     equal(isHex(text), !fails, text);
-    if (!fails) compareInto(text, wanted.length / 2, wanted);
-    compareInto(text, text.length + 1, wanted === '!OddLength' ? wanted : '!InvalidStringLength');
+    if (!fails) compareInto(text, expected.length / 2, expected);
+    compareInto(text, text.length + 1, expected === '!OddLength' ? expected : '!InvalidStringLength');
 }
 
 /** Compares `decodeInto`, which leaves the target unchanged after an error. */
-function compareInto(text, length, wanted) {
+function compareInto(text, length, expected) {
     const target = new Uint8Array(length).fill(0xee);
-    equal(resultOf(() => decodeInto(text, target)), wanted, text);
-    if (wanted.startsWith('!')) equal(target.every((byte) => byte === 0xee), true, text);
+    equal(resultOf(() => decodeInto(text, target)), expected, text);
+    if (expected.startsWith('!')) equal(target.every((byte) => byte === 0xee), true, text);
 }
 
-/** Decodes a text that is cut at these places, and returns the digits of all bytes. */
+/** Decodes a text that is split at these indices, and returns the digits of all bytes. */
 function decodeInChunks(text, ...cuts) {
     const { push, end } = decoder();
     const parts = [0, ...cuts].map((cut, index) => push(text.slice(cut, cuts[index] ?? text.length)));
@@ -71,8 +71,8 @@ function cellBytes(cell) {
     return Uint8Array.from(parts, (part) => (part[1] ? Number(`0${part.slice(1)}`) : part.charCodeAt()));
 }
 
-/** What the lines of the table ask, by their first word. Others ask of what this package does not have, and of long texts,
- * as `longTexts` does. */
+/** Runs the lines of the table, by their first word. Other lines are for what this package does not have, and for long
+ * texts, as `longTexts` is. */
 const questions = {
     write(bytes, digits) {
         for (const [prefix, upper] of [[false, false], [false, true], [true, false], [true, true]]) {
@@ -82,16 +82,16 @@ const questions = {
         }
     },
     read: compare,
-    'read-into': (text, wanted, size) => compareInto(text, size, wanted),
-    'read-chunks'(text, wanted) {
+    'read-into': (text, expected, size) => compareInto(text, size, expected),
+    'read-chunks'(text, expected) {
         if (typeof text === 'string' && /[\ud800-\udfff]/.test(text)) return; // Half of a pair has no UTF-8.
         for (let cut = 0; cut <= text.length; cut++) {
-            equal(resultOf(() => decodeInChunks(text, cut)), wanted, text);
+            equal(resultOf(() => decodeInChunks(text, cut)), expected, text);
         }
     },
-    message(text, wanted, size) {
+    message(text, expected, size) {
         const call = () => (size === undefined ? decode(text) : decodeInto(text, new Uint8Array(size)));
-        equal(outcome(call).message, wanted);
+        equal(outcome(call).message, expected);
     },
 };
 
@@ -101,14 +101,14 @@ async function tableOfTestVectors() {
     const table = await read(TABLE, 'utf8');
     const count = { write: 0, read: 0, 'read-into': 0, 'read-chunks': 0, message: 0 };
     for (const line of table.split('\n')) {
-        const [asked, input, result] = line.split('\t');
-        const [question, number] = asked.split(' ');
+        const [kind, input, result] = line.split('\t');
+        const [question, number] = kind.split(' ');
         if (!(question in questions)) continue;
-        const [bytes, answer] = [input, result].map(cellBytes);
-        const wanted = question.startsWith('read') && !result.startsWith('!') ? digitsOf(answer) : stringOf(answer);
+        const [bytes, output] = [input, result].map(cellBytes);
+        const expected = question.startsWith('read') && !result.startsWith('!') ? digitsOf(output) : stringOf(output);
         const isText = question !== 'write' && digitsOf(utf8(stringOf(bytes))) === digitsOf(bytes);
         const forms = isText ? [bytes, stringOf(bytes)] : [bytes];
-        for (const form of forms) questions[question](form, wanted, number && Number(number));
+        for (const form of forms) questions[question](form, expected, number && Number(number));
         count[question] += 1;
     }
     for (const [question, lines] of Object.entries(count)) equal(lines > 20, true, question);
@@ -133,9 +133,9 @@ function compareBroken(digits, index) {
     for (const invalid of ['g', '\u00e9', '\u0130', '\u20ac', '\u{1f95d}', '\ud800', '\udc00']) {
         for (const end of ['', '0', '\u00e9']) {
             const broken = digits.slice(0, index) + invalid + digits.slice(index) + end;
-            const wanted = errorAt(broken, index, utf8(invalid));
-            for (const form of [broken, utf8(broken)]) compare(form, wanted);
-            compareInto(broken, utf8(broken).length >> 1, wanted);
+            const expected = errorAt(broken, index, utf8(invalid));
+            for (const form of [broken, utf8(broken)]) compare(form, expected);
+            compareInto(broken, utf8(broken).length >> 1, expected);
         }
     }
 }
@@ -148,7 +148,7 @@ function invalidCharacters() {
     const digits = 'ab'.repeat(CHUNK + 4);
     for (let near = -5; near < 5; near++) {
         for (const index of [CHUNK + near, 2 * CHUNK + near]) compareBroken(digits, index);
-        // In units the text may be no longer than a chunk, though it is in bytes.
+        // In code units the text may be no longer than a chunk, though it is in bytes.
         compareBroken(digits.slice(0, CHUNK + near), CHUNK + near);
     }
 }
@@ -198,7 +198,7 @@ function otherTypes() {
     equal(hex.hexToBytes, decode);
 }
 
-function lostBuffers() {
+function detachedBuffers() {
     for (const size of [0, 4, 40000, 100000]) {
         const buffer = new ArrayBuffer(size);
         const shrunk = new ArrayBuffer(size + 8, { maxByteLength: 200000 });
@@ -288,5 +288,5 @@ function errors() {
     equal(error instanceof SyntaxError, true);
 }
 
-export const cases = { tableOfTestVectors, longTexts, invalidCharacters, arraysAndViews, otherTypes, lostBuffers, overlap,
-    failedAllocation, severalDecoders, streams, errors };
+export const cases = { tableOfTestVectors, longTexts, invalidCharacters, arraysAndViews, otherTypes, detachedBuffers,
+    overlap, failedAllocation, severalDecoders, streams, errors };

@@ -16,7 +16,7 @@ test('values of another realm', () => {
     assert.equal(hex.decodeInto('ff', target)[0], 255);
 });
 
-/** Loads the package once more, over what `change` makes of the exports of the module. */
+/** Loads another instance of the package, in which `change` replaces the exports of the module. */
 async function loadOver(change) {
     const { Instance } = WebAssembly;
     WebAssembly.Instance = function (module) { return { exports: change(new Instance(module).exports) }; };
@@ -26,13 +26,13 @@ async function loadOver(change) {
 
 test('where the module does not run, the import succeeds, and each function says why', async () => {
     const { TextEncoder, TextDecoder, WebAssembly } = globalThis;
-    const refuse = () => { throw new WebAssembly.CompileError('blocked by the policy'); };
+    const reject = () => { throw new WebAssembly.CompileError('blocked by the policy'); };
     for (const [change, reason] of [
         [{ TextEncoder: undefined }, 'TextEncoder or TextDecoder is missing'],
         [{ TextDecoder: undefined }, 'TextEncoder or TextDecoder is missing'],
         [{ WebAssembly: undefined }, 'the engine has no WebAssembly'],
         [{ WebAssembly: { validate: () => false } }, 'the engine has no WebAssembly with SIMD'],
-        [{ WebAssembly: { validate: () => true, Module: refuse } }, /policy or the engine does not allow WebAssembly/],
+        [{ WebAssembly: { validate: () => true, Module: reject } }, /policy or the engine does not allow WebAssembly/],
     ]) {
         Object.assign(globalThis, change);
         const loaded = await import(`../dist/const_hex.js?${Math.random()}`)
@@ -98,9 +98,9 @@ test('decodeInto leaves no bytes of a long text in arrays of its own', () => {
     for (const { buffer } of made) assert(new Uint8Array(buffer).every((byte) => byte === 0));
 });
 
-// A text has the length that it had when the call began, also if its buffer grows before the copy or after it.
+// A text has the length that it had at the start of the call, even if its buffer grows before or after it is copied.
 test('a shared buffer that grows meanwhile', async () => {
-    for (const [text, read, wanted] of [
+    for (const [text, read, expected] of [
         ['6b'.repeat(20000), ({ decode }, buffer) => decode(buffer), '6b'.repeat(20000)],
         ['zz', ({ decode }, buffer) => decode(new Uint8Array(buffer)), "HexError: invalid character 'z' at position 0"],
     ]) {
@@ -113,11 +113,11 @@ test('a shared buffer that grows meanwhile', async () => {
                 return exports.const_hex_decoder_update(...given);
             },
         }));
-        assert.equal(resultOf(() => read(loaded, buffer)), wanted);
+        assert.equal(resultOf(() => read(loaded, buffer)), expected);
     }
     const arrays = Object.getPrototypeOf(Uint8Array.prototype);
     const { set } = arrays;
-    for (const [call, wanted] of [
+    for (const [call, expected] of [
         [(array) => hex.encode(array), '36623639'],
         [(array) => hex.decode(array), '6b69'],
         [(array) => hex.decodeInto(array, new Uint8Array(2)), '6b69'],
@@ -129,7 +129,7 @@ test('a shared buffer that grows meanwhile', async () => {
             return Reflect.apply(set, this, given);
         };
         try {
-            assert.equal(resultOf(() => call(new Uint8Array(buffer))), wanted);
+            assert.equal(resultOf(() => call(new Uint8Array(buffer))), expected);
         } finally {
             arrays.set = set;
         }
@@ -151,7 +151,7 @@ test('options are properties of the object itself', async () => {
     }
 });
 
-// Arrays of at most 64 bytes lie on the heap of V8, until something asks for their buffer.
+// V8 keeps arrays of at most 64 bytes on its heap, until their `buffer` is read.
 const KEYS = `
     import * as hex from ${JSON.stringify(new URL('../dist/const_hex.js', import.meta.url))};
     const complements = [];
@@ -216,17 +216,17 @@ test('a HexError where the prototypes of errors are frozen', () => {
     assert.equal(printed, "HexError invalid character 'z' at position 0\n");
 });
 
-// Buffers of zeros take no memory as long as nobody writes there.
+// Buffers of zeros take no physical memory until they are written.
 test('lengths above 2^31', async () => {
     const [even, odd] = [new Uint8Array(2 ** 31 + 2), new Uint8Array(2 ** 31 + 1)];
-    for (const [wanted, call] of [
+    for (const [expected, call] of [
         ['!InvalidHexCharacter 0x00 0', () => hex.decode(even)],
         ['!OddLength', () => hex.decode(odd)],
         ['!InvalidHexCharacter 0x00 0', () => hex.decodeInto(even, odd.subarray(0, 2 ** 30 + 1))],
         ['!InvalidStringLength', () => hex.decodeInto(even, odd.subarray(0, 2 ** 30))],
         ['!InvalidStringLength', () => hex.decodeInto('6b', even)],
-    ]) assert.equal(resultOf(call), wanted, call);
-    // A module that takes any chunk for text without bytes: only the array for the result is that large.
+    ]) assert.equal(resultOf(call), expected, call);
+    // A mock of the module that decodes each chunk to no bytes: only the array for the result is that large.
     let chunks = 0;
     const functions = { const_hex_decoder_update: () => ++chunks, const_hex_decoder_finish: () => 1 };
     const { decode } = await loadOver((exports) => ({ ...exports, ...functions }));
@@ -240,8 +240,8 @@ test('positions above 2^31 and 2^32', () => {
     for (const [count, index] of [[32, 2 ** 31 + 1], [64, 2 ** 32 - 1]]) {
         const { push, end } = hex.decoder();
         for (let left = count; left > 0; left--) push(chunk);
-        const wanted = `!InvalidHexCharacter 0x67 ${index}`;
-        for (const call of [() => push('6g'), end]) assert.equal(resultOf(call), wanted);
+        const expected = `!InvalidHexCharacter 0x67 ${index}`;
+        for (const call of [() => push('6g'), end]) assert.equal(resultOf(call), expected);
     }
 });
 

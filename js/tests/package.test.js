@@ -25,8 +25,8 @@ test('npm packs and installs the package, and the example runs', { skip: without
     const packed = run(root, 'npm', 'pack', '--json', '--ignore-scripts', '--pack-destination', folder);
     const [{ files, filename }] = JSON.parse(packed);
     const licenses = ['LICENSE-APACHE', 'LICENSE-MIT', 'NOTICE'];
-    const wanted = [...licenses, 'README.md', 'dist/const_hex.js', 'index.d.ts', 'package.json'];
-    assert.deepEqual(files.map(({ path }) => path).sort(), wanted);
+    const expected = [...licenses, 'README.md', 'dist/const_hex.js', 'index.d.ts', 'package.json'];
+    assert.deepEqual(files.map(({ path }) => path).sort(), expected);
     run(folder, 'npm', 'install', '--offline', '--no-audit', '--no-fund', `./${filename}`);
     const required = example.replace(/^import (.*) from ('.*');/m, 'const $1 = require($2);');
     for (const [name, program] of [['example.mjs', example], ['example.cjs', required], ['other.mjs', other]]) {

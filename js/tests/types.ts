@@ -18,13 +18,13 @@ const indexOf = (error: unknown) => error instanceof HexError && error.kind === 
 const isValid: boolean = isHex(new DataView(bytes.buffer));
 const narrowed = (line: string): HexString | number => (isHex(line) ? line : line.length);
 const prefixed = (line: `0x${string}`): (`0x${string}` & HexString) | null => (isHex(line) ? line : null);
-// @ts-expect-error: a string that `isHex` has not seen
+// @ts-expect-error: a string that `isHex` has not checked
 const unseen: HexString = plain;
 // @ts-expect-error: not a text
 decode(5);
 // @ts-expect-error: no such option
 encode(bytes, { lower: true });
-// @ts-expect-error: made by the package alone
+// @ts-expect-error: a private constructor
 new HexError();
 const encoded: ReadableStream<string> = new Blob([]).stream().pipeThrough(encoderStream({ upper: true }));
 export { digest, encoded, indexOf, isValid, mine, narrowed, nothing, plain, prefixed, stream, unseen };

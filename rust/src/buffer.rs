@@ -23,7 +23,7 @@ use core::{fmt, mem::transmute, str};
 /// assert_eq!(PEAR.as_str(), "70656172");
 /// assert_eq!(format!("{PEAR:>10}"), "  70656172");
 /// ```
-// `as_ptr` relies on the order of the fields, and that nothing lies between them. The text is always UTF-8.
+// `as_ptr` relies on the order of the fields, without padding between them. The text is always UTF-8.
 #[must_use]
 #[repr(C)]
 #[derive(Clone, Copy, PartialEq, Eq)]
@@ -39,7 +39,7 @@ impl<const N: usize, const PREFIX: bool> Buffer<N, PREFIX> {
 
     const PREFIX_LEN: usize = if PREFIX { 2 } else { 0 };
 
-    /// A constant, since without optimization the expression is a loop.
+    /// A constant, since without optimization the array expression is a loop.
     const NO_DIGITS: [[u8; 2]; N] = [[0; 2]; N];
 
     /// Returns a buffer with the prefix, if any, and `2 * N` NUL characters.
@@ -55,19 +55,19 @@ impl<const N: usize, const PREFIX: bool> Buffer<N, PREFIX> {
     /// looks digits up in a table.
     #[inline]
     pub const fn const_format(self, array: &[u8; N]) -> Self {
-        Self::of(array, false)
+        Self::encoded(array, false)
     }
 
     /// Does the same as [`const_format`](Self::const_format) in uppercase.
     #[inline]
     pub const fn const_format_upper(self, array: &[u8; N]) -> Self {
-        Self::of(array, true)
+        Self::encoded(array, true)
     }
 
     /// Returns a buffer with the text of `array`.
-    // Not by the proved `Buffer`, which has a parameter for the length of its text: Rust 1.63 cannot compute
-    // that from `N`. Nor by an encoder, since a constant of Rust 1.63 cannot write to a `&mut [u8]`.
-    pub(crate) const fn of(array: &[u8; N], upper: bool) -> Self {
+    // Not by the proved `Buffer`, which has a const parameter for the length of its text: Rust 1.63 cannot compute that
+    // from `N`. Nor by an encoder, since a `const fn` of Rust 1.63 cannot write to a `&mut [u8]`.
+    pub(crate) const fn encoded(array: &[u8; N], upper: bool) -> Self {
         let mut buffer = Self::new();
         let mut index = 0;
         while index < N {
@@ -170,7 +170,7 @@ impl<const N: usize, const PREFIX: bool> Buffer<N, PREFIX> {
     #[must_use]
     pub const fn as_byte_array<const LEN: usize>(&self) -> &[u8; LEN] {
         assert!(LEN == Self::LEN, "the text has another length");
-        // SAFETY: the text has so many bytes, and an array of bytes needs no alignment.
+        // SAFETY: the text has `LEN` bytes, and an array of bytes needs no alignment.
         unsafe { &*self.as_ptr().cast() }
     }
 
@@ -178,7 +178,7 @@ impl<const N: usize, const PREFIX: bool> Buffer<N, PREFIX> {
     #[inline]
     #[must_use]
     pub const fn as_bytes(&self) -> &[u8] {
-        // SAFETY: the text has so many bytes, and is borrowed with `self`.
+        // SAFETY: the text has `LEN` bytes, and is borrowed with `self`.
         unsafe { slice(self.as_ptr(), Self::LEN) }
     }
 
@@ -189,7 +189,7 @@ impl<const N: usize, const PREFIX: bool> Buffer<N, PREFIX> {
     /// The bytes must be UTF-8 when the borrow ends.
     #[inline]
     pub unsafe fn as_mut_bytes(&mut self) -> &mut [u8] {
-        // SAFETY: the text has so many bytes, and is borrowed with `self`.
+        // SAFETY: the text has `LEN` bytes, and is borrowed with `self`.
         unsafe { core::slice::from_raw_parts_mut(self.as_mut_ptr(), Self::LEN) }
     }
 
@@ -200,7 +200,7 @@ impl<const N: usize, const PREFIX: bool> Buffer<N, PREFIX> {
     /// The bytes must be UTF-8 when the borrow ends.
     #[inline]
     pub unsafe fn buffer(&mut self) -> &mut [u8] {
-        // SAFETY: the caller promises what `as_mut_bytes` asks.
+        // SAFETY: the caller promises what `as_mut_bytes` requires.
         unsafe { &mut self.as_mut_bytes()[Self::PREFIX_LEN..] }
     }
 
@@ -224,15 +224,15 @@ impl<const N: usize, const PREFIX: bool> Buffer<N, PREFIX> {
 
 /// Does and requires what `core::slice::from_raw_parts` does. A constant can call that only from Rust 1.64 on.
 const unsafe fn slice<'a>(first: *const u8, count: usize) -> &'a [u8] {
-    // SAFETY: a slice is a pointer and then a count. With another layout this would be an error of the compiler, which
-    // does not read a pointer as a count.
+    // SAFETY: a slice is a pointer and then a count. With another layout this would be a compile-time error, since a
+    // constant cannot read a pointer as an integer.
     const _: () = assert!(unsafe { transmute::<&[u8], (*const u8, usize)>(b"kiwi") }.1 == 4);
     // SAFETY: the parts are in the order of a slice, and the caller promises the rest.
     unsafe { transmute((first, count)) }
 }
 
-/// Implements traits for each buffer, by their methods.
-macro_rules! traits {
+/// Implements traits for `Buffer`, each by its method.
+macro_rules! impl_traits {
     ($($(#[$doc:meta])* $trait:path: $method:item)+) => {$(
         $(#[$doc])*
         impl<const N: usize, const PREFIX: bool> $trait for Buffer<N, PREFIX> {
@@ -241,7 +241,7 @@ macro_rules! traits {
         }
     )+};
 }
-traits! {
+impl_traits! {
     Default: fn default() -> Self {
         Self::new()
     }

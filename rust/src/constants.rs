@@ -1,4 +1,4 @@
-//! Functions that constants can call. They look digits up in a table, so at run time their timing may reveal the bytes.
+//! Functions for constants. They look digits up in a table, so at run time their timing may reveal the bytes.
 
 use crate::proved::codec::body::strip_prefix;
 use crate::{const_decode_to_array, Buffer, FromHexError};
@@ -21,7 +21,7 @@ use crate::{const_decode_to_array, Buffer, FromHexError};
 #[macro_export]
 macro_rules! hex {
     ($text:expr) => {{
-        // The text may be a name of the user's, who would not write this one.
+        // Items of a macro are not hygienic, so the name is one that the caller's expression does not use.
         const __CONST_HEX_DECODED: [u8; $crate::decoded_length($text.as_bytes())] =
             $crate::bytes_of($text.as_bytes());
         __CONST_HEX_DECODED
@@ -62,19 +62,19 @@ pub const fn bytes_of<const N: usize>(text: &[u8]) -> [u8; N] {
 }
 
 /// Panics with a message that ends in a position. A constant cannot format a number.
-// `inline`: few crates call it at run time, and only these compile it.
+// `inline`: only the few crates that call it at run time compile it.
 #[cold]
 #[inline]
 #[track_caller]
 const fn panic_at(position: usize) -> ! {
     let mut message = *b"invalid character at position                     ";
-    let (mut end, mut unit) = (30, 1);
-    while position / unit > 9 {
-        unit *= 10;
+    let (mut end, mut power) = (30, 1);
+    while position / power > 9 {
+        power *= 10;
     }
-    while unit > 0 {
-        message[end] = b'0' + (position / unit % 10) as u8;
-        (end, unit) = (end + 1, unit / 10);
+    while power > 0 {
+        message[end] = b'0' + (position / power % 10) as u8;
+        (end, power) = (end + 1, power / 10);
     }
     let mut message: &[u8] = &message;
     while let [start @ .., b' '] = message {
@@ -97,5 +97,5 @@ const fn panic_at(position: usize) -> ! {
 pub const fn const_encode<const N: usize, const PREFIX: bool>(
     array: &[u8; N],
 ) -> Buffer<N, PREFIX> {
-    Buffer::of(array, false)
+    Buffer::encoded(array, false)
 }

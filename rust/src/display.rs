@@ -1,6 +1,6 @@
 //! Printing, which does not allocate.
 
-use crate::kernel::Space;
+use crate::kernel::StackBuffer;
 use crate::proved::ascii_text;
 use core::fmt;
 
@@ -19,10 +19,10 @@ pub fn display<T: AsRef<[u8]>>(input: T) -> impl fmt::Display + fmt::LowerHex + 
     Digits(input)
 }
 
-/// Bytes that are printed.
+/// Bytes whose digits are printed.
 struct Digits<T>(T);
 
-macro_rules! printed {
+macro_rules! impl_format {
     ($($format:ident $upper:literal)*) => {$(
         impl<T: AsRef<[u8]>> fmt::$format for Digits<T> {
             fn fmt(&self, f: &mut fmt::Formatter<'_>) -> fmt::Result {
@@ -34,11 +34,11 @@ macro_rules! printed {
         }
     )*};
 }
-printed! { Display false LowerHex false UpperHex true }
+impl_format! { Display false LowerHex false UpperHex true }
 
 /// Prints the digits of bytes, and `0x` before them if `PREFIX` is true. Each call of the formatter but the last writes
 /// 4096 characters. Empty text makes no call, and no call follows an error.
-// The prefix takes as much space as one byte. Text whose length LLVM knows is appended to a `String` without a call.
+// The prefix takes as much space as one byte. LLVM appends text of a known length to a `String` without a call.
 #[inline(always)]
 pub(crate) fn print<const UPPER: bool, const PREFIX: bool>(
     bytes: &[u8],
@@ -46,32 +46,33 @@ pub(crate) fn print<const UPPER: bool, const PREFIX: bool>(
 ) -> fmt::Result {
     match bytes.len() + usize::from(PREFIX) {
         0 => Ok(()),
-        1 => print_in::<2, UPPER, PREFIX>(bytes, f),
-        2..=128 => print_in::<256, UPPER, PREFIX>(bytes, f),
+        1 => write_with_buffer::<2, UPPER, PREFIX>(bytes, f),
+        2..=128 => write_with_buffer::<256, UPPER, PREFIX>(bytes, f),
         _ => print_long::<UPPER, PREFIX>(bytes, f),
     }
 }
 
-/// Does the same by one call, for text of at most `N` characters.
-fn print_in<const N: usize, const UPPER: bool, const PREFIX: bool>(
+/// Does the same by one call of the formatter, for text of at most `N` characters.
+fn write_with_buffer<const N: usize, const UPPER: bool, const PREFIX: bool>(
     bytes: &[u8],
     f: &mut fmt::Formatter<'_>,
 ) -> fmt::Result {
-    f.write_str(ascii_text(Space::<N>::new().text(bytes, PREFIX, UPPER)))
+    let mut buffer = StackBuffer::<N>::new();
+    f.write_str(ascii_text(buffer.encode(bytes, PREFIX, UPPER)))
 }
 
-/// Does the same for more than 256 characters. Without optimization the space is copied, so up to 1024 have less.
+/// Does the same for more than 256 characters. Up to 1024 have a smaller buffer, which is copied without optimization.
 #[inline(never)]
 fn print_long<const UPPER: bool, const PREFIX: bool>(
     bytes: &[u8],
     f: &mut fmt::Formatter<'_>,
 ) -> fmt::Result {
     if bytes.len() < 512 {
-        return print_in::<1024, UPPER, PREFIX>(bytes, f);
+        return write_with_buffer::<1024, UPPER, PREFIX>(bytes, f);
     }
     let (first, rest) = bytes.split_at(bytes.len().min(2048 - usize::from(PREFIX)));
-    print_in::<4096, UPPER, PREFIX>(first, f)?;
-    let mut parts = rest.chunks_exact(2048);
-    parts.try_for_each(|part| print_in::<4096, UPPER, false>(part, f))?;
-    print::<UPPER, false>(parts.remainder(), f)
+    write_with_buffer::<4096, UPPER, PREFIX>(first, f)?;
+    let mut chunks = rest.chunks_exact(2048);
+    chunks.try_for_each(|chunk| write_with_buffer::<4096, UPPER, false>(chunk, f))?;
+    print::<UPPER, false>(chunks.remainder(), f)
 }

@@ -1,12 +1,12 @@
-//! Text from a reader, and text to a writer.
+//! A reader that decodes, and a writer that encodes.
 
 use crate::{encode_to_slice, Decoder};
 use std::io::{BufRead, BufReader, BufWriter, Error, ErrorKind, Read, Result, Write};
 
 /// Wraps a reader of hexadecimal text, and yields the decoded bytes. Allocates a buffer for the text, which ends where
-/// the other reader first returns no bytes.
+/// the inner reader first returns no bytes.
 ///
-/// A read returns the other reader's error, and may be repeated. It returns an error of the kind `InvalidData` with the
+/// A read returns the inner reader's error, and may be repeated. It returns an error of the kind `InvalidData` with the
 /// [`FromHexError`](crate::FromHexError) inside for an invalid character, or for an odd length at the end of the text. Each later read
 /// returns that error too. Bytes that the failing read has decoded before an invalid character are not returned.
 ///
@@ -38,12 +38,12 @@ impl<R: Read> DecodeReader<R> {
         }
     }
 
-    /// Returns the other reader. More of its text may have been read than was decoded.
+    /// Returns the inner reader. More of its text may have been read than was decoded.
     pub fn get_ref(&self) -> &R {
         self.text.get_ref()
     }
 
-    /// Returns the other reader. What was read of its text and is not decoded is lost.
+    /// Returns the inner reader. Text that is buffered and not yet decoded is lost.
     pub fn into_inner(self) -> R {
         self.text.into_inner()
     }
@@ -54,7 +54,7 @@ impl<R: Read> Read for DecodeReader<R> {
         let mut count = 0;
         while !self.is_at_end && count == 0 && !output.is_empty() {
             let text = self.text.fill_buf()?;
-            // So many digits fill the output, also if another one waits for its other half.
+            // This number of digits fills the output, also if the decoder has a pending digit.
             let length = text.len().min(output.len().saturating_mul(2));
             let decoded = self.decoder.decode(&text[..length], output);
             self.is_at_end = text.is_empty() || decoded.is_err();
@@ -70,9 +70,9 @@ impl<R: Read> Read for DecodeReader<R> {
 
 /// Wraps a writer, and writes two lowercase digits to it for each byte. Allocates a buffer for the text.
 ///
-/// As with [`BufWriter`], text may wait in the buffer until the next `flush`. When all is written, call
-/// [`finish`](EncodeWriter::finish): dropping the writer also writes what waits, but ignores an error. A write that
-/// returns the other writer's error has taken none of the bytes, so it may be repeated.
+/// As with [`BufWriter`], text may stay in the buffer until the next `flush`. When all is written, call
+/// [`finish`](EncodeWriter::finish): dropping the writer also writes the buffer, but ignores an error. A write that
+/// returns the inner writer's error has consumed none of the bytes, so it may be repeated.
 ///
 /// ```
 /// # use const_hex_proved::EncodeWriter;
@@ -89,30 +89,30 @@ impl<R: Read> Read for DecodeReader<R> {
 #[derive(Debug)]
 pub struct EncodeWriter<W: Write>(BufWriter<W>);
 
-// Not over the proved `WriteSink`, which keeps its first error: the other writer may be asked again after one.
-/// How many bytes become text at once.
+// Not over the proved `WriteSink`, which keeps its first error: a call of the inner writer may be repeated after one.
+/// The number of bytes that are encoded at a time.
 const CHUNK: usize = 256;
 
 impl<W: Write> EncodeWriter<W> {
     /// Returns a writer of bytes, whose text goes to `writer`.
     pub fn new(writer: W) -> EncodeWriter<W> {
-        // Text that is shorter than the buffer is taken whole or not at all.
+        // Text that is shorter than the buffer is buffered completely or not at all.
         EncodeWriter(BufWriter::with_capacity(16 * CHUNK, writer))
     }
 
-    /// Returns the other writer. Some of the text may wait in the buffer.
+    /// Returns the inner writer. Some of the text may still be in the buffer.
     pub fn get_ref(&self) -> &W {
         self.0.get_ref()
     }
 
-    /// Returns the other writer, and drops the text that waits in the buffer. To write it, use
+    /// Returns the inner writer, and discards the text in the buffer. To write it, use
     /// [`finish`](EncodeWriter::finish).
     pub fn into_inner(self) -> W {
         self.0.into_parts().0
     }
 
-    /// Writes what is in the buffer, flushes the other writer, and returns it, or its error. It is dropped then, after
-    /// one more attempt to write the text that waits.
+    /// Writes the buffer, flushes the inner writer, and returns it. After an error of the inner writer, which is
+    /// returned, it is dropped, after one more attempt to write the buffer.
     pub fn finish(mut self) -> Result<W> {
         self.0.flush()?;
         self.0.into_inner().map_err(|error| error.into_error())

@@ -1,8 +1,8 @@
-//! The kernel of every call: verified machine code where there is some for the target, and elsewhere the portable
-//! kernel of the proved source, or for WebAssembly with vectors the one over these.
+//! Selects the kernel for the target: verified machine code if there is some, for WebAssembly with `simd128` the proved
+//! source's kernel over vectors, and otherwise its portable kernel.
 
-/// Compiles the items of the first branch whose condition holds.
-macro_rules! choose {
+/// Compiles the items of the first branch whose `cfg` condition holds.
+macro_rules! first_matching_cfg {
     (
         if $first:meta { $($item:item)* }
         else if $second:meta { $($other:item)* }
@@ -14,10 +14,9 @@ macro_rules! choose {
     };
 }
 
-// Miri runs no machine code, in an SGX enclave no program may ask the CPU what it has, code for the kernel of an
-// operating system often has no vector registers, and aarch64 without an operating system may have no unaligned
-// accesses.
-choose! {
+// Miri runs no machine code, `cpuid` is illegal in an SGX enclave, code for the kernel of an operating system often may
+// not use vector registers, and bare-metal aarch64 may have no unaligned accesses.
+first_matching_cfg! {
     if all(
         any(
             all(target_arch = "x86_64", target_feature = "sse2", not(target_env = "sgx")),
@@ -30,7 +29,7 @@ choose! {
         mod native;
         use machine_code::secret as constant_time;
         use machine_code as unchecked;
-        // Few processors run it, so it has less data.
+        // The fallback for few processors, so it has smaller tables.
         use crate::proved::Compact as Portable;
         pub use native::MachineCode as TargetKernel;
     } else if all(target_arch = "wasm32", target_feature = "simd128", not(feature = "force-generic")) {
@@ -53,7 +52,7 @@ mod owned;
 #[allow(dead_code)] // No target needs all of it.
 mod portable;
 pub mod secret;
-mod space;
+mod stack_buffer;
 #[cfg(feature = "alloc")]
 pub use owned::*;
-pub use space::Space;
+pub use stack_buffer::StackBuffer;

@@ -41,12 +41,12 @@ mod decoder;
 mod display;
 #[cfg(feature = "std")]
 mod io;
-// Rust before 1.86 knows no cygwin.
+// Rust before 1.86 does not have the target cygwin.
 #[allow(unknown_lints, unexpected_cfgs, unsafe_code)]
 mod kernel;
 // The source is a library, of which this crate calls and exports a part. Its labels name loops for the proofs.
-// Anything else that is unused may show that the eraser has deleted code. It is an error in the tests alone, so that
-// a new lint of the compiler stops no user.
+// Anything else that is unused may show that `erase` has deleted code. It is an error in the tests alone, so that a new
+// lint of the compiler breaks no build of a user.
 #[cfg_attr(test, deny(unused))]
 #[allow(dead_code, unsafe_code, unused_imports, unused_labels)]
 #[rustfmt::skip]
@@ -85,9 +85,9 @@ use crate::proved::codec::{checks, decoders};
 #[cfg(feature = "alloc")]
 use alloc::{string::String, vec::Vec};
 
-/// Defines functions that encode: the signature without the bytes, and what they call, with whether there is a prefix
-/// and whether the digits are in uppercase.
-macro_rules! encoders {
+/// Defines functions that encode, each by its signature without the bytes, and the function that it calls with the flags
+/// for a prefix and for uppercase.
+macro_rules! define_encoders {
     ($(
         $(#[$attribute:meta])+
         fn $name:ident($($output:ident: $type:ty)?) $(-> $result:ty)? = $call:ident($prefix:literal, $upper:literal);
@@ -101,7 +101,7 @@ macro_rules! encoders {
 }
 
 #[cfg(feature = "alloc")]
-encoders! {
+define_encoders! {
     /// Returns two lowercase digits per byte, in order. Allocates.
     ///
     /// ```
@@ -110,16 +110,16 @@ encoders! {
     /// assert_eq!(encode_prefixed([254, 255]), "0xfeff");
     /// ```
     #[must_use]
-    fn encode() -> String = owned(false, false);
+    fn encode() -> String = encode_to_string(false, false);
     /// Does the same as [`encode`] in uppercase.
     #[must_use]
-    fn encode_upper() -> String = owned(false, true);
+    fn encode_upper() -> String = encode_to_string(false, true);
     /// Does the same as [`encode`] with `0x` before the digits.
     #[must_use]
-    fn encode_prefixed() -> String = owned(true, false);
+    fn encode_prefixed() -> String = encode_to_string(true, false);
     /// Does the same as [`encode_upper`] with `0x` before the digits.
     #[must_use]
-    fn encode_upper_prefixed() -> String = owned(true, true);
+    fn encode_upper_prefixed() -> String = encode_to_string(true, true);
 
     /// Appends two lowercase digits per byte to a string. Allocates only if the string has too little capacity.
     ///
@@ -129,16 +129,16 @@ encoders! {
     /// encode_append("kiwi", &mut text);
     /// assert_eq!(text, "kiwi = 6b697769");
     /// ```
-    fn encode_append(output: &mut String) = append(false, false);
+    fn encode_append(output: &mut String) = append_to_string(false, false);
     /// Does the same as [`encode_append`] in uppercase.
-    fn encode_append_upper(output: &mut String) = append(false, true);
+    fn encode_append_upper(output: &mut String) = append_to_string(false, true);
     /// Does the same as [`encode_append`] with `0x` before the digits.
-    fn encode_append_prefixed(output: &mut String) = append(true, false);
+    fn encode_append_prefixed(output: &mut String) = append_to_string(true, false);
     /// Does the same as [`encode_append_upper`] with `0x` before the digits.
-    fn encode_append_upper_prefixed(output: &mut String) = append(true, true);
+    fn encode_append_upper_prefixed(output: &mut String) = append_to_string(true, true);
 }
 
-encoders! {
+define_encoders! {
     /// Fills `output` with two lowercase digits per byte. Does not allocate.
     ///
     /// Returns [`FromHexError::InvalidStringLength`], and leaves `output` unchanged, unless it has the text's length.
@@ -162,17 +162,17 @@ encoders! {
     /// Does the same as [`encode_to_slice_upper`] with `0x` before the digits, with the same error.
     fn encode_to_slice_upper_prefixed(output: &mut [u8]) -> Result<(), FromHexError> = encode_full_to_slice(true, true);
     /// Does the same as [`encode_to_slice`], with the same error, and returns the output as a string.
-    fn encode_to_str(output: &mut [u8]) -> Result<&mut str, FromHexError> = text_in(false, false);
+    fn encode_to_str(output: &mut [u8]) -> Result<&mut str, FromHexError> = encode_full_to_str(false, false);
     /// Does the same as [`encode_to_slice_upper`], with the same error, and returns the output as a string.
-    fn encode_to_str_upper(output: &mut [u8]) -> Result<&mut str, FromHexError> = text_in(false, true);
+    fn encode_to_str_upper(output: &mut [u8]) -> Result<&mut str, FromHexError> = encode_full_to_str(false, true);
 }
 
 /// Returns the text of bytes.
 #[cfg(feature = "alloc")]
 #[inline(always)]
-fn owned(data: &[u8], prefix: bool, upper: bool) -> String {
+fn encode_to_string(data: &[u8], prefix: bool, upper: bool) -> String {
     let mut text = String::new();
-    append(data, prefix, upper, &mut text);
+    append_to_string(data, prefix, upper, &mut text);
     text
 }
 
@@ -180,16 +180,15 @@ fn owned(data: &[u8], prefix: bool, upper: bool) -> String {
 #[cfg(feature = "alloc")]
 #[allow(unsafe_code)]
 #[inline]
-fn append(data: &[u8], prefix: bool, upper: bool, output: &mut String) {
+fn append_to_string(data: &[u8], prefix: bool, upper: bool, output: &mut String) {
     // SAFETY: what is appended is ASCII: `0x`, and digits, of which this is proved.
     kernel::encode_append(data, prefix, upper, unsafe { output.as_mut_vec() });
 }
 
-/// Fills `output` with the text of bytes, and returns it as a string, which the proved functions cannot: Rattle
-/// has no `&mut str`.
+/// Fills `output` with the text of bytes, and returns it as a string. No proved function does: Rattle has no `&mut str`.
 #[allow(unsafe_code)]
 #[inline]
-fn text_in<'a>(
+fn encode_full_to_str<'a>(
     data: &[u8],
     prefix: bool,
     upper: bool,
@@ -218,15 +217,15 @@ pub fn decode<T: AsRef<[u8]>>(data: T) -> Result<Vec<u8>, FromHexError> {
     let mut bytes = Vec::new();
     match kernel::decode_append(digits, &mut bytes) {
         true => Ok(bytes),
-        false => Err(drop_and_find(text, bytes)),
+        false => Err(drop_and_find_error(text, bytes)),
     }
 }
 
-/// Drops the vector for what an invalid text decodes to, and returns the error.
-// A function of its own, so that less code is inlined for valid text.
+/// Drops the vector that was allocated for invalid text, and returns the error.
+// Outlined, so that less code is inlined for valid text.
 #[cfg(feature = "alloc")]
 #[cold]
-fn drop_and_find(text: &[u8], bytes: Vec<u8>) -> FromHexError {
+fn drop_and_find_error(text: &[u8], bytes: Vec<u8>) -> FromHexError {
     drop(bytes);
     find_invalid_character::<kernel::TargetKernel>(text)
 }
@@ -301,15 +300,15 @@ pub fn decode_to_array<T: AsRef<[u8]>, const N: usize>(input: T) -> Result<[u8; 
     if digits.len() != N << 1 {
         return wrong_length();
     }
-    match kernel::Space::new().bytes(digits) {
+    match kernel::StackBuffer::new().decode(digits) {
         Some(bytes) => Ok(*bytes),
         None => Err(find_invalid_character::<kernel::TargetKernel>(text)),
     }
 }
 
-/// Returns the error for text of another length.
-// Not inlined for AArch64, where LLVM would otherwise keep the result in registers, and copy an array in parts: of 32
-// bytes with 12 instructions in place of 5 (rustc 1.96).
+/// Returns the error for text of the wrong length.
+// Not inlined for AArch64, where LLVM would otherwise keep the result in registers, and copy an array piecewise: 32 bytes
+// with 12 instructions in place of 5 (rustc 1.96).
 #[cold]
 #[cfg_attr(target_arch = "aarch64", inline(never))]
 #[cfg_attr(not(target_arch = "aarch64"), inline(always))]

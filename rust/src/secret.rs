@@ -2,8 +2,8 @@
 //!
 //! For valid input, whatever depends on a byte happens in the kernel. Where that is the machine code, it is proved that
 //! no branch and no address depends on a byte; elsewhere it computes digits without a table and without a branch on a
-//! byte, which is constant-time by design, and tested. The code around it, which is compiled with yours, only copies bytes.
-//! Nothing here clears the stack, a register, or text of yours.
+//! byte, which is constant-time by design, and tested on x86-64. The code around it, which is compiled with yours, only
+//! copies bytes. Nothing here clears the stack, a register, or text of yours.
 //!
 //! ```
 //! # use const_hex_proved::secret;
@@ -89,7 +89,7 @@ fn write(bytes: &[u8], upper: bool, output: &mut [u8]) -> Result<(), Error> {
 #[inline]
 #[must_use]
 pub fn encode<T: AsRef<[u8]>>(data: T) -> String {
-    owned(data.as_ref(), false)
+    encode_to_string(data.as_ref(), false)
 }
 
 /// Does the same as [`encode`] in uppercase.
@@ -97,15 +97,15 @@ pub fn encode<T: AsRef<[u8]>>(data: T) -> String {
 #[inline]
 #[must_use]
 pub fn encode_upper<T: AsRef<[u8]>>(data: T) -> String {
-    owned(data.as_ref(), true)
+    encode_to_string(data.as_ref(), true)
 }
 
 #[cfg(feature = "alloc")]
 #[inline]
-fn owned(bytes: &[u8], upper: bool) -> String {
+fn encode_to_string(bytes: &[u8], upper: bool) -> String {
     let mut text = vec![0; bytes.len() << 1];
     fill(bytes, upper, &mut text);
-    // SAFETY: all of the text are digits, which are ASCII. A test for this would branch on them.
+    // SAFETY: the text has digits alone, which are ASCII. Checking this would branch on them.
     unsafe { String::from_utf8_unchecked(text) }
 }
 
@@ -128,7 +128,7 @@ pub fn decode_to_slice<T: AsRef<[u8]>>(data: T, out: &mut [u8]) -> Result<(), Er
     decode(data.as_ref(), out)
 }
 
-// Not inlined, so that one branch is what depends on whether text is valid.
+// Not inlined, so that there is a single branch on whether text is valid.
 #[inline(never)]
 fn decode(text: &[u8], out: &mut [u8]) -> Result<(), Error> {
     let error = match text.len() == out.len() << 1 {

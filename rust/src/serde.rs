@@ -28,7 +28,7 @@
 //! ```
 
 use crate::display::print;
-use crate::kernel::Space;
+use crate::kernel::StackBuffer;
 use crate::proved::text::ascii_text;
 use ::serde::de::{Deserialize, Deserializer, Error, Visitor};
 use ::serde::{Serialize, Serializer};
@@ -36,8 +36,8 @@ use ::serde::{Serialize, Serializer};
 use alloc::vec::Vec;
 use core::fmt;
 
-/// Defines functions that serialize.
-macro_rules! serializers {
+/// Defines functions that serialize, each by its name, its parameters and its result.
+macro_rules! define_serializers {
     ($($(#[$doc:meta])* $name:ident($data:ident: $type:ty), $serializer:ident => $result:expr;)+) => {$(
         $(#[$doc])*
         ///
@@ -49,8 +49,8 @@ macro_rules! serializers {
     )+};
 }
 
-/// Defines the function that deserializes a type of any `T` with a trait.
-macro_rules! deserializer {
+/// Defines the function `deserialize` for a type over any `T` that implements a trait.
+macro_rules! define_deserializer {
     ($(#[$doc:meta])* $type:ty, $from_hex:path: $deserializer:ident => $read:expr) => {
         $(#[$doc])*
         ///
@@ -65,31 +65,31 @@ macro_rules! deserializer {
     };
 }
 
-/// Defines the functions of a module, which write a prefix or none, and read by a trait.
-macro_rules! fields {
+/// Defines the functions of a module, which write a prefix or none, and deserialize by a trait.
+macro_rules! define_functions {
     ($prefix:literal $written:literal, $from_hex:path: $read:literal) => {
-        serializers! {
+        define_serializers! {
             #[doc = concat!("Serializes bytes as ", $written, "lowercase digits.")]
             serialize(data: T), serializer => Digits::<false, $prefix>(data.as_ref()).serialize(serializer);
             #[doc = concat!("Serializes bytes as ", $written, "uppercase digits.")]
             serialize_upper(data: T), serializer => Digits::<true, $prefix>(data.as_ref()).serialize(serializer);
         }
-        deserializer! {
+        define_deserializer! {
             #[doc = concat!("Deserializes text, ", $read, " a prefix.")]
-            T, $from_hex: deserializer => Read::deserialize(deserializer).map(|Read(value)| value)
+            T, $from_hex: deserializer => FromText::deserialize(deserializer).map(|FromText(value)| value)
         }
 
-        /// A value that is read from one text.
-        struct Read<T>(T);
+        /// A value that is deserialized from a string.
+        struct FromText<T>(T);
 
-        impl<'de, T: $from_hex> Deserialize<'de> for Read<T>
+        impl<'de, T: $from_hex> Deserialize<'de> for FromText<T>
         where
             T::Error: fmt::Display,
         {
             fn deserialize<D: Deserializer<'de>>(deserializer: D) -> Result<Self, D::Error> {
-                deserializer.deserialize_str(Text(
+                deserializer.deserialize_str(TextVisitor(
                     #[inline(always)]
-                    |text: &[u8]| T::from_hex(text).map(Read),
+                    |text: &[u8]| T::from_hex(text).map(FromText),
                 ))
             }
         }
@@ -99,14 +99,14 @@ macro_rules! fields {
         pub mod option {
             use super::*;
 
-            serializers! {
+            define_serializers! {
                 #[doc = concat!("Serializes bytes, if there are any, as ", $written, "lowercase digits.")]
                 serialize(data: &Option<T>), serializer =>
                     data.as_ref().map(|data| Digits::<false, $prefix>(data.as_ref())).serialize(serializer);
             }
-            deserializer! {
+            define_deserializer! {
                 #[doc = concat!("Deserializes text, ", $read, " a prefix, or nothing.")]
-                Option<T>, $from_hex: deserializer => Ok(Option::deserialize(deserializer)?.map(|Read(value)| value))
+                Option<T>, $from_hex: deserializer => Ok(Option::deserialize(deserializer)?.map(|FromText(value)| value))
             }
         }
 
@@ -115,45 +115,45 @@ macro_rules! fields {
         pub mod vec {
             use super::*;
 
-            serializers! {
+            define_serializers! {
                 #[doc = concat!("Serializes each element as ", $written, "lowercase digits.")]
                 serialize(data: &[T]), serializer =>
                     serializer.collect_seq(data.iter().map(|data| Digits::<false, $prefix>(data.as_ref())));
             }
-            deserializer! {
+            define_deserializer! {
                 #[doc = concat!("Deserializes strings, each ", $read, " a prefix. Allocates.")]
                 Vec<T>, $from_hex:
-                deserializer => Ok(Vec::deserialize(deserializer)?.into_iter().map(|Read(value)| value).collect())
+                deserializer => Ok(Vec::deserialize(deserializer)?.into_iter().map(|FromText(value)| value).collect())
             }
         }
     };
 }
 
-fields! { true "`0x` and ", crate::FromHex: "with or without" }
+define_functions! { true "`0x` and ", crate::FromHex: "with or without" }
 
 pub mod no_prefix {
     //! Fields of text that is written without a prefix, by `#[serde(with = "const_hex_proved::serde::no_prefix")]`.
 
     use super::*;
-    fields! { false "", crate::FromHex: "with or without" }
+    define_functions! { false "", crate::FromHex: "with or without" }
 }
 
 pub mod strict {
     //! Fields of text without a prefix, by `#[serde(with = "const_hex_proved::serde::strict")]`.
 
     use super::*;
-    fields! { false "", crate::strict::FromHex: "without" }
+    define_functions! { false "", crate::strict::FromHex: "without" }
 }
 
 /// The module `serde` of the crate `const-hex`, which also reads arrays, vectors and boxes of `i8`.
 pub mod signed {
     use super::*;
-    fields! { true "`0x` and ", crate::traits::signed::FromHex: "with or without" }
+    define_functions! { true "`0x` and ", crate::traits::signed::FromHex: "with or without" }
 
     /// Fields of text that is written without a prefix.
     pub mod no_prefix {
         use super::*;
-        fields! { false "", crate::traits::signed::FromHex: "with or without" }
+        define_functions! { false "", crate::traits::signed::FromHex: "with or without" }
     }
 }
 
@@ -163,11 +163,11 @@ struct Digits<'a, const UPPER: bool, const PREFIX: bool>(&'a [u8]);
 impl<const UPPER: bool, const PREFIX: bool> Serialize for Digits<'_, UPPER, PREFIX> {
     #[inline]
     fn serialize<S: Serializer>(&self, serializer: S) -> Result<S::Ok, S::Error> {
-        // What has longer text is printed. Short text would take 150 instructions more so (rustc 1.95, x86-64).
+        // Longer text is formatted by the serializer. Short text would take 150 instructions more (rustc 1.95, x86-64).
         match self.0.len() <= 128 {
             true => {
-                let mut space = Space::<{ 2 + 2 * 128 }>::new();
-                serializer.serialize_str(ascii_text(space.text(self.0, PREFIX, UPPER)))
+                let mut buffer = StackBuffer::<{ 2 + 2 * 128 }>::new();
+                serializer.serialize_str(ascii_text(buffer.encode(self.0, PREFIX, UPPER)))
             }
             false => serializer.collect_str(self),
         }
@@ -180,17 +180,17 @@ impl<const UPPER: bool, const PREFIX: bool> fmt::Display for Digits<'_, UPPER, P
     }
 }
 
-/// Reads text by a function.
-struct Text<F>(F);
+/// Decodes a string by a function.
+struct TextVisitor<F>(F);
 
-impl<T, E: fmt::Display, F: Fn(&[u8]) -> Result<T, E>> Visitor<'_> for Text<F> {
+impl<T, E: fmt::Display, F: Fn(&[u8]) -> Result<T, E>> Visitor<'_> for TextVisitor<F> {
     type Value = T;
 
     fn expecting(&self, f: &mut fmt::Formatter<'_>) -> fmt::Result {
         f.write_str("a hex encoded string")
     }
 
-    // All is inlined for up to 25 instructions fewer (rustc 1.95, x86-64). A shim for `FnOnce` would not be.
+    // Inlining saves up to 25 instructions (rustc 1.95, x86-64). The shim of a `FnOnce` would not be inlined.
     #[inline(always)]
     fn visit_str<M: Error>(self, text: &str) -> Result<T, M> {
         self.visit_bytes(text.as_bytes())

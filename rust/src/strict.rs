@@ -19,15 +19,15 @@ use alloc::vec::Vec;
 
 pub use crate::traits::strict::FromHex;
 
-/// Returns the text, unless it begins with a prefix and has an even length. Then returns the error that comes first:
-/// if its length is not that of the output, which is what `fits` says, this, and otherwise the invalid `x` or `X`.
+/// Returns the text, or if it has an even length and begins with a prefix, the error that takes precedence: the wrong
+/// length, unless `length_matches` says that the output has the right one, and otherwise the invalid `x` or `X`.
 #[inline]
-fn without_prefix(text: &[u8], fits: bool) -> Result<&[u8], FromHexError> {
+fn reject_prefix(text: &[u8], length_matches: bool) -> Result<&[u8], FromHexError> {
     if text.len() % 2 != 0 || strip_prefix(text).len() == text.len() {
         return Ok(text);
     }
     let (c, index) = (char::from(text[1]), 1);
-    Err(match fits {
+    Err(match length_matches {
         true => FromHexError::InvalidHexCharacter { c, index },
         false => FromHexError::InvalidStringLength,
     })
@@ -37,25 +37,25 @@ fn without_prefix(text: &[u8], fits: bool) -> Result<&[u8], FromHexError> {
 #[cfg(feature = "alloc")]
 #[inline]
 pub fn decode<T: AsRef<[u8]>>(data: T) -> Result<Vec<u8>, FromHexError> {
-    crate::decode(without_prefix(data.as_ref(), true)?)
+    crate::decode(reject_prefix(data.as_ref(), true)?)
 }
 
 /// Fills `out` with the bytes that text without a prefix decodes to. Does not allocate.
 #[inline]
 pub fn decode_to_slice<T: AsRef<[u8]>>(data: T, out: &mut [u8]) -> Result<(), FromHexError> {
     let text = data.as_ref();
-    crate::decode_to_slice(without_prefix(text, text.len() / 2 == out.len())?, out)
+    crate::decode_to_slice(reject_prefix(text, text.len() / 2 == out.len())?, out)
 }
 
 /// Returns the `N` bytes that text without a prefix decodes to. Does not allocate.
 #[inline]
 pub fn decode_to_array<T: AsRef<[u8]>, const N: usize>(input: T) -> Result<[u8; N], FromHexError> {
     let text = input.as_ref();
-    crate::decode_to_array(without_prefix(text, text.len() / 2 == N)?)
+    crate::decode_to_array(reject_prefix(text, text.len() / 2 == N)?)
 }
 
 /// Returns `Ok` if the text can be decoded, and has no prefix. Does not allocate.
 #[inline]
 pub fn check<T: AsRef<[u8]>>(input: T) -> Result<(), FromHexError> {
-    crate::check(without_prefix(input.as_ref(), true)?)
+    crate::check(reject_prefix(input.as_ref(), true)?)
 }

@@ -2,7 +2,7 @@
 
 #[cfg(feature = "alloc")]
 use crate::kernel::encode_append;
-use crate::kernel::Space;
+use crate::kernel::StackBuffer;
 use crate::proved::tables::digits_at;
 use crate::FromHexError;
 #[cfg(all(feature = "alloc", target_has_atomic = "ptr"))]
@@ -11,8 +11,8 @@ use alloc::sync::Arc;
 use alloc::{borrow::Cow, borrow::ToOwned, boxed::Box, rc::Rc, string::String, vec::Vec};
 use core::iter::from_fn;
 
-/// Defines the trait `FromHex` and its impls, over the functions of the module `codec`.
-macro_rules! from_hex {
+/// Defines the trait `FromHex` and its implementations, over the functions of the module `codec`.
+macro_rules! define_from_hex {
     ($(#[$doc:meta])*) => {
         $(#[$doc])*
         pub trait FromHex: Sized {
@@ -25,9 +25,9 @@ macro_rules! from_hex {
             fn from_hex<T: AsRef<[u8]>>(hex: T) -> Result<Self, Self::Error>;
         }
 
-        read! { [const N: usize] [u8; N], FromHexError, hex => codec::decode_to_array(hex); }
+        impl_from_hex! { [const N: usize] [u8; N], FromHexError, hex => codec::decode_to_array(hex); }
         #[cfg(feature = "alloc")]
-        read! {
+        impl_from_hex! {
             [] Vec<u8>, FromHexError, hex => codec::decode(hex);
             [] Box<[u8]>, FromHexError, hex => Vec::from_hex(hex).map(Vec::<u8>::into_boxed_slice);
             [H: FromHex] Box<H>, H::Error, hex => H::from_hex(hex).map(Box::new);
@@ -39,16 +39,16 @@ macro_rules! from_hex {
     };
 }
 
-/// Implements `FromHex` for types, each with its parameters, its error, and how it is read.
-macro_rules! read {
-    ($($(#[$attribute:meta])* [$($parameter:tt)*] $type:ty, $error:ty, $hex:ident => $read:expr;)+) => {$(
+/// Implements `FromHex` for types, each with its parameters, its error, and the expression that decodes it.
+macro_rules! impl_from_hex {
+    ($($(#[$attribute:meta])* [$($parameter:tt)*] $type:ty, $error:ty, $hex:ident => $decode:expr;)+) => {$(
         $(#[$attribute])*
         impl<$($parameter)*> FromHex for $type {
             type Error = $error;
 
             #[inline(always)]
             fn from_hex<T: AsRef<[u8]>>($hex: T) -> Result<Self, $error> {
-                $read
+                $decode
             }
         }
     )+};
@@ -60,7 +60,7 @@ mod unsigned {
     use super::*;
     use crate as codec;
 
-    from_hex! {
+    define_from_hex! {
         /// A type that is read from hexadecimal text, with or without a prefix: bytes in arrays, vectors and boxes,
         /// and their holders.
         ///
@@ -75,7 +75,7 @@ pub(crate) mod strict {
     use super::*;
     use crate::strict as codec;
 
-    from_hex! {
+    define_from_hex! {
         /// A type that is read from hexadecimal text without a prefix: bytes in arrays, vectors and boxes, and their
         /// holders.
         ///
@@ -92,7 +92,7 @@ pub mod signed {
     use super::*;
     use crate as codec;
 
-    from_hex! {
+    define_from_hex! {
         /// A type that is read from hexadecimal text, with or without a prefix: bytes or numbers of type `i8` in
         /// arrays, vectors and boxes, and their holders. As an `i8`, a byte from 128 on is negative.
         ///
@@ -104,12 +104,12 @@ pub mod signed {
         /// ```
     }
 
-    read! {
+    impl_from_hex! {
         [const N: usize] [i8; N], FromHexError,
         hex => codec::decode_to_array(hex).map(|bytes: [u8; N]| bytes.map(|byte| byte as i8));
     }
     #[cfg(feature = "alloc")]
-    read! {
+    impl_from_hex! {
         [] Vec<i8>, FromHexError,
         hex => codec::decode(hex).map(|bytes| bytes.into_iter().map(|byte| byte as i8).collect());
         [] Box<[i8]>, FromHexError, hex => Vec::from_hex(hex).map(Vec::<i8>::into_boxed_slice);
@@ -117,7 +117,7 @@ pub mod signed {
 }
 
 /// Defines a trait with methods without arguments, and implements it for each type with `AsRef<[u8]>`.
-macro_rules! to_hex {
+macro_rules! define_to_hex {
     (
         $(#[$attribute:meta])* $trait:ident;
         $($(#[$doc:meta])* fn $name:ident $(<$type:ident: $bound:path>)?() -> $result:ty = $function:path;)+
@@ -138,7 +138,7 @@ macro_rules! to_hex {
     };
 }
 
-to_hex! {
+define_to_hex! {
     /// A value that can be written as hexadecimal text.
     ///
     /// Every type with `AsRef<[u8]>` has this trait: `str`, `String`, `[u8]`, `Vec<u8>`, arrays of bytes.
@@ -156,7 +156,7 @@ to_hex! {
 }
 
 #[cfg(feature = "alloc")]
-to_hex! {
+define_to_hex! {
     /// A value that can be written as hexadecimal text, as a `String`.
     ///
     /// Every type with `AsRef<[u8]>` has this trait: `str`, `String`, `[u8]`, `Vec<u8>`, arrays of bytes.
@@ -182,23 +182,13 @@ to_hex! {
 
 /// Collects the digits of bytes.
 // `flat_map` alone would take 612 instructions in place of 339 for 32 bytes to a `Vec<char>`, and without
-// optimization 18602 in place of 5810. The space is copied then, so a short input has less of it, or none; and for one
-// byte, an iterator over the array of its digits would take 1069 in place of 910 then. Three bytes have no array of
-// characters, from which LLVM would not see that each is ASCII (rustc 1.95, x86-64).
+// optimization 18602 in place of 5810. A buffer on the stack is copied then, so short input has a smaller one, or none;
+// and for one byte, an iterator over the array of its digits would take 1069 in place of 910 then. Three bytes have no
+// array of characters, from which LLVM would not see that each is ASCII (rustc 1.95, x86-64).
 #[inline]
 fn digits<const UPPER: bool, T: FromIterator<char>>(bytes: &[u8]) -> T {
     match bytes.len() {
-        1 => {
-            let (digits, mut at) = (digits_at::<true>(UPPER, bytes[0]), 0);
-            let next = || {
-                if at == 2 {
-                    return None;
-                }
-                at += 1;
-                Some(character(digits[at - 1]))
-            };
-            from_fn(next).collect()
-        }
+        1 => digits_of_byte::<UPPER, T>(bytes[0]),
         2 => {
             let [a, b] = digits_at::<true>(UPPER, bytes[0]);
             let [c, d] = digits_at::<true>(UPPER, bytes[1]);
@@ -216,8 +206,8 @@ fn digits<const UPPER: bool, T: FromIterator<char>>(bytes: &[u8]) -> T {
                 .map(|digit| character(*digit))
                 .collect()
         }
-        4..=32 => digits_in::<64, UPPER, T>(bytes),
-        33..=2048 => digits_in::<4096, UPPER, T>(bytes),
+        4..=32 => collect_with_buffer::<64, UPPER, T>(bytes),
+        33..=2048 => collect_with_buffer::<4096, UPPER, T>(bytes),
         #[cfg(feature = "alloc")]
         _ => {
             let mut text = Vec::new();
@@ -233,18 +223,35 @@ fn digits<const UPPER: bool, T: FromIterator<char>>(bytes: &[u8]) -> T {
     }
 }
 
-/// Does the same in space for so many digits.
-// Not inlined, where it would make the calls for fewer digits save registers, too.
+/// Does the same for one byte.
+#[inline(always)]
+fn digits_of_byte<const UPPER: bool, T: FromIterator<char>>(byte: u8) -> T {
+    let digits = digits_at::<true>(UPPER, byte);
+    let mut index = 0;
+    let next = || {
+        if index == 2 {
+            return None;
+        }
+        index += 1;
+        Some(character(digits[index - 1]))
+    };
+    from_fn(next).collect()
+}
+
+/// Does the same for at most `COUNT` digits, which it writes to a buffer on the stack.
+// Not inlined: the calls for fewer digits would have to save registers, too.
 #[inline(never)]
-fn digits_in<const COUNT: usize, const UPPER: bool, T: FromIterator<char>>(bytes: &[u8]) -> T {
-    Space::<COUNT>::new()
-        .text(bytes, false, UPPER)
+fn collect_with_buffer<const COUNT: usize, const UPPER: bool, T: FromIterator<char>>(
+    bytes: &[u8],
+) -> T {
+    StackBuffer::<COUNT>::new()
+        .encode(bytes, false, UPPER)
         .iter()
         .map(|digit| character(*digit))
         .collect()
 }
 
-/// The digit as a character. A string that sees here that it is ASCII need not find out how many bytes it has.
+/// The digit as a character. The mask shows LLVM that it is ASCII, so that a `String` need not compute its length.
 #[inline(always)]
 fn character(digit: u8) -> char {
     (digit & 0x7F) as char

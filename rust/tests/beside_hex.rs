@@ -1,5 +1,5 @@
-//! The same random inputs to this package and to the crate `hex`. Every result is equal, except for what the README of
-//! the package `hex` lists. Prefixes are rejected by the module `strict` alone.
+//! Differential test: the same random inputs to this package and to the crate `hex`. Every result is equal, except for
+//! what the README of the package `hex` lists. Prefixes are rejected by the module `strict` alone.
 #![cfg(feature = "alloc")]
 
 mod random;
@@ -13,8 +13,8 @@ fn shown(error: impl Debug) -> String {
     format!("{error:?}")
 }
 
-/// What a call returns and writes to an output of a length. After an invalid character each leaves what it has decoded
-/// so far.
+/// What a call returns and writes to an output of a length. After an invalid character the output is not compared: it may
+/// have any number of the bytes before it.
 fn filled<E: Debug>(
     length: usize,
     call: impl FnOnce(&mut [u8]) -> Result<(), E>,

@@ -1,4 +1,4 @@
-//! Buffers: what no line of the table asks.
+//! Buffers: what no line of the table tests.
 
 use const_hex_proved::Buffer;
 #[cfg(panic = "unwind")]
@@ -38,7 +38,10 @@ fn views() {
         buffer.buffer()[1] = b'2';
         *buffer.as_mut_ptr().add(2) = b'3';
     }
-    assert_eq!(format!("{buffer:?}"), r#"Buffer("123F80FF")"#);
+    assert_eq!(
+        format!("{buffer:?} {buffer:#?}"),
+        "Buffer(\"123F80FF\") Buffer(\n    \"123F80FF\",\n)"
+    );
 }
 
 /// A slice or an array of another length panics, and leaves the buffer as it was.

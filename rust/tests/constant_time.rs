@@ -1,5 +1,5 @@
-//! What depends on a secret, by memcheck, a tool of valgrind: it names each jump and each address that depends on
-//! memory that is not initialized, for which it takes the secret. On x86-64 with Linux:
+//! Secret-dependent jumps and addresses, by the method of ctgrind: the secret is marked as uninitialized, and valgrind's
+//! memcheck reports each jump and each address that depends on it. On x86-64 with Linux:
 //! `cargo test --test constant_time`.
 #![cfg(all(target_arch = "x86_64", target_os = "linux", feature = "alloc"))]
 
@@ -30,7 +30,7 @@ struct Data {
     output: Vec<u8>,
 }
 
-/// A call by its text, and what is found in it.
+/// A call by its source text, and what is found in it.
 type Row = (&'static str, Found, fn(&mut Data));
 
 /// Rows of calls, whose results are kept.
@@ -54,9 +54,9 @@ const ROWS: [Row; 7] = rows! { data:
 
 #[test]
 fn secrets() {
-    for (name, wanted, _) in ROWS {
+    for (name, expected, _) in ROWS {
         let (found, locations) = found_in(name);
-        assert_eq!(found, wanted, "{name}: {locations:#?}");
+        assert_eq!(found, expected, "{name}: {locations:#?}");
     }
 }
 
@@ -117,7 +117,7 @@ fn found_in(call: &str) -> (Found, BTreeSet<String>) {
     (found, jumps.union(&addresses).cloned().collect())
 }
 
-/// Tells valgrind that nothing has written these bytes.
+/// Marks these bytes as uninitialized.
 fn make_undefined(bytes: &[u8]) {
     // VG_USERREQ__MAKE_MEM_UNDEFINED of valgrind/memcheck.h.
     const MAKE_MEM_UNDEFINED: usize = (b'M' as usize) << 24 | (b'C' as usize) << 16 | 1;

@@ -1,4 +1,4 @@
-//! The functions for constants in constants, and the macro. The table asks what they return at run time.
+//! Functions in constants, and the macro. The table tests what they return at run time.
 
 use const_hex_proved::*;
 
@@ -14,7 +14,7 @@ fn in_constants() {
     assert_eq!(UPPER.as_str(), "ABCD");
 }
 
-/// Each use of a constant is a decoder of its own. A digit that waits is not shown.
+/// Each use of a constant is a new decoder. A pending digit is not shown.
 #[test]
 fn decoders() {
     const NEW: Decoder = Decoder::new();
@@ -25,7 +25,7 @@ fn decoders() {
     }
 }
 
-/// The length is that of the text. A constant of the macro's has no name that the text may have.
+/// The macro finds the length. Its constant has another name than any that the text is given by.
 #[test]
 fn in_a_macro() {
     const DECODED: &str = "0X6B697769";
@@ -34,7 +34,7 @@ fn in_a_macro() {
     assert_eq!((&BYTES, PARTS), (b"kiwi", [b"" as &[u8], b"", b"ki"]));
 }
 
-/// What the compiler says of a constant is the message of the panic.
+/// The message of the panic is what the compiler prints for a constant.
 #[cfg(panic = "unwind")]
 #[test]
 fn bytes_of_an_invalid_text() {
@@ -45,14 +45,14 @@ fn bytes_of_an_invalid_text() {
     }
     assert_eq!(message::<2>(b"6b6"), "odd number of digits");
     for text in ["6b", "6b697769"] {
-        let wanted = "the text has another number of digits";
-        assert_eq!(message::<2>(text.as_bytes()), wanted);
+        let expected = "the text has another number of digits";
+        assert_eq!(message::<2>(text.as_bytes()), expected);
     }
     for position in [0, 1, 9, 10, 99, 100, 6005, 70_000, 199_999] {
         let mut text = vec![b'7'; 200_000];
         text[position] = b'z';
-        let wanted = format!("invalid character at position {position}");
-        assert_eq!(message::<100_000>(&text), wanted);
+        let expected = format!("invalid character at position {position}");
+        assert_eq!(message::<100_000>(&text), expected);
     }
     assert_eq!(message::<1>(b"0x7z"), "invalid character at position 3");
 }

@@ -1,4 +1,4 @@
-//! The program `erase`: that `src/proved` is what the source becomes, which each rule changes somewhere, and what is an
+//! The program `erase`: `src/proved` is its output, in which each rule replaces something, and unsupported source is an
 //! error.
 #![cfg(not(target_family = "wasm"))]
 
@@ -18,7 +18,7 @@ fn erase(argument: &Path) -> Output {
         .expect("python3")
 }
 
-/// This compares the numbers of places that each rule has changed, too.
+/// This compares the number of replacements of each rule, too.
 #[test]
 fn the_generated_source() {
     let output = erase(Path::new("--check"));
@@ -29,10 +29,10 @@ fn the_generated_source() {
     );
 }
 
-/// What stands in the source, and why that is an error.
+/// Source, and the error that it is.
 #[rustfmt::skip]
 const ERRORS: &[(&str, &str)] = &[
-    // Forms by which code would be deleted as part of a clause or of a comment, or kept.
+    // Syntax by which code would be deleted as part of a clause or of a comment, or a proof would be kept as code.
     ("fn f()\n    requires x + 1\n{}", "the clause requires x + 1"),
     ("fn f()\n    ensures { x", "the clause ensures { x"),
     ("fn f()\n    ensures { a -- {\n    }\n{\n}", "the clause ensures { a -- @"),
@@ -48,10 +48,10 @@ const ERRORS: &[(&str, &str)] = &[
     ("fn f() -> &[u8] {\n    br#\"\"ghost;\"#\n}", "the form br#\""),
     ("fn f(r#ghost: u8) {}", "the form r#"),
     ("fn f() {\n    g(c\"{\");\n}", "the form c\""),
-    // A line of a text that would be taken for a comment: what follows the text would not be looked at.
+    // A line of a string that would be taken for a comment: what follows the string would not be checked.
     ("const A: &str = \"a\n    // b\"; drop(c);\nfn f() {}", "the form \"a\n    //"),
     ("const A: &str = \"a\n\n\nb\";", "a rule does not fit: \"a\n\nb\""),
-    // Names that rules change, or whose implementations are deleted.
+    // Names that rules replace, or whose implementations are deleted.
     ("mod const_hex {}", "the form mod const_hex"),
     ("use a::{b as const_hex_arch};", "the form as const_hex_arch"),
     ("enum std {}", "the form enum std"),
@@ -91,9 +91,9 @@ const ERRORS: &[(&str, &str)] = &[
     ("fn f() {\n    <T>::drop(1);\n}", "a type in brackets before a name: <T>::drop"),
 ];
 
-/// The same, at a place whose package or rules make it an error.
+/// The same, in a module whose package or rules make it an error.
 #[rustfmt::skip]
-const ERRORS_AT: [(&str, &str, &str); 4] = [
+const ERRORS_IN: [(&str, &str, &str); 4] = [
     ("hexfilter/unknown", "fn f(x: &mut D) {\n    x.next_digits(y);\n}", "the call .next_digits"),
     ("error", "fn f(x: E) {\n    match x {\n        E::Odd | E::NoMemory => 1,\n    }\n}", "a rule does not fit: NoMemory"),
     ("error", "const ALL: [E; 2] = [\n    E::Odd,\n    NoMemory,\n];", "a rule does not fit: NoMemory"),
@@ -104,14 +104,14 @@ const ERRORS_AT: [(&str, &str, &str); 4] = [
 fn errors() {
     let anywhere = ERRORS
         .iter()
-        .map(|(source, why)| ("unknown", *source, *why));
-    for (place, source, wanted) in anywhere.chain(ERRORS_AT) {
+        .map(|(source, error)| ("unknown", *source, *error));
+    for (module_path, source, error) in anywhere.chain(ERRORS_IN) {
         let folder = Path::new(env!("CARGO_TARGET_TMPDIR")).join("src");
         // `rt` takes no file .rt outside of a crate.
-        let file = folder.join(place).with_extension("txt");
+        let file = folder.join(module_path).with_extension("txt");
         fs::create_dir_all(file.parent().unwrap()).unwrap();
         fs::write(&file, source).unwrap();
-        let error = String::from_utf8(erase(&file).stderr).unwrap();
-        assert_eq!(error, format!("erase: {wanted}\n"), "{source}");
+        let stderr = String::from_utf8(erase(&file).stderr).unwrap();
+        assert_eq!(stderr, format!("erase: {error}\n"), "{source}");
     }
 }

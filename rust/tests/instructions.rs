@@ -1,5 +1,5 @@
-//! No call takes many more instructions than when its count was written down. Only in a release build for Linux: on
-//! x86-64 with valgrind, and on AArch64 with QEMU: `cargo test --release --test instructions`.
+//! Regression test: no call takes over 10 % more instructions than its recorded count. Only in a release build for Linux:
+//! on x86-64 with valgrind, and on AArch64 with QEMU: `cargo test --release --test instructions`.
 #![cfg(all(
     not(debug_assertions),
     any(target_arch = "x86_64", target_arch = "aarch64"),
@@ -15,8 +15,8 @@ use valgrind::black_box;
 
 const LENGTHS: [usize; 6] = [1, 8, 20, 32, 64, 256];
 
-/// For each call, how many instructions it takes at these lengths: by vectors on x86-64, by portable code, and on AArch64.
-/// 0 is not counted: QEMU prints each instruction, which takes seconds.
+/// The instructions of each call at these lengths: with AVX2, in portable code, and on AArch64. Where this is 0, none are
+/// counted: QEMU prints each instruction, which takes seconds.
 const COUNTS: [(&str, [[u64; 6]; 3]); 5] = [
     (
         "encode",
@@ -60,7 +60,7 @@ const COUNTS: [(&str, [[u64; 6]; 3]); 5] = [
     ),
 ];
 
-/// Calls with their lengths, and how many instructions each takes.
+/// Calls with their lengths and their recorded counts.
 fn cells() -> Vec<(&'static str, usize, u64)> {
     let column = match cfg!(feature = "force-generic") {
         true => 1,
@@ -72,11 +72,16 @@ fn cells() -> Vec<(&'static str, usize, u64)> {
     }
     // Printing to a writer that returns an error at once encodes no more than a part of the bytes.
     cells.push(("display", 1 << 20, [25_000, 500_000, 0][column]));
+    // The search for an invalid character skips halves of the text: where the last is invalid, `check` takes at most three
+    // times the instructions of valid text.
+    let valid = [13_600, 393_000, 0][column];
+    cells.push(("check", 1 << 15, valid));
+    cells.push(("check, the last is invalid", 1 << 15, 3 * valid));
     cells.retain(|(_, _, count)| *count > 0);
     cells
 }
 
-/// Runs this test once more, in which the variable lets it make the calls.
+/// Runs this test in a child process, in which the variable makes it repeat the calls.
 #[test]
 fn calls() {
     let cells = cells();
@@ -100,7 +105,7 @@ fn calls() {
     }
 }
 
-/// Makes a call so many times.
+/// Repeats a call.
 fn make(call: &str, bytes: usize, times: usize) {
     let (mut data, mut text) = (vec![0xa5; bytes], vec![b'a'; 2 * bytes]);
     match call {
@@ -114,11 +119,15 @@ fn make(call: &str, bytes: usize, times: usize) {
             .for_each(|_| hex::decode_to_slice(black_box(&text), black_box(&mut data)).unwrap()),
         "display" => (0..times)
             .for_each(|_| assert!(write!(Full, "{}", hex::display(black_box(&data))).is_err())),
-        _ => (0..times).for_each(|_| hex::check(black_box(&text)).unwrap()),
+        _ => {
+            let is_valid = call == "check";
+            text[2 * bytes - 1] = if is_valid { b'a' } else { b'g' };
+            (0..times).for_each(|_| assert!(hex::check(black_box(&text)).is_ok() == is_valid))
+        }
     }
 }
 
-/// A writer that has no space.
+/// A writer that always fails.
 struct Full;
 
 impl Write for Full {

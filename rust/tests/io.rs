@@ -1,4 +1,4 @@
-//! `DecodeReader` and `EncodeWriter` beside readers and writers that are slow, or fail.
+//! `DecodeReader` and `EncodeWriter` over readers and writers with short reads and writes, and with injected faults.
 #![cfg(feature = "std")]
 
 use const_hex_proved::{encode, DecodeReader, EncodeWriter, FromHexError};
@@ -15,8 +15,8 @@ fn bytes_and_text(count: usize) -> (Vec<u8>, String) {
     (bytes, text)
 }
 
-/// Reads or writes at most `most` bytes at a time. Every call of which the number is in `errors` fails.
-struct Slow<T> {
+/// Reads or writes at most `most` bytes at a time. Each call whose number is in `errors` fails.
+struct Faulty<T> {
     inner: T,
     most: usize,
     errors: Vec<(usize, ErrorKind)>,
@@ -24,9 +24,9 @@ struct Slow<T> {
     flushes: usize,
 }
 
-impl<T> Slow<T> {
-    fn new(inner: T, most: usize, errors: &[(usize, ErrorKind)]) -> Slow<T> {
-        Slow {
+impl<T> Faulty<T> {
+    fn new(inner: T, most: usize, errors: &[(usize, ErrorKind)]) -> Faulty<T> {
+        Faulty {
             inner,
             most,
             errors: errors.to_vec(),
@@ -44,7 +44,7 @@ impl<T> Slow<T> {
     }
 }
 
-impl<T: Read> Read for Slow<T> {
+impl<T: Read> Read for Faulty<T> {
     fn read(&mut self, output: &mut [u8]) -> io::Result<usize> {
         self.count()?;
         let most = self.most.min(output.len());
@@ -52,7 +52,7 @@ impl<T: Read> Read for Slow<T> {
     }
 }
 
-impl<T: Write> Write for Slow<T> {
+impl<T: Write> Write for Faulty<T> {
     fn write(&mut self, bytes: &[u8]) -> io::Result<usize> {
         self.count()?;
         self.inner.write(&bytes[..self.most.min(bytes.len())])
@@ -65,12 +65,12 @@ impl<T: Write> Write for Slow<T> {
 }
 
 #[test]
-fn readers_of_any_speed() {
+fn short_reads() {
     let (bytes, text) = bytes_and_text(10_000);
     let text = format!("0X{text}");
     for most in [1, 2, 3, 7, 4096, 100_000] {
         for length in [1, 2, 5, 8192, 50_000] {
-            let mut reader = DecodeReader::new(Slow::new(text.as_bytes(), most, &[]));
+            let mut reader = DecodeReader::new(Faulty::new(text.as_bytes(), most, &[]));
             let (mut found, mut output) = (Vec::new(), vec![0; length]);
             assert_eq!(reader.read(&mut []).unwrap(), 0);
             let mut count = 1;
@@ -83,8 +83,8 @@ fn readers_of_any_speed() {
     }
 }
 
-/// A reader keeps how its text ended, also if it is asked for no bytes, or the other reader has more. A position counts
-/// from the start of the text.
+/// A reader repeats how its text ended, also for an empty output, or if the inner reader has more. A position counts from
+/// the start of the text.
 #[test]
 fn ends_of_the_text() {
     let long = "0".repeat(20_000) + "0x";
@@ -109,16 +109,16 @@ fn ends_of_the_text() {
     }
 }
 
-/// An error of the other reader is returned once, and reading goes on.
+/// An error of the inner reader is returned once, and reading goes on.
 #[test]
-fn errors_of_the_other_reader() {
+fn errors_of_the_inner_reader() {
     let (bytes, text) = bytes_and_text(1000);
     let errors = [
         (1, ErrorKind::Interrupted),
         (2, ErrorKind::WouldBlock),
         (6, ErrorKind::BrokenPipe),
     ];
-    let mut reader = DecodeReader::new(Slow::new(text.as_bytes(), 97, &errors));
+    let mut reader = DecodeReader::new(Faulty::new(text.as_bytes(), 97, &errors));
     let mut found = Vec::new();
     for kind in [ErrorKind::WouldBlock, ErrorKind::BrokenPipe] {
         assert_eq!(reader.read_to_end(&mut found).unwrap_err().kind(), kind);
@@ -127,9 +127,9 @@ fn errors_of_the_other_reader() {
     assert_eq!(found, bytes);
 }
 
-/// After an error of the other writer, no digit is lost or written twice.
+/// After an error of the inner writer, no digit is lost or written twice.
 #[test]
-fn writers_of_any_speed() {
+fn short_writes() {
     let (bytes, text) = bytes_and_text(10_000);
     let kinds = [ErrorKind::Interrupted, ErrorKind::WouldBlock];
     let errors = (0..=9).flat_map(|call| kinds.map(|kind| [(call, kind), (call + 1, kind)]));
@@ -142,7 +142,7 @@ fn writers_of_any_speed() {
             (4096, 257),
             (100_000, 2),
         ] {
-            let mut writer = EncodeWriter::new(Slow::new(Vec::new(), most, &errors));
+            let mut writer = EncodeWriter::new(Faulty::new(Vec::new(), most, &errors));
             for mut rest in bytes.chunks(length) {
                 while !rest.is_empty() {
                     rest = &rest[writer.write(rest).unwrap_or(0)..];
@@ -158,9 +158,9 @@ fn writers_of_any_speed() {
     }
 }
 
-/// The other reader has the rest of its text, and the other writer, which may have a buffer, what was flushed.
+/// The inner reader has the rest of its text, and the inner writer, which may have a buffer, what was flushed.
 #[test]
-fn the_other_reader_and_writer() {
+fn the_inner_reader_and_writer() {
     let text = "6b697769".repeat(10_000);
     let mut reader = DecodeReader::new(text.as_bytes());
     assert_eq!(reader.get_ref().len(), text.len());
@@ -168,7 +168,7 @@ fn the_other_reader_and_writer() {
     let left = reader.into_inner();
     assert!((1..text.len()).contains(&left.len()) && text.as_bytes().ends_with(left));
 
-    let mut writer = EncodeWriter::new(Slow::new(Vec::new(), 9, &[]));
+    let mut writer = EncodeWriter::new(Faulty::new(Vec::new(), 9, &[]));
     writer.write_all(b"ki").unwrap();
     writer.flush().unwrap();
     writer.write_all(b"wi").unwrap();

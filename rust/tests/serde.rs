@@ -1,4 +1,4 @@
-//! Fields of JSON that have options, vectors, or no prefix. The table asks what the other functions write and read.
+//! Fields of JSON with options, vectors, or no prefix. The table tests the other functions.
 #![cfg(all(feature = "std", feature = "serde"))]
 
 use const_hex_proved::{serde as hexadecimal, FromHexError};
@@ -77,19 +77,19 @@ fn errors_in_options_and_vectors() {
 /// A format may have the text as a string or as bytes.
 #[test]
 fn strings_and_bytes() {
-    for (text, wanted) in [
+    for (text, expected) in [
         ("0X6B69", Ok(*b"ki")),
         ("0x6b6", Err(FromHexError::OddLength)),
     ] {
-        let wanted = wanted.map_err(Error::custom);
+        let expected = expected.map_err(Error::custom);
         let string: StrDeserializer<'_, Error> = text.into_deserializer();
-        assert_eq!(hexadecimal::deserialize(string), wanted);
+        assert_eq!(hexadecimal::deserialize(string), expected);
         let bytes = BytesDeserializer::<Error>::new(text.as_bytes());
-        assert_eq!(hexadecimal::deserialize(bytes), wanted);
+        assert_eq!(hexadecimal::deserialize(bytes), expected);
     }
 }
 
-/// A format that does not say what a value is: who reads has to ask for a string.
+/// A format that is not self-describing: the deserializer has to be asked for a string.
 struct Untagged(&'static str);
 
 impl<'de> Deserializer<'de> for Untagged {

@@ -1,9 +1,9 @@
-//! Printing, and the traits, at what no line of the table asks.
+//! Printing and the traits: what no line of the table tests.
 
 use const_hex_proved::{display, ToHex};
 use std::fmt::Write;
 
-/// Bytes of each kind that a signed number tells apart, and their text.
+/// Bytes at the limits of a signed number, and their text.
 const BYTES: [u8; 4] = [0, 127, 128, 255];
 const TEXT: &str = "007f80ff";
 
@@ -20,23 +20,33 @@ fn printing_with_a_width() {
     assert_eq!(format!("{:>20}", display(BYTES)), TEXT);
 }
 
-/// A writer with space for so many characters. No call follows one that has failed.
-struct Space(Option<usize>);
+/// A writer of limited capacity. Each call but the last has to pass 4096 characters, and none may follow a failed one.
+struct Limited {
+    capacity: Option<usize>,
+    is_last: bool,
+}
 
-impl Write for Space {
+impl Write for Limited {
     fn write_str(&mut self, text: &str) -> std::fmt::Result {
-        self.0 = self.0.expect("no call has failed").checked_sub(text.len());
-        self.0.map(drop).ok_or(std::fmt::Error)
+        assert!(!self.is_last && text.len() <= 4096);
+        self.is_last = text.len() < 4096;
+        let capacity = self.capacity.expect("no call has failed");
+        self.capacity = capacity.checked_sub(text.len());
+        self.capacity.map(drop).ok_or(std::fmt::Error)
     }
 }
 
-/// Printing stops at an error of the writer, which is returned.
+/// Printing stops at the first error of the writer, which is returned.
 #[test]
-fn errors_of_a_writer() {
+fn calls_and_errors_of_a_writer() {
     for length in [0, 1, 128, 512, 2047, 2048, 2049, 4095, 4096, 40_000] {
-        for space in [0, 4095, 4096, 32_768, 79_999, 2 * length + 2] {
-            let printed = write!(Space(Some(space)), "{:#}", display(vec![0; length]));
-            assert_eq!(printed.is_ok(), space >= 2 * length + 2);
+        for capacity in [0, 4095, 4096, 32_768, 79_999, 2 * length + 2] {
+            let mut writer = Limited {
+                capacity: Some(capacity),
+                is_last: false,
+            };
+            let printed = write!(writer, "{:#}", display(vec![0; length]));
+            assert_eq!(printed.is_ok(), capacity >= 2 * length + 2);
         }
     }
 }
@@ -51,7 +61,7 @@ fn collections_of_characters() {
     assert_eq!(bytes.encode_hex::<String>(), TEXT);
 }
 
-/// The digits of one to three bytes, of few and of more have code of their own, and so do those of many without `alloc`.
+/// One to three bytes, few and more bytes take different code paths, and so do many without `alloc`.
 #[test]
 fn numbers_of_characters() {
     let bytes: Vec<u8> = (0..2050).map(|index| index as u8).collect();
@@ -117,8 +127,8 @@ mod owned {
         let mut full = b"kiwi".to_vec();
         full.shrink_to_fit();
         let capacity = full.capacity();
-        for (text, wanted) in [("0x", Ok(0)), ("0x7", Err(FromHexError::OddLength))] {
-            assert_eq!(decode_append(text, &mut full), wanted);
+        for (text, expected) in [("0x", Ok(0)), ("0x7", Err(FromHexError::OddLength))] {
+            assert_eq!(decode_append(text, &mut full), expected);
             assert_eq!(full.capacity(), capacity);
         }
     }

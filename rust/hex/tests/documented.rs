@@ -28,19 +28,19 @@ fn fields() {
 /// The crate rejects a prefix, and so does this package without the feature `prefix`.
 #[test]
 fn prefixes() {
-    let wanted = match cfg!(feature = "prefix") {
+    let expected = match cfg!(feature = "prefix") {
         true => Ok(b"k".to_vec()),
         false => Err(InvalidHexCharacter { c: 'x', index: 1 }),
     };
-    assert_eq!(decode("0x6b"), wanted);
-    assert_eq!(Vec::from_hex("0x6b"), wanted);
-    let array = wanted.clone().and(Err(InvalidStringLength));
+    assert_eq!(decode("0x6b"), expected);
+    assert_eq!(Vec::from_hex("0x6b"), expected);
+    let array = expected.clone().and(Err(InvalidStringLength));
     assert_eq!(<[u8; 2]>::from_hex("0x6b"), array);
     assert_eq!(decode_to_slice("0x6b", &mut [0; 2]), array.map(drop));
     #[cfg(feature = "serde")]
     {
         let field = hex::deserialize(serde_json::json!("0x6b"));
         let field: Result<Vec<u8>, _> = field.map_err(|error: serde_json::Error| error.to_string());
-        assert_eq!(field, wanted.map_err(|error| error.to_string()));
+        assert_eq!(field, expected.map_err(|error| error.to_string()));
     }
 }

@@ -1,12 +1,12 @@
-//! Readers and writers of which one call fails. That nothing is lost or written twice is proved. Only here it shows that
-//! a run reads to the end and no further, flushes once, makes an interrupted call again and no other, and returns the
-//! error of the call.
+//! Fault injection: each call of a reader and a writer fails in turn. It is proved that nothing is lost or written
+//! twice. This tests that a run reads to the end and no further, flushes once, repeats an interrupted call and no other,
+//! and returns the error of the call.
 
 use crate::proved::{request_of, run, Mode, Request, RunError};
 use std::cell::RefCell;
 use std::io::{Error, ErrorKind, Read, Result, Write};
 
-/// The calls so far, `r` for a read, `w` for a write and `f` for a flush. One of them fails.
+/// The calls so far, `r` for a read, `w` for a write and `f` for a flush. The one with the index `failing` fails.
 struct Log {
     calls: String,
     failing: usize,
@@ -14,7 +14,7 @@ struct Log {
 }
 
 impl Log {
-    /// How many bytes a call may take.
+    /// Logs a call. Returns how many bytes it may transfer, or the injected error.
     fn call(&mut self, name: char) -> Result<usize> {
         self.calls.push(name);
         match self.kind {
@@ -48,7 +48,7 @@ impl Write for Output<'_> {
     }
 }
 
-/// What the program does with these options.
+/// Parses the options.
 fn mode(options: &str) -> Mode {
     let arguments: Vec<String> = options.split_whitespace().map(String::from).collect();
     match request_of(&arguments) {
@@ -57,53 +57,60 @@ fn mode(options: &str) -> Mode {
     }
 }
 
+/// What a run returns, writes and calls. An error is that of a read or of a write, and has a kind.
+type Outcome = (Option<(bool, ErrorKind)>, Vec<u8>, String);
+
+/// The options, the input, the calls if none fails, and the output. Text with an error is read no further.
+const RUNS: [(&str, &[u8], &str, &[u8]); 6] = [
+    ("", b"ki", "rwwrwwrf", b"6b69"),
+    ("-s:", b"ki", "rwwrwwwrf", b"6b:69"),
+    ("-w2", b"ki", "rwwrwwwrwf", b"6b\n69\n"),
+    ("-d", b"6b69", "rrwrrwrf", b"ki"),
+    ("--check", b"6b69", "rrrrrf", b""),
+    ("-d", b"6bz9", "rrwr", b"k"),
+];
+
+/// Runs the program, with a fault in one call.
+fn run_with_fault(options: &str, input: &[u8], failing: usize, kind: ErrorKind) -> Outcome {
+    let log = RefCell::new(Log {
+        calls: String::new(),
+        failing,
+        kind,
+    });
+    let mut output = Output(&log, Vec::new());
+    let error = match run(mode(options), &mut Input(&log, input), &mut output) {
+        Ok(()) | Err(RunError::Text(..)) => None,
+        Err(RunError::Read(error)) => Some((true, error.kind())),
+        Err(RunError::Write(error)) => Some((false, error.kind())),
+    };
+    (error, output.1, log.into_inner().calls)
+}
+
+/// What such a run should do: an interrupted call is repeated, and any other fault ends the run.
+fn expected(calls: &str, output: &[u8], failing: usize, kind: ErrorKind) -> Outcome {
+    let (before, after) = calls.split_at(failing);
+    let call = after.get(..1).unwrap_or("");
+    if call.is_empty() || kind == ErrorKind::Interrupted {
+        return (None, output.to_vec(), format!("{before}{call}{after}"));
+    }
+    let output = &output[..before.matches('w').count()];
+    let error = Some((call == "r", kind));
+    (error, output.to_vec(), format!("{before}{call}"))
+}
+
 #[test]
 fn each_call_fails() {
-    // The options, the input, the calls if none fails, and the output. A text with an error is read no further.
-    let rows: [(&str, &[u8], &str, &[u8]); 6] = [
-        ("", b"ki", "rwwrwwrf", b"6b69"),
-        ("-s:", b"ki", "rwwrwwwrf", b"6b:69"),
-        ("-w2", b"ki", "rwwrwwwrwf", b"6b\n69\n"),
-        ("-d", b"6b69", "rrwrrwrf", b"ki"),
-        ("--check", b"6b69", "rrrrrf", b""),
-        ("-d", b"6bz9", "rrwr", b"k"),
-    ];
-    for (options, input, calls, output) in rows {
+    for (options, input, calls, output) in RUNS {
         for kind in [
             ErrorKind::Interrupted,
             ErrorKind::TimedOut,
             ErrorKind::WriteZero,
         ] {
             for failing in 0..=calls.len() {
-                let log = RefCell::new(Log {
-                    calls: String::new(),
-                    failing,
-                    kind,
-                });
-                let mut written = Output(&log, Vec::new());
-                let found = match run(mode(options), &mut Input(&log, input), &mut written) {
-                    Ok(()) | Err(RunError::Text(..)) => None,
-                    Err(RunError::Read(error)) => Some((true, error.kind())),
-                    Err(RunError::Write(error)) => Some((false, error.kind())),
-                };
-                let (before, after) = calls.split_at(failing);
-                let writes = before.matches('w').count();
-                let (wanted, all, bytes) = match after.chars().next() {
-                    None => (None, calls.to_string(), output),
-                    Some(call) if kind == ErrorKind::Interrupted => {
-                        (None, format!("{before}{call}{after}"), output)
-                    }
-                    Some(call) => (
-                        Some((call == 'r', kind)),
-                        format!("{before}{call}"),
-                        &output[..writes],
-                    ),
-                };
-                let row = format!("{options:?}, call {failing}: {kind:?}");
                 assert_eq!(
-                    (found, &written.1[..], &log.borrow().calls),
-                    (wanted, bytes, &all),
-                    "{row}"
+                    run_with_fault(options, input, failing, kind),
+                    expected(calls, output, failing, kind),
+                    "{options:?}, call {failing}: {kind:?}"
                 );
             }
         }

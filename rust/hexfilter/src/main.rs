@@ -1,8 +1,9 @@
-//! The program `hexfilter`. `proved`, which is made from verified source, has all of it but the host.
+//! The program `hexfilter`. All of it but the interface to the operating system is in `proved`, which is generated from
+//! verified source.
 #![forbid(unsafe_code)]
 
 #[macro_use]
-// What stands for Rattle's library has its forms.
+// It has the signatures of Rattle's library.
 #[allow(clippy::extra_unused_type_parameters, clippy::wrong_self_convention)]
 mod std_shim;
 // The source is a library, of which this program calls a part. Its labels name loops for the proofs.
@@ -30,7 +31,7 @@ fn main() -> ExitCode {
             return ExitCode::from(2);
         }
     };
-    let streams = direct(stdin()).and_then(|input| Ok((input, direct(stdout())?)));
+    let streams = unbuffered(stdin()).and_then(|input| Ok((input, unbuffered(stdout())?)));
     match streams {
         Ok((mut input, mut output)) => {
             proved::program(&System, &arguments, &mut input, &mut output)
@@ -54,9 +55,10 @@ impl proved::Host for System {
         use std::os::unix::fs::MetadataExt;
         let input = match name {
             Some(name) => std::fs::metadata(name),
-            None => direct(stdin()).and_then(|input| input.metadata()),
+            None => unbuffered(stdin()).and_then(|input| input.metadata()),
         };
-        match (input, direct(stdout()).and_then(|output| output.metadata())) {
+        let output = unbuffered(stdout()).and_then(|output| output.metadata());
+        match (input, output) {
             (Ok(input), Ok(output)) => {
                 let is_same = (input.dev(), input.ino()) == (output.dev(), output.ino());
                 is_same && input.is_file() && input.len() > 0
@@ -65,26 +67,26 @@ impl proved::Host for System {
         }
     }
 
-    /// Rust's standard library cannot tell.
+    /// Rust's standard library cannot identify files here.
     #[cfg(not(unix))]
     fn is_output(&self, _: Option<&str>) -> bool {
         false
     }
 }
 
-/// The file behind a standard stream. Rust's own streams have a buffer, take a bad file descriptor for the end of the
-/// input, and write only UTF-8 to a console of Windows.
+/// A standard stream as a file. Rust's own streams are buffered, take a bad file descriptor for the end of the input,
+/// and write only UTF-8 to a console of Windows.
 #[cfg(unix)]
-fn direct(stream: impl std::os::unix::io::AsFd) -> Result<File> {
+fn unbuffered(stream: impl std::os::unix::io::AsFd) -> Result<File> {
     Ok(stream.as_fd().try_clone_to_owned()?.into())
 }
 
 #[cfg(windows)]
-fn direct(stream: impl std::os::windows::io::AsHandle) -> Result<File> {
+fn unbuffered(stream: impl std::os::windows::io::AsHandle) -> Result<File> {
     Ok(stream.as_handle().try_clone_to_owned()?.into())
 }
 
 #[cfg(not(any(unix, windows)))]
-fn direct<S>(stream: S) -> Result<S> {
+fn unbuffered<S>(stream: S) -> Result<S> {
     Ok(stream)
 }

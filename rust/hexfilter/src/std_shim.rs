@@ -1,13 +1,13 @@
-//! What the proved source uses of Rattle's std and of `const_hex`, over Rust's std and the crate.
+//! What the proved source uses of Rattle's standard library and of `const_hex`, over Rust's and over the crate.
 
 pub use std::process;
 
-/// The system on which the program runs.
+/// The capability to open files and to write to standard error, which `main` passes to the proved code.
 pub struct System;
 
 impl io::Eprint for System {}
 
-/// What each proved file names without a path.
+/// What each proved file uses without a path.
 pub mod prelude {}
 
 pub mod io {
@@ -52,19 +52,19 @@ pub mod simd {
         pub use super::u8x32;
     }
 
-    /// The highest bit of each byte.
-    const HIGH: u64 = 0x8080_8080_8080_8080;
+    /// The sign bit of each byte.
+    const SIGNS: u64 = 0x8080_8080_8080_8080;
 
-    /// 32 bytes, the first as the lowest of the first word.
+    /// A vector of 32 bytes by SWAR (SIMD within a register). The first byte is the lowest of the first word.
     #[allow(non_camel_case_types)]
     #[derive(Clone, Copy)]
     pub struct u8x32([u64; 4]);
 
-    /// Whether something holds of each of 32 lanes, as the highest bit of its byte.
+    /// A SWAR mask: the sign bit of each byte is the result of a comparison in its lane. All other bits are 0.
     pub struct Mask([u64; 4]);
 
     impl u8x32 {
-        /// Returns the first 32 bytes. It is proved of the caller that there are so many.
+        /// Returns the first 32 bytes. It is proved that callers pass as many.
         #[inline(always)]
         pub fn from_slice(slice: &[u8]) -> u8x32 {
             let mut words = [0; 4];
@@ -91,23 +91,24 @@ pub mod simd {
         pub fn simd_lt(self, other: u8x32) -> Mask {
             let mut less = [0; 4];
             for (word, (x, y)) in less.iter_mut().zip(self.0.iter().zip(other.0)) {
-                // The highest bit of a byte of the difference is set unless its lower bits in x are less.
-                let lower = !(x | HIGH).wrapping_sub(y & !HIGH);
-                *word = (!x & y | !(x ^ y) & lower) & HIGH;
+                // No byte borrows from the next, since x has all sign bits here, and y none. A byte keeps its sign bit
+                // unless the lower seven bits of x are less than those of y.
+                let lower = !(x | SIGNS).wrapping_sub(y & !SIGNS);
+                *word = (!x & y | !(x ^ y) & lower) & SIGNS;
             }
             Mask(less)
         }
     }
 
     impl Mask {
-        /// Returns what stands for a number with a bit for each lane, the lowest for the first. The verified source
-        /// asks that number only whether it is 0, and where its lowest bit is, so it is never made.
+        /// Returns the mask in place of a number with a bit for each lane, the lowest for the first. The proved source
+        /// only compares that number with 0 and counts its trailing zeros, which the mask can do.
         #[inline(always)]
         pub fn to_bitmask(self) -> Mask {
             self
         }
 
-        /// Returns the number of lanes before the first of which it holds, or 32.
+        /// Returns the index of the first lane that is set, or 32.
         #[inline(always)]
         pub fn trailing_zeros(self) -> u32 {
             let [first, second, third, fourth] = self.0.map(u128::from);
@@ -119,7 +120,7 @@ pub mod simd {
     }
 
     impl PartialEq<u64> for Mask {
-        /// Whether it holds of no lane. The other is 0.
+        /// Whether no lane is set. `zero` is 0.
         #[inline(always)]
         fn eq(&self, zero: &u64) -> bool {
             self.0.iter().fold(0, |all, word| all | word) == *zero

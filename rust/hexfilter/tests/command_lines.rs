@@ -1,4 +1,4 @@
-//! Lines of a shell: what other tools write is decoded, and what the program prints about errors.
+//! Command lines: output of other tools is decoded, and errors have their status and message.
 #![cfg(target_os = "linux")]
 
 use std::path::{Path, PathBuf};
@@ -31,7 +31,7 @@ fn run(folder: &Path, line: &str) -> (Option<i32>, Vec<u8>, String) {
 }
 
 /// The standard output. If the line fails, the test does.
-fn made_by(folder: &Path, line: &str) -> Vec<u8> {
+fn output_of(folder: &Path, line: &str) -> Vec<u8> {
     let (status, output, error) = run(folder, line);
     assert_eq!((status, error.as_str()), (Some(0), ""), "{line}");
     output
@@ -52,7 +52,7 @@ const TOOLS: [(&str, &str); 5] = [
     ),
 ];
 
-/// Files that the manual names, how they are made, and what writes the bytes that they stand for.
+/// Files that the manual names, the command that creates each, and one that writes the bytes that it stands for.
 const FILES: [(&str, &str, &str); 5] = [
     ("disk.img", "true", "cat disk.img"),
     (
@@ -69,50 +69,54 @@ const FILES: [(&str, &str, &str); 5] = [
     ("string.txt", "echo '\\x6b\\xff\\x00' > string.txt", "printf 'k\\xff\\0'"),
 ];
 
-/// Lines of the manual decode to the bytes of the file that they name. Those of the page are among them.
-#[test]
-fn other_tools() {
-    let folder = folder("tools");
+/// The command lines of the manual that pass another tool's output to hexfilter. Those of README.md are among them.
+fn lines_of_manual() -> Vec<String> {
     let manual = include_str!("../hexfilter.1")
         .replace("\\-", "-")
         .replace("\\(aq", "'")
         .replace("\\(ha", "^")
         .replace("\\e", "\\");
     let (_, lines) = manual.split_once("Each of these lines").unwrap();
-    let lines: Vec<&str> = lines
+    let lines: Vec<String> = lines
         .lines()
         .filter(|line| line.contains("| hexfilter -d"))
+        .map(String::from)
         .collect();
     let page = include_str!("../README.md")
         .lines()
         .filter_map(|line| line.strip_prefix("    "))
         .filter(|line| line.contains("| hexfilter -d"));
     for line in page {
-        let line = line.split("  #").next().unwrap().trim();
+        let line = line.split("  #").next().unwrap().trim().to_string();
         assert!(lines.contains(&line), "{line} is not in the manual");
     }
-    let decoded = lines.iter().map(|line| {
+    lines
+}
+
+/// These lines decode to the bytes of the file that they name, and hexfilter encodes as other tools do.
+#[test]
+fn other_tools() {
+    let folder = folder("tools");
+    let decoded = lines_of_manual().into_iter().map(|line| {
         let is_named = |(name, _, _): &&(&str, _, _)| line.contains(name);
-        (
-            line.to_string(),
-            FILES.iter().find(is_named).expect(line).2.to_string(),
-        )
+        let expected = FILES.iter().find(is_named).expect(&line).2.to_string();
+        (line, expected)
     });
     let encoded =
         TOOLS.map(|(tool, options)| (tool.to_string(), format!("hexfilter {options} disk.img")));
     let rows: Vec<_> = decoded.chain(encoded).collect();
     assert!(rows.len() > 15);
-    for (_, make, _) in FILES {
-        run(&folder, make);
+    for (_, create, _) in FILES {
+        run(&folder, create);
     }
     let bytes: Vec<u8> = (0..131_073_u32)
         .map(|i| (i.wrapping_mul(i) >> 7) as u8)
         .collect();
     for size in [0, 1, 29, 30, 31, 57, 131_073] {
         fs::write(folder.join("disk.img"), &bytes[..size]).unwrap();
-        for (line, other) in &rows {
+        for (line, expected) in &rows {
             assert!(
-                made_by(&folder, line) == made_by(&folder, other),
+                output_of(&folder, line) == output_of(&folder, expected),
                 "{line}, at {size} bytes"
             );
         }
@@ -217,11 +221,11 @@ const LINES: [(&str, i32, &str, &str); 25] = [
 #[test]
 fn statuses() {
     let folder = folder("statuses");
-    let check = |line: &str, status, output: &str, place: &str, words: &str| {
-        let error = if words.is_empty() {
+    let check = |line: &str, status, output: &str, source: &str, message: &str| {
+        let error = if message.is_empty() {
             String::new()
         } else {
-            format!("hexfilter: {place}{words}\n")
+            format!("hexfilter: {source}{message}\n")
         };
         assert_eq!(
             run(&folder, line),
@@ -229,16 +233,16 @@ fn statuses() {
             "{line}"
         );
     };
-    for (text, options, status, output, words) in INPUTS {
+    for (text, options, status, output, message) in INPUTS {
         check(
             &format!("printf '{text}' | hexfilter {options}"),
             status,
             output,
             "standard input: ",
-            words,
+            message,
         );
     }
-    for (words, index, rows) in ARGUMENTS {
+    for (message, index, rows) in ARGUMENTS {
         for arguments in rows.split('|') {
             let named = arguments.split(' ').nth(index).unwrap();
             check(
@@ -246,11 +250,11 @@ fn statuses() {
                 2,
                 "",
                 "",
-                &format!("{words} \"{named}\"; try --help"),
+                &format!("{message} \"{named}\"; try --help"),
             );
         }
     }
-    for (line, status, output, words) in LINES {
-        check(line, status, output, "", words);
+    for (line, status, output, message) in LINES {
+        check(line, status, output, "", message);
     }
 }

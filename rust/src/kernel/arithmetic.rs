@@ -1,14 +1,14 @@
-//! The functions of `machine_code` for secrets where there is no machine code. No branch and no address depends on a
-//! byte: digits are computed, and all are tested at once, after the last one.
+//! The functions of `machine_code` for secrets where there is no machine code, in branch-free arithmetic without a table:
+//! no branch and no address depends on a byte. Whether all characters are digits is tested once, after the last one.
 //!
-//! Operations wrap, since a debug build would branch on an overflow, and none is one that LLVM knows as a comparison:
-//! it may make a branch of that.
+//! Operations wrap, since a debug build would branch on an overflow. None is a comparison to LLVM, which could compile
+//! that to a branch.
 
 use core::slice::{from_raw_parts, from_raw_parts_mut};
 
 /// Fills the text with the lowercase digits of the bytes.
 ///
-/// Safety: there are so many bytes, and twice as many of the text, which are initialized.
+/// Safety: `bytes` has `length` bytes, and `text` twice as many, which are initialized.
 pub unsafe fn fill_lower(bytes: *const u8, length: usize, text: *mut u8) {
     // SAFETY: the caller promises these slices.
     unsafe {
@@ -45,13 +45,13 @@ pub unsafe fn read(text: *const u8, bytes: *mut u8, length: usize) -> bool {
     }
 }
 
-/// Fills the text with digits. A letter comes so much later than it would if the letters followed the `9`.
+/// Fills the text with digits. `letter_offset` is added to a letter, as if the letters followed the `9`.
 // Not inlined, so that a test can tell its branches from those of its caller.
 #[inline(never)]
-fn fill(bytes: &[u8], gap: u8, text: &mut [u8]) {
+fn fill(bytes: &[u8], letter_offset: u8, text: &mut [u8]) {
     for (byte, pair) in bytes.iter().zip(text.chunks_exact_mut(2)) {
-        pair[0] = digit(byte >> 4, gap);
-        pair[1] = digit(byte & 15, gap);
+        pair[0] = digit(byte >> 4, letter_offset);
+        pair[1] = digit(byte & 15, letter_offset);
     }
 }
 
@@ -67,11 +67,11 @@ fn decode(text: &[u8], bytes: &mut [u8]) -> bool {
 
 /// The digit of a value below 16.
 #[inline(always)]
-fn digit(value: u8, gap: u8) -> u8 {
+fn digit(value: u8, letter_offset: u8) -> u8 {
     let is_letter = value.wrapping_add(6) >> 4;
     value
         .wrapping_add(b'0')
-        .wrapping_add(gap & 0u8.wrapping_sub(is_letter))
+        .wrapping_add(letter_offset & 0u8.wrapping_sub(is_letter))
 }
 
 /// The value of a digit: its last four bits, and 9 more for a letter, which is above 63.

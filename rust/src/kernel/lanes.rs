@@ -4,7 +4,7 @@ use super::Portable;
 use crate::proved::Kernel;
 use core::slice::{from_raw_parts, from_raw_parts_mut};
 
-/// The kernel of 16 lanes, which decodes by a function of its own.
+/// The kernel of 16 lanes. It checks and decodes in functions that are not inlined.
 pub struct Vectors;
 
 impl Kernel for Vectors {
@@ -36,7 +36,9 @@ impl Kernel for Vectors {
     }
 }
 
-/// Decodes so many bytes, for which the text has two bytes each, and both are slices.
+/// Decodes the text to the bytes, and returns whether every character is a digit.
+///
+/// Safety: `bytes` has `length` bytes, and `text` twice as many, and both are initialized.
 // Not inlined, as `check`.
 #[inline(never)]
 unsafe fn read(text: *const u8, bytes: *mut u8, length: usize) -> bool {

@@ -1,14 +1,14 @@
-//! The machine code in `../asm`, which on x86-64 chooses between two builds of it and the portable functions.
+//! The machine code in `../asm`, which on x86-64 dispatches to one of two builds of it or to the portable functions.
 //!
-//! `machine_code` in the repository has proved what each function does with its arguments where they are declared
-//! here. It reads no byte of its output that it has not written. The names have the version of this crate, so that a
-//! program may have several. In ELF and Mach-O they are hidden from other shared libraries.
+//! The tool `machine_code` in the repository has proved what each function that is declared here does with its
+//! arguments. It reads no byte of its output that it has not written. The symbols contain the version of this crate, so
+//! that a program may link several. In ELF and Mach-O they have hidden visibility.
 
 // What assembles the files for the proof needs the directive for the syntax that is the default here.
 #![allow(bad_asm_style)]
 
 /// Assembles the files for the processor, with the directives for the format of the object file.
-macro_rules! assembled {
+macro_rules! assemble {
     ($directives:literal) => {
         #[cfg(target_arch = "x86_64")]
         core::arch::global_asm!(
@@ -29,18 +29,18 @@ macro_rules! assembled {
     };
 }
 #[cfg(target_vendor = "apple")]
-assembled!("../asm/mach_o.s");
+assemble!("../asm/mach_o.s");
 #[cfg(any(windows, target_os = "uefi", target_os = "cygwin"))]
-assembled!("../asm/coff.s");
+assemble!("../asm/coff.s");
 #[cfg(not(any(
     windows,
     target_os = "uefi",
     target_os = "cygwin",
     target_vendor = "apple"
 )))]
-assembled!("../asm/elf.s");
+assemble!("../asm/elf.s");
 
-/// Whether each CPU that can run this program has x86-64-v3.
+/// Whether the crate is compiled for x86-64-v3.
 #[cfg(target_arch = "x86_64")]
 const IS_V3: bool = cfg!(all(
     target_feature = "avx2",
@@ -53,9 +53,9 @@ const IS_V3: bool = cfg!(all(
 ));
 
 /// Defines functions that call the machine code. They have no `#[inline]`: another crate may be part of another shared
-/// library, where that code has no name. Link-time optimization inlines them, which saves a jump. The ABI says that
-/// none unwinds, so that a caller need not be ready for it. The module has the functions in portable code.
-macro_rules! functions {
+/// library, where the hidden symbols cannot be linked. Link-time optimization inlines them, which saves a jump. With
+/// `extern "C"` they do not unwind, so callers need no landing pads. `$module` has the portable functions.
+macro_rules! define_functions {
     ($module:ident: $(
         $(#[$comment:meta])*
         $name:ident($($argument:ident: $type:ty),*) $(-> $result:ty)?, $for_cpu:ident, $v3:ident;
@@ -93,11 +93,11 @@ macro_rules! functions {
     )*};
 }
 
-functions! {
+define_functions! {
     portable:
     /// Fills the text with the lowercase digits of the bytes.
     ///
-    /// Safety: there are so many bytes, and `text` may be written for two bytes for each byte. These need not be
+    /// Safety: `bytes` has `length` bytes, and `text` is valid for writes of twice as many. These need not be
     /// initialized, and are afterwards.
     fill_lower(bytes: *const u8, length: usize, text: *mut u8),
         const_hex_1_0_0_fill_lower, const_hex_1_0_0_fill_lower_v3;
@@ -106,19 +106,19 @@ functions! {
         const_hex_1_0_0_fill_upper, const_hex_1_0_0_fill_upper_v3;
     /// Returns whether every byte of the text is a digit.
     ///
-    /// Safety: the text has so many bytes.
+    /// Safety: the text has `length` bytes.
     check(text: *const u8, length: usize) -> bool, const_hex_1_0_0_check, const_hex_1_0_0_check_v3;
     /// Decodes the text to the bytes, and returns true. Returns false if some character is not a digit. Then bytes
     /// before it may be written, and no others.
     ///
-    /// Safety: `bytes` may be written for so many bytes, and the text has two bytes for each of them. What is written
-    /// need not be initialized, and is afterwards if the result is true.
+    /// Safety: `bytes` is valid for writes of `length` bytes, and the text has two bytes for each of them. What is
+    /// written need not be initialized, and is afterwards if the result is true.
     read(text: *const u8, bytes: *mut u8, length: usize) -> bool, const_hex_1_0_0_read, const_hex_1_0_0_read_v3;
 }
 
 /// The same for secrets: where there is no machine code for the CPU, by arithmetic, and not by a table.
 pub mod secret {
-    functions! {
+    define_functions! {
         arithmetic:
         /// Safety: as for the function of this name above, and all bytes are initialized.
         fill_lower(bytes: *const u8, length: usize, text: *mut u8),

@@ -1,11 +1,11 @@
-//! The kernel by machine code.
+//! The machine code as a kernel of the proved source.
 
-use super::{machine_code, space::write_text};
+use super::{machine_code, stack_buffer::write_text};
 use crate::proved::Kernel;
 
-/// The kernel by machine code. Each function tests that the lengths fit, although callers in `proved` never pass
-/// others. A shift doubles a length, since a debug build would test a product for an overflow. There is none: a slice
-/// has at most `isize::MAX` bytes.
+/// The kernel of machine code. Each function asserts that the lengths match, although callers in `proved` never pass
+/// others. Lengths are doubled by a shift, since a debug build would test a product for overflow, which is impossible: a
+/// slice has at most `isize::MAX` bytes.
 pub struct MachineCode;
 
 impl Kernel for MachineCode {

@@ -1,4 +1,4 @@
-//! The kernel for secrets. Only lengths are looked at here.
+//! The kernel for secrets. These functions branch on lengths alone.
 
 use super::constant_time;
 

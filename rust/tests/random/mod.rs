@@ -1,4 +1,4 @@
-//! Bytes and texts without a pattern, the same in each run.
+//! Pseudorandom bytes and texts, the same in each run.
 
 /// Marsaglia's xorshift.
 pub struct Random(pub u64);

@@ -9,24 +9,24 @@ type Decoded = Result<Vec<u8>, FromHexError>;
 
 pub fn read(line: &Line) {
     let text = &line.input[..];
-    same!(line, line.result;
+    assert_all!(line, line.result;
         decode(text), Vec::<u8>::from_hex(text), <Box<[u8]>>::from_hex(text).map(Vec::from),
         append(text, 4), append(text, 4 + text.len()),
     );
-    same!(line, line.checked(); check(text), const_check(text));
+    assert_all!(line, line.checked(); check(text), const_check(text));
     let strict = without_prefix(line, text.len() / 2);
-    same!(line, strict; strict::decode(text), <Vec<u8> as strict::FromHex>::from_hex(text));
-    same!(line, strict.map(drop); strict::check(text));
+    assert_all!(line, strict; strict::decode(text), <Vec<u8> as strict::FromHex>::from_hex(text));
+    assert_all!(line, strict.map(drop); strict::check(text));
     let count = (text.len() - line.prefix()) / 2;
-    same!(line, line.result; line.fill(count, |output| decode_to_slice(text, output)));
+    assert_all!(line, line.result; line.fill(count, |output| decode_to_slice(text, output)));
     for space in [0, 1, 70] {
         let mut output = vec![0xEE; count + space];
-        same!(line, line.result; decode_to_front(text, &mut output).map(|count| output[..count].to_vec()));
+        assert_all!(line, line.result; decode_to_front(text, &mut output).map(|count| output[..count].to_vec()));
         assert_eq!(output[count..], vec![0xEE; space]);
     }
     if count > 0 && line.result != Err(OddLength) {
         let too_small = &mut vec![0; count - 1];
-        same!(line, Err(InvalidStringLength); decode_to_front(text, too_small));
+        assert_all!(line, Err(InvalidStringLength); decode_to_front(text, too_small));
     }
     read_without_prefix(line, count);
     // A decoder reports an invalid character before an odd length.
@@ -50,13 +50,13 @@ fn without_prefix(line: &Line, length: usize) -> Decoded {
 
 /// `strict` and `secret`, which rejects the same.
 fn read_without_prefix(line: &Line, length: usize) {
-    let (text, wanted) = (&line.input[..], without_prefix(line, length));
-    same!(line, wanted; line.fill(length, |output| strict::decode_to_slice(text, output)));
-    same!(line, wanted.map_err(error_of_secret);
+    let (text, expected) = (&line.input[..], without_prefix(line, length));
+    assert_all!(line, expected; line.fill(length, |output| strict::decode_to_slice(text, output)));
+    assert_all!(line, expected.map_err(error_of_secret);
         fill_secret(length, |output| secret::decode_to_slice(text, output)));
 }
 
-/// What is appended follows what is there, which an error leaves alone.
+/// Appends to a vector, whose old bytes are unchanged, and which has no more after an error.
 fn append(text: &[u8], capacity: usize) -> Decoded {
     let mut all = Vec::with_capacity(capacity);
     all.extend(b"kiwi");
@@ -67,31 +67,31 @@ fn append(text: &[u8], capacity: usize) -> Decoded {
 }
 
 pub fn read_into(line: &Line, length: usize) {
-    same!(line, line.result; line.fill(length, |output| decode_to_slice(&line.input, output)));
+    assert_all!(line, line.result; line.fill(length, |output| decode_to_slice(&line.input, output)));
     read_without_prefix(line, length);
-    at!(length, N => read_array::<N>(line));
+    with_const!(length, N => read_array::<N>(line));
 }
 
 fn read_array<const N: usize>(line: &Line) {
     let text = &line.input[..];
-    same!(line, line.result.as_ref().map(|bytes| bytes[..].try_into().unwrap()).map_err(|error| *error);
+    assert_all!(line, line.result.as_ref().map(|bytes| bytes[..].try_into().unwrap()).map_err(|error| *error);
         decode_to_array::<_, N>(text), <[u8; N]>::from_hex(text), const_decode_to_array(text));
     let strict = without_prefix(line, N);
-    same!(line, strict;
+    assert_all!(line, strict;
         strict::decode_to_array::<_, N>(text).map(Vec::from),
         <[u8; N] as strict::FromHex>::from_hex(text).map(Vec::from),
         <Box<[u8; N]> as strict::FromHex>::from_hex(text).map(|bytes| bytes.to_vec()),
     );
     let secret = strict.map_err(error_of_secret);
-    same!(line, secret; secret::decode_to_array::<_, N>(text).map(Vec::from));
+    assert_all!(line, secret; secret::decode_to_array::<_, N>(text).map(Vec::from));
 }
 
 pub fn read_digits(line: &Line) {
     let text = &line.input[..];
-    same!(line, line.string() == "true"; check_raw(text), const_check_raw(text));
+    assert_all!(line, line.string() == "true"; check_raw(text), const_check_raw(text));
 }
 
-/// Which bytes may stand at each index of a text.
+/// The bytes that are digits, at each index of a text.
 pub fn each_byte(line: &Line) {
     for index in 0..line.input.len() {
         let mut text = line.input.clone();
@@ -103,7 +103,7 @@ pub fn each_byte(line: &Line) {
             (0..=255).filter(is_digit).map(char::from).collect()
         };
         let secret = |text: &[u8]| secret::decode_to_array::<_, 32>(text).is_ok();
-        same!(line, line.string();
+        assert_all!(line, line.string();
             accepted(|text| check_raw(text)), accepted(const_check_raw), accepted(secret),
             accepted(|text| check(text).is_ok()),
             accepted(|text| const_check(text).is_ok()),
@@ -116,21 +116,23 @@ pub fn message(line: &Line, length: Option<usize>) {
     let message = |result: Result<(), FromHexError>| result.unwrap_err().to_string();
     match length {
         Some(length) => {
-            same!(line, line.string(); message(decode_to_slice(text, &mut vec![0; length])));
+            assert_all!(line, line.string(); message(decode_to_slice(text, &mut vec![0; length])));
         }
-        None => same!(line, line.string(); message(check(text)), message(decode(text).map(drop))),
+        None => {
+            assert_all!(line, line.string(); message(check(text)), message(decode(text).map(drop)))
+        }
     }
 }
 
-/// A text that is cut into two, at each place or, if it is long, at some, and one in single bytes or in small chunks.
+/// A text in two chunks, split at each index or, if it is long, at some, and in single bytes or small chunks.
 pub fn read_chunks(line: &Line) {
     let text = &line.input[..];
     let step = if text.len() < 10_000 { 1 } else { 100_003 };
     for cut in (0..=text.len()).step_by(step) {
-        same!(line, line.result; decode_chunks(&[&text[..cut], &text[cut..]]));
+        assert_all!(line, line.result; decode_chunks(&[&text[..cut], &text[cut..]]));
     }
     let small: Vec<&[u8]> = text.chunks(step.min(4099)).collect();
-    same!(line, line.result; decode_chunks(&small), read_all(text));
+    assert_all!(line, line.result; decode_chunks(&small), read_all(text));
 }
 
 /// The bytes that chunks decode to.

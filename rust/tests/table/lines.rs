@@ -1,18 +1,18 @@
-//! The lines of the table of test vectors. The page beside `vectors.tsv` says what each column has.
+//! The lines of the table of test vectors. The README of `const_hex_vectors` describes the columns.
 
 use const_hex_proved::secret;
 use const_hex_proved::FromHexError::{self, *};
 
-/// A line that asks something.
+/// A test vector.
 pub struct Line {
     pub text: String,
-    /// What is asked.
+    /// What the line tests.
     pub question: String,
-    /// The length of the output, if the question has one.
+    /// The length of the output, if the line has one.
     pub number: Option<usize>,
-    /// The bytes or the text that it is asked of.
+    /// The bytes or the text that are passed.
     pub input: Vec<u8>,
-    /// The result, or the cell that names another error than those of this crate.
+    /// The result. A cell with an error that this crate does not have is kept as text.
     pub result: Result<Vec<u8>, FromHexError>,
 }
 
@@ -42,7 +42,7 @@ impl Line {
         })
     }
 
-    /// A result that is no error, as text.
+    /// A successful result, as text.
     pub fn string(&self) -> String {
         String::from_utf8(self.result.clone().unwrap()).unwrap()
     }
@@ -60,8 +60,8 @@ impl Line {
         }
     }
 
-    /// Calls a function that fills an output. After an invalid character the bytes from there on are as before, and after
-    /// another error all are.
+    /// Calls a function that fills an output, and asserts that after an invalid character the bytes from there on are
+    /// unchanged, and after another error all.
     pub fn fill(
         &self,
         length: usize,
@@ -129,18 +129,18 @@ fn bytes_of(cell: &str) -> Vec<u8> {
     bytes
 }
 
-/// Compares what calls return with what is wanted for a line.
-macro_rules! same {
-    ($line:expr, $wanted:expr; $($call:expr),+ $(,)?) => {{
-        let wanted = &$wanted;
-        $(assert_eq!(&$call, wanted, "{} of {}", stringify!($call), $line.text);)+
+/// Asserts that each call returns the expected result of a line.
+macro_rules! assert_all {
+    ($line:expr, $expected:expr; $($call:expr),+ $(,)?) => {{
+        let expected = &$expected;
+        $(assert_eq!(&$call, expected, "{} of {}", stringify!($call), $line.text);)+
     }};
 }
 
 /// Makes a call in which `$size` is a constant, if the number is one of the lengths of the table.
-macro_rules! at {
+macro_rules! with_const {
     ($number:expr, $size:ident => $call:expr) => {
-        at!($number, $size => $call; 0 1 2 3 4 5 8 12 16 20 32 33 48 64 65 128)
+        with_const!($number, $size => $call; 0 1 2 3 4 5 8 12 16 20 32 33 48 64 65 128)
     };
     ($number:expr, $size:ident => $call:expr; $($count:literal)+) => {
         match $number {

@@ -1,4 +1,4 @@
-//! The table of test vectors, asked of each function that can answer a line.
+//! Runs the table of test vectors: each line on every function that it applies to.
 #![cfg(feature = "std")]
 
 #[macro_use]
@@ -15,11 +15,11 @@ fn each_line() {
     let path = "../crates/const_hex_vectors/data/vectors.tsv";
     let table = std::fs::read_to_string(path).unwrap();
     for line in table.lines().filter_map(Line::read) {
-        ask(&line);
+        run(&line);
     }
 }
 
-fn ask(line: &Line) {
+fn run(line: &Line) {
     match (&*line.question, line.number) {
         ("write", None) => {
             encoding::write(line);

@@ -1,19 +1,19 @@
-//! What valgrind counts and finds. On AArch64 it is QEMU that counts.
+//! Client requests of valgrind, and counts of instructions, by callgrind or on AArch64 by QEMU.
 #![allow(dead_code)] // No program uses all of it.
 
 use std::io::{BufRead, BufReader};
 use std::process::{Command, Stdio};
 use std::{env, fs, process};
 
-/// Returns the value, of which the compiler then knows nothing, as `std::hint::black_box` does from Rust 1.66 on.
+/// An optimization barrier, as `std::hint::black_box` is from Rust 1.66 on.
 pub fn black_box<T>(value: T) -> T {
     // SAFETY: this is no instruction.
     unsafe { std::arch::asm!("/* {} */", in(reg) &value, options(nostack, preserves_flags)) };
     value
 }
 
-/// Asks valgrind for something, by the number of the request and its arguments. The instructions, which do nothing
-/// elsewhere, are those of valgrind.h.
+/// Makes a client request of valgrind: its number and its arguments. The instructions are those of valgrind.h, and have no
+/// effect elsewhere.
 #[cfg(target_arch = "x86_64")]
 pub fn request(words: [usize; 6]) {
     // SAFETY: the rotations add up to 128 bits, and the registers are declared.
@@ -30,7 +30,7 @@ pub fn request(words: [usize; 6]) {
     }
 }
 
-/// Tells callgrind to write what it has counted, and to count from 0 on.
+/// Tells callgrind to dump its counters, and to reset them.
 #[cfg(target_arch = "x86_64")]
 fn mark() {
     // VG_USERREQ__DUMP_STATS of valgrind/callgrind.h.
@@ -38,7 +38,7 @@ fn mark() {
     request([DUMP_STATS, 0, 0, 0, 0, 0]);
 }
 
-/// Prints a line among those that QEMU prints for each instruction. It is written at once.
+/// Prints a line, unbuffered, among those that QEMU prints for each instruction.
 #[cfg(not(target_arch = "x86_64"))]
 fn mark() {
     std::io::Write::write_all(&mut std::io::stderr(), format!("{MARK}\n").as_bytes()).unwrap();
@@ -49,8 +49,8 @@ const MARK: &str = "a round begins or ends";
 /// How many calls are made in each round.
 const CALLS: [usize; 3] = [10, 10, 30];
 
-/// Makes a call in three rounds, and marks where each begins and ends. In the first round symbols are bound, and the
-/// allocator chooses where large blocks stand.
+/// Makes a call in three rounds, and marks where each begins and ends. The first is a warm-up: symbols are bound, and the
+/// allocator places large blocks.
 pub fn repeat(mut call: impl FnMut(usize)) {
     mark();
     for count in CALLS {
@@ -59,22 +59,22 @@ pub fn repeat(mut call: impl FnMut(usize)) {
     }
 }
 
-/// Runs this program, which repeats so many calls, and returns how many instructions one of each takes: what the last
-/// two rounds differ by.
+/// Runs this program, which repeats each of this number of calls, and returns the instructions of each: the difference of
+/// the last two rounds, by the number of calls that they differ by.
 pub fn instructions(calls: usize, prepare: impl FnOnce(&mut Command)) -> Vec<u64> {
     let counted = match cfg!(target_arch = "x86_64") {
         true => counted_by_callgrind(prepare),
         false => counted_by_qemu(prepare),
     };
     assert_eq!(counted.len() / 4, calls, "a round was not counted");
-    // Of each call, what was counted before its rounds, and in each of them.
+    // For each call: the count before its rounds, and that of each round.
     let rounds = counted.chunks_exact(4);
     rounds
         .map(|counted| (counted[3] - counted[2]) / (CALLS[2] - CALLS[1]) as u64)
         .collect()
 }
 
-/// Runs this program by another one.
+/// This program under another one.
 fn run_by(command: &str, prepare: impl FnOnce(&mut Command)) -> Command {
     let mut words = command.split(' ');
     let mut program = Command::new(words.next().unwrap());
@@ -83,7 +83,7 @@ fn run_by(command: &str, prepare: impl FnOnce(&mut Command)) -> Command {
     program
 }
 
-/// What callgrind counted up to each mark.
+/// The counts of callgrind between marks.
 fn counted_by_callgrind(prepare: impl FnOnce(&mut Command)) -> Vec<u64> {
     let path = env::temp_dir().join(format!("const-hex-counts.{}", process::id()));
     let options = "--combine-dumps=yes --callgrind-out-file";
@@ -98,7 +98,7 @@ fn counted_by_callgrind(prepare: impl FnOnce(&mut Command)) -> Vec<u64> {
     totals.map(|total| total.parse().unwrap()).collect()
 }
 
-/// The lines that QEMU printed up to each mark, one for each instruction.
+/// The numbers of lines that QEMU printed between marks, one for each instruction.
 fn counted_by_qemu(prepare: impl FnOnce(&mut Command)) -> Vec<u64> {
     let command = "qemu-aarch64 -L /usr/aarch64-linux-gnu -singlestep -d nochain,exec";
     let mut program = run_by(command, prepare);

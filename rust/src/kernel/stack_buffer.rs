@@ -1,27 +1,27 @@
-//! Space for text or for bytes, which need not be initialized.
+//! Uninitialized buffers on the stack, for text or bytes.
 
 use super::{unchecked, TargetKernel};
 use crate::proved::{text_length, Kernel};
 use core::{mem::MaybeUninit, ptr};
 
-/// Space for `N` bytes.
-pub struct Space<const N: usize>(MaybeUninit<[u8; N]>);
+/// An array of `N` bytes that need not be initialized.
+pub struct StackBuffer<const N: usize>(MaybeUninit<[u8; N]>);
 
-impl<const N: usize> Space<N> {
-    /// Returns space that is not initialized.
+impl<const N: usize> StackBuffer<N> {
+    /// Returns an uninitialized buffer.
     #[inline]
     pub fn new() -> Self {
-        Space(MaybeUninit::uninit())
+        StackBuffer(MaybeUninit::uninit())
     }
 
     /// Writes the text of bytes, with `0x` before it if `prefix` is true, and returns it. Panics if it has more than
     /// `N` bytes.
     #[inline]
-    pub fn text(&mut self, bytes: &[u8], prefix: bool, upper: bool) -> &[u8] {
+    pub fn encode(&mut self, bytes: &[u8], prefix: bool, upper: bool) -> &[u8] {
         let length = text_length(prefix, bytes.len());
         assert!(length <= N);
         let text = self.0.as_mut_ptr().cast();
-        // SAFETY: there is space for so many bytes, and all of them are written.
+        // SAFETY: the buffer has space for `length` bytes, and all of them are written.
         unsafe {
             write_text(bytes, prefix, upper, text);
             &*ptr::slice_from_raw_parts(text, length)
@@ -31,13 +31,13 @@ impl<const N: usize> Space<N> {
     /// Returns the bytes of digits, or `None` if some byte is not a digit. Panics unless there are two for each of `N`
     /// bytes.
     #[inline]
-    pub fn bytes(&mut self, digits: &[u8]) -> Option<&[u8; N]> {
+    pub fn decode(&mut self, digits: &[u8]) -> Option<&[u8; N]> {
         assert!(digits.len() == N << 1);
         let bytes = self.0.as_mut_ptr().cast();
         // SAFETY: there are two digits for each of `N` bytes, and if the result is true, all bytes are written.
         unsafe {
             let is_valid = if TargetKernel::PIECE == 1 && matches!(N, 5..=22) {
-                read_apart::<N>(digits.as_ptr(), bytes)
+                read_outlined::<N>(digits.as_ptr(), bytes)
             } else {
                 unchecked::read(digits.as_ptr(), bytes, N)
             };
@@ -50,18 +50,18 @@ impl<const N: usize> Space<N> {
 }
 
 /// Decodes `N` bytes by `unchecked::read`. Safety: what that requires.
-// Not inlined: of up to 22 bytes LLVM unrolls the loop, and would keep all of them in registers up to the last one,
-// for more than 4 of which there are too few. So 8 bytes take 109 instructions in place of 147, and 20 take 238 in
-// place of 296 (rustc 1.95, x86-64).
+// Not inlined: for up to 22 bytes LLVM unrolls the loop, and would keep all bytes in registers, too few for more than 4,
+// until it writes them. Outlined, 8 bytes take 109 instructions in place of 147, and 20 take 238 in place of 296 (rustc
+// 1.95, x86-64).
 #[inline(never)]
-unsafe fn read_apart<const N: usize>(text: *const u8, bytes: *mut u8) -> bool {
+unsafe fn read_outlined<const N: usize>(text: *const u8, bytes: *mut u8) -> bool {
     // SAFETY: the caller promises what the function requires.
     unsafe { unchecked::read(text, bytes, N) }
 }
 
 /// Writes the text of bytes, with `0x` before it if `prefix` is true.
 ///
-/// Safety: `text` may be written for so many bytes as the text has. They need not be initialized, and are afterwards.
+/// Safety: `text` is valid for writes of as many bytes as the text has. They need not be initialized, and are afterwards.
 #[inline(always)]
 pub unsafe fn write_text(bytes: &[u8], prefix: bool, upper: bool, text: *mut u8) {
     // SAFETY: the caller promises the space for the prefix and for two digits for each byte.
