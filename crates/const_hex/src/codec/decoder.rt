@@ -313,7 +313,7 @@ fn decode_next<K: Kernel>(pending: Option<u8>, digits: &[u8], output: &mut [u8])
 {
     match pending {
         Some(high) => decode_after::<K>(high, digits, output),
-        None => decode_digits::<K>(digits, output),
+        None => decode_pairs_and_last::<K>(digits, output),
     }
 }
 
@@ -330,7 +330,7 @@ fn decode_after<K: Kernel>(high: u8, digits: &[u8], output: &mut [u8]) -> bool
     match digits {
         [low, rest @ ..] => {
             let (first, others) = output.split_at_mut(1);
-            decode_body::<K>(&[high, *low], first) && decode_digits::<K>(rest, others)
+            decode_body::<K>(&[high, *low], first) && decode_pairs_and_last::<K>(rest, others)
         }
         [] => true,
     }
@@ -339,7 +339,7 @@ fn decode_after<K: Kernel>(high: u8, digits: &[u8], output: &mut [u8]) -> bool
 /// Decodes the digits into the output and returns true. The last digit of an odd number is only
 /// tested. Returns false if some byte is not a digit.
 #[inline(always)]
-fn decode_digits<K: Kernel>(digits: &[u8], output: &mut [u8]) -> bool
+fn decode_pairs_and_last<K: Kernel>(digits: &[u8], output: &mut [u8]) -> bool
     requires { length output.old ≡ length digits.now / 2 }
     ensures digits { IsTrue result → AllDigits digits.now }
     ensures spells { IsTrue result

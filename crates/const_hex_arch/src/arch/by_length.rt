@@ -86,7 +86,7 @@ impl<const N: usize, V: LaneOps<N> + LaneOps<16>> Kernel for ByLength<N, V> {
             // They are checked once more: short inputs have one body. It returns true.
             Self::decode_all(input, output);
         } else {
-            long::decode_digits::<N, V>(input, output);
+            long::decode_unchecked::<N, V>(input, output);
         }
     }
 }

@@ -133,7 +133,7 @@ pub(crate) fn decode<const N: usize, V: LaneOps<N>>(
 /// As [`decode`], by [`unhex`], which looks up no limits, for lanes that were tested before.
 #[inline(always)]
 #[tactic(auto, using(crate::proofs::lemmas::LaneValues::merge_spells))]
-pub(crate) fn decode_digits<const N: usize, V: LaneOps<N>>(
+pub(crate) fn decode_unchecked<const N: usize, V: LaneOps<N>>(
     first: Simd<u8, N>,
     second: Simd<u8, N>,
 ) -> Simd<u8, N>

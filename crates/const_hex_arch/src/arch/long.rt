@@ -85,7 +85,7 @@ pub(crate) fn decode<const N: usize, V: LaneOps<N>>(text: &[u8], output: &mut [u
 
 /// Decodes digits to at least one step of bytes.
 #[inline(always)]
-pub(crate) fn decode_digits<const N: usize, V: LaneOps<N>>(text: &[u8], output: &mut [u8])
+pub(crate) fn decode_unchecked<const N: usize, V: LaneOps<N>>(text: &[u8], output: &mut [u8])
     requires size { length text.now ≡ 2 * length output.old }
     requires least { N ≤ length output.old }
     requires digits { AllDigits text.now }
@@ -94,11 +94,11 @@ pub(crate) fn decode_digits<const N: usize, V: LaneOps<N>>(text: &[u8], output: 
     let mut at = 0;
     while output.len() - at > N {
         let end = at + N;
-        steps::decode_digits_step::<N, V>(&text[2 * at..2 * end], &mut output[at..end]);
+        steps::decode_unchecked_step::<N, V>(&text[2 * at..2 * end], &mut output[at..end]);
         at = end;
     }
     let start = output.len() - N;
-    steps::decode_digits_step::<N, V>(&text[2 * start..], &mut output[start..]);
+    steps::decode_unchecked_step::<N, V>(&text[2 * start..], &mut output[start..]);
 }
 
 /// Decodes a text with an invalid character as const-hex does, and returns false: step by step until one is invalid, of

@@ -114,12 +114,12 @@ pub(crate) fn decode_vector<const N: usize, V: LaneOps<N>>(text: &[u8]) -> Simd<
 /// Decodes the digits of a step into the output.
 #[inline(always)]
 #[tactic(auto, using(crate::proofs::lemmas::LaneValues::in_two, std::proofs::lemmas::Simd::put_chunk_whole))]
-pub(crate) fn decode_digits_step<const N: usize, V: LaneOps<N>>(text: &[u8], output: &mut [u8])
+pub(crate) fn decode_unchecked_step<const N: usize, V: LaneOps<N>>(text: &[u8], output: &mut [u8])
     requires text { length text.now ≡ 2 * N }
     requires output { length output.old ≡ N }
     requires digits { AllDigits text.now }
     ensures { Spells text.now output.new }
 {
     let first = Simd::from_slice(text);
-    lanes::decode_digits::<N, V>(first, Simd::from_slice(&text[N..])).copy_to_slice(output);
+    lanes::decode_unchecked::<N, V>(first, Simd::from_slice(&text[N..])).copy_to_slice(output);
 }

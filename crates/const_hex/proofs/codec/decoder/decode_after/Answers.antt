@@ -14,7 +14,7 @@ returns-then-decode_body-clause-spells g c = λ h.
     omega (arith, c.requires, c.split_at_mut-first.ensures.back_len) in
     rw (drop_more digits 0 0 (omega arith), twice)
     (Spells-append (c.args.high ∷ get_or digits 0 0 ∷ []) _ (take (2 * m) rest) _ (c.if-decode_body.ensures.spells refl)
-    (rw (take_rest digits 1) at (c.decode_digits.ensures.spells h)))
+    (rw (take_rest digits 1) at (c.decode_pairs_and_last.ensures.spells h)))
 
 pub returns-then-decode_body-clause-invalid : goal.returns-then-decode_body-clause-invalid
 returns-then-decode_body-clause-invalid g c = λ h.
@@ -23,7 +23,7 @@ returns-then-decode_body-clause-invalid g c = λ h.
     rw (drop_more digits 0 0 (omega arith))
     (rest_rejected (c.args.high ∷ get_or digits 0 0 ∷ []) rest c.args.output.now _ _ 1 (omega arith)
     (c.if-decode_body.ensures.spells refl) (omega (arith, c.requires))
-    (rw (c.split_at_mut-first.ensures.back, take_rest digits 1) at (c.decode_digits.ensures.invalid h)))
+    (rw (c.split_at_mut-first.ensures.back, take_rest digits 1) at (c.decode_pairs_and_last.ensures.invalid h)))
 
 pub returns-else-decode_body-clause-invalid : goal.returns-else-decode_body-clause-invalid
 returns-else-decode_body-clause-invalid g c = λ h.

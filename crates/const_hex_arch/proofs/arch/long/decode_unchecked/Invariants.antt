@@ -1,6 +1,6 @@
 use Rattle.std.proofs.Common.{◌-◌, length}
 use Rattle.const_hex_arch.proofs.lemmas.Steps.{IsDecoded}
-use Rattle.const_hex_arch.proofs.arch.long.decode_digits.Given as goal
+use Rattle.const_hex_arch.proofs.arch.long.decode_unchecked.Given as goal
 
 abbrev pub invariant-loop-output : goal.invariant-loop-output
 invariant-loop-output g l = IsDecoded l.text l.fn.output l.output l.at

@@ -3,7 +3,7 @@ use Rattle.std.proofs.Common.{refl, arith, length, ◌*◌}
 use Rattle.const_hex_arch.proofs.lemmas.Digits.{digits_parts}
 use Rattle.const_hex_arch.proofs.lemmas.Texts.{Spells-digits}
 use Rattle.const_hex.proofs.lemmas.Decoding.{last_rejected, pairs_rejected}
-use Rattle.const_hex.proofs.codec.decoder.decode_digits.Goals as goal
+use Rattle.const_hex.proofs.codec.decoder.decode_pairs_and_last.Goals as goal
 
 pub returns-then-decode_body-clause-digits : goal.returns-then-decode_body-clause-digits
 returns-then-decode_body-clause-digits g c = λ h.
