@@ -3,9 +3,9 @@
 use super::{machine_code, stack_buffer::write_text};
 use crate::proved::Kernel;
 
-/// The kernel of machine code. Each function asserts that the lengths match, although callers in `proved` never pass
-/// others. Lengths are doubled by a shift, since a debug build would test a product for overflow, which is impossible: a
-/// slice has at most `isize::MAX` bytes.
+/// The kernel of machine code. Each function asserts that it stays in the slices, although callers in `proved` never pass
+/// other lengths. A length is doubled by a shift, since a debug build would test a product for overflow, which is
+/// impossible: a slice has at most `isize::MAX` bytes.
 pub struct MachineCode;
 
 impl Kernel for MachineCode {
@@ -28,8 +28,8 @@ impl Kernel for MachineCode {
 
     #[inline]
     fn decode_checked(input: &[u8], output: &mut [u8]) -> bool {
-        // Where callers have compared the same numbers, the compiler removes this test.
-        assert!(input.len() == output.len() << 1);
+        // Callers have compared the same numbers, so the compiler removes this test.
+        assert!(input.len() / 2 == output.len());
         let (text, bytes) = (input.as_ptr(), output.as_mut_ptr());
         // SAFETY: the input has two bytes for each byte of the output.
         unsafe { machine_code::read(text, bytes, output.len()) }
