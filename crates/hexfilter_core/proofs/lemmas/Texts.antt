@@ -190,9 +190,10 @@ take_written c bytes k = grind (arith, take_all)
 
 -- a beginning of a beginning is a beginning
 pub fewer_made : (m : Mode) (x y : List ℕ) (k : ℕ) → MakesBeginning m x y → MakesBeginning m x (take k y)
-fewer_made (Encode prefix upper g) x y k (rest, output_eq) =
-    let split = ap (λ l. l ++ rest) (sym (take-append-drop k y)) in
-    (drop k y ++ rest, output_eq ∙ split ∙ append_assoc (take k y) (drop k y) rest)
+fewer_made (Encode prefix upper g) x y k (rest, output_eq) = (
+  drop k y ++ rest,
+  output_eq ∙ ap (λ l. l ++ rest) (sym (take-append-drop k y)) ∙ append_assoc (take k y) (drop k y) rest,
+)
 fewer_made (Decode r) x y k (bytes, spelled, output_eq) =
     (take k bytes, fewer_spelled r x bytes k spelled, ap (take k) output_eq ∙ take_written r.is_check bytes k)
 
