@@ -47,7 +47,7 @@ fn compare_calls<K: Kernel, const UPPER: bool, const PREFIX: bool>(
     }
 }
 
-/// Compares the calls for `FixedKernel`, which has 32 lanes here. `serialize_inner` makes a call for an empty text, too.
+/// Compares the calls for `FixedKernel`, which has 32 lanes here. `serialize_inner` makes a call for an empty text.
 fn compare_fixed_kernel<const UPPER: bool, const PREFIX: bool>(
     line: &mut Line<'_>,
     bytes: &[u8],

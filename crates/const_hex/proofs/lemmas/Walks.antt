@@ -9,8 +9,8 @@
 --
 -- The steps: `sets` executes an assignment, `calls_at` a call by its contract, and `lands_as` stores the result;
 -- `alloc_all` and `free_all` begin and end the locals' storage. Of the resources, `move` permutes them, `split` and
--- `join` take apart and build separating conjunctions, `drop` discards one, `pick` opens an existential, `await` removes
--- an update of ghost state, `heard` extracts a pure fact, and `frame` proves the first part of the goal.
+-- `join` take apart and build separating conjunctions, `drop` discards one, `pick` opens an existential, `await`
+-- removes an update of ghost state, `heard` extracts a pure fact, and `frame` proves the first part of the goal.
 --
 -- What breaks a walk: it refers to the function's locals by number, and to its calls in order. So a new local, a new
 -- call or another order in one of these functions breaks it. Other code does not.
