@@ -31,8 +31,8 @@ Reads-some t =
 -- these results have the law of types that are read from text
 abbrev pub AreFaithful : {V E : Type 0} → (V → List ℕ) → (ℕ → Type 0) → (E → Bool)
     → (List ℕ → Result V E → Type 0) → Type 0
-AreFaithful bytes fits is_memory answers =
-    (t : List ℕ) (r : Result _ _) → answers t r → IsFaithful bytes fits is_memory t r
+AreFaithful bytes fits is_memory results =
+    (t : List ℕ) (r : Result _ _) → results t r → IsFaithful bytes fits is_memory t r
 
 -- ---- owned bytes
 
@@ -67,10 +67,10 @@ bytes_back [] h = refl
 bytes_back (b ∷ bs) h = rw (byte_of-signed_of b (h 0), bytes_back bs (λ k. h (suc k))) refl
 
 module _ {V : Type 0} (items : V → List ℤ) (fits : ℕ → Type 0)
-    (answers : List ℕ → Result (List ℕ) FromHexError → Type 0) where
+    (results : List ℕ → Result (List ℕ) FromHexError → Type 0) where
   -- the law for signed elements is the law for the bytes
-  pub ReadsSigned-faithful : AreFaithful (λ bs. bs) fits is_no_memory answers
-      → AreFaithful (λ v. map byte_of (items v)) fits is_no_memory (ReadsSigned items answers)
+  pub ReadsSigned-faithful : AreFaithful (λ bs. bs) fits is_no_memory results
+      → AreFaithful (λ v. map byte_of (items v)) fits is_no_memory (ReadsSigned items results)
   ReadsSigned-faithful law t (Ok v) h =
       let of_bytes = law t (Ok h.0) h.1 in
       rw (h.2, bytes_back h.0 (Spells-bytes (body_of t) h.0 of_bytes.0.1)) of_bytes
@@ -79,16 +79,16 @@ module _ {V : Type 0} (items : V → List ℤ) (fits : ℕ → Type 0)
 -- ---- a type of your own
 
 pub ReadsAs-faithful : {V : Type 0} (bytes : V → List ℕ) (fits : ℕ → Type 0)
-    (answers : List ℕ → Result (List ℕ) FromHexError → Type 0) → AreFaithful (λ bs. bs) fits is_no_memory answers
-    → AreFaithful bytes fits is_no_memory (ReadsAs bytes answers)
-ReadsAs-faithful bytes fits answers law t (Ok v) h = law t (Ok (bytes v)) h
-ReadsAs-faithful bytes fits answers law t (Err e) h = law t (Err e) h
+    (results : List ℕ → Result (List ℕ) FromHexError → Type 0) → AreFaithful (λ bs. bs) fits is_no_memory results
+    → AreFaithful bytes fits is_no_memory (ReadsAs bytes results)
+ReadsAs-faithful bytes fits results law t (Ok v) h = law t (Ok (bytes v)) h
+ReadsAs-faithful bytes fits results law t (Err e) h = law t (Err e) h
 
 -- ---- pointers
 
 pub ReadsThrough-faithful : {W V E : Type 0} (target : W → V) (bytes : V → List ℕ) (fits : ℕ → Type 0)
-    (is_memory : E → Bool) (answers : List ℕ → Result V E → Type 0) → AreFaithful bytes fits is_memory answers
-    → AreFaithful (λ w. bytes (target w)) fits is_memory (ReadsThrough target is_memory answers)
-ReadsThrough-faithful target bytes fits is_memory answers law t (Ok w) h = law t (Ok (target w)) h
-ReadsThrough-faithful target bytes fits is_memory answers law t (Err e) (inl h) = law t (Err e) h
-ReadsThrough-faithful target bytes fits is_memory answers law t (Err e) (inr h) = λ no. cc (sym h.0 ∙ no)
+    (is_memory : E → Bool) (results : List ℕ → Result V E → Type 0) → AreFaithful bytes fits is_memory results
+    → AreFaithful (λ w. bytes (target w)) fits is_memory (ReadsThrough target is_memory results)
+ReadsThrough-faithful target bytes fits is_memory results law t (Ok w) h = law t (Ok (target w)) h
+ReadsThrough-faithful target bytes fits is_memory results law t (Err e) (inl h) = law t (Err e) h
+ReadsThrough-faithful target bytes fits is_memory results law t (Err e) (inr h) = λ no. cc (sym h.0 ∙ no)

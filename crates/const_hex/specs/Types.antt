@@ -59,21 +59,21 @@ ReadsOwned bytes t (Err NoMemory) = IsEven (length t)
 -- the results of a type of your own: the results for bytes, with a value that stands for its bytes
 abbrev pub ReadsAs : {V : Type 0} → (V → List ℕ) → (List ℕ → Result (List ℕ) FromHexError → Type 0) → List ℕ
     → Result V FromHexError → Type 0
-ReadsAs bytes answers t (Ok v) = answers t (Ok (bytes v))
-ReadsAs bytes answers t (Err e) = answers t (Err e)
+ReadsAs bytes results t (Ok v) = results t (Ok (bytes v))
+ReadsAs bytes results t (Err e) = results t (Err e)
 
 -- the results of a type of signed elements: the results for bytes, with the bits of the bytes
 abbrev pub ReadsSigned : {V : Type 0} → (V → List ℤ) → (List ℕ → Result (List ℕ) FromHexError → Type 0) → List ℕ
     → Result V FromHexError → Type 0
-ReadsSigned items answers t (Ok v) = (bs : List ℕ) × answers t (Ok bs) × (items v ≡ map signed_of bs)
-ReadsSigned items answers t (Err e) = answers t (Err e)
+ReadsSigned items results t (Ok v) = (bs : List ℕ) × results t (Ok bs) × (items v ≡ map signed_of bs)
+ReadsSigned items results t (Err e) = results t (Err e)
 
 -- the results of a pointer: the results of its target, or out of memory if the target may have a value
 abbrev pub ReadsThrough : {W V E : Type 0} → (W → V) → (E → Bool) → (List ℕ → Result V E → Type 0) → List ℕ → Result W E
     → Type 0
-ReadsThrough target is_memory answers t (Ok w) = answers t (Ok (target w))
-ReadsThrough {W} {V} target is_memory answers t (Err e) =
-    answers t (Err e) ⊎ ((is_memory e ≡ true) × ((v : V) × answers t (Ok v)))
+ReadsThrough target is_memory results t (Ok w) = results t (Ok (target w))
+ReadsThrough {W} {V} target is_memory results t (Err e) =
+    results t (Err e) ⊎ ((is_memory e ≡ true) × ((v : V) × results t (Ok v)))
 
 -- ---- a JSON value that is read into a type
 
@@ -81,10 +81,10 @@ ReadsThrough {W} {V} target is_memory answers t (Err e) =
 -- `Hex`; and `NotText` for every other value
 abbrev pub ReadsInside : {V E : Type 0} → (List ℕ → Result V E → Type 0) → Option (List ℕ) → Result V (JsonError E)
     → Type 0
-ReadsInside answers None r = r ≡ Err NotText
-ReadsInside answers (Some t) (Ok v) = answers t (Ok v)
-ReadsInside answers (Some t) (Err NotText) = ⊥
-ReadsInside answers (Some t) (Err (Hex e)) = answers t (Err e)
+ReadsInside results None r = r ≡ Err NotText
+ReadsInside results (Some t) (Ok v) = results t (Ok v)
+ReadsInside results (Some t) (Err NotText) = ⊥
+ReadsInside results (Some t) (Err (Hex e)) = results t (Err e)
 
 -- what the error for a JSON value prints, if it is known what the error for the text prints
 abbrev pub json_message : {E : Type 0} → (E → Option (List ℕ)) → JsonError E → Option (List ℕ)

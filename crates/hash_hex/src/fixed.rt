@@ -99,7 +99,7 @@ impl<const N: usize> FromHex for FixedBytes<N> {
     ghost faithful = { ReadsAs-faithful fixed_bytes (IsCount N) (λ t r. ReadsSized t N r) (ReadsSized-faithful N) };
 
     fn from_hex(alloc: Global, hex: &[u8]) -> Result<FixedBytes<N>, FromHexError>
-        ensures answers { ReadsFixed N hex.now result }
+        ensures outcome { ReadsFixed N hex.now result }
         // For a constant text the prover computes this, and so accepts an `unwrap`.
         ensures accepts { IsOk result ↔ IsTrue (is_text_of N hex.now) }
         // The text of N bytes, with or without a prefix and in either case, decodes to their value.

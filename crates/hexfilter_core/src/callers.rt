@@ -39,8 +39,8 @@ fn decode<R: Read, W: Write>(input: &mut R, output: &mut W) -> Result<(), RunErr
         × IsAtEnd (R.remaining input.new) × IsOdd (length x) × AllDigits (body_of x)
         × Spells (take (2 * (length (body_of x) / 2)) (body_of x)) y
         × Appends (W.contents output.old) (W.contents output.new) y) }
-    // Before the invalid character there are only digits, and all pairs of them were decoded. After it, less than 16 KiB
-    // were read.
+    // Before the invalid character there are only digits, and all pairs of them were decoded. After it, less than
+    // 16 KiB were read.
     ensures invalid { (c i : ℕ) (location : Option Location) → result ≡ Err (Text (InvalidHexCharacter c i) location)
         → (location ≡ None) × ((x : List ℕ) × (rest : List ℕ) × (y : List ℕ)
         × Consumes (R.remaining input.old) (R.remaining input.new) (x ++ c ∷ rest) × (length rest < 16384)

@@ -1,10 +1,10 @@
 // Made by rust/erase from crates/const_hex/src/error.rt. Do not edit.
-//! Why a text cannot be decoded, or a text does not fit into an output.
+//! Why a text cannot be decoded, or a length does not fit.
 
 use crate::std_shim::prelude::*;
 use crate::std_shim::{error, fmt};
 
-/// Why a text cannot be decoded, or a text does not fit into an output.
+/// Why a text cannot be decoded, or a length does not fit.
 ///
 /// These are checked in this order: whether the length is odd, then the length that a sized call needs,
 /// then the characters.
@@ -17,7 +17,7 @@ pub enum FromHexError {
     InvalidStringLength,
     /// A byte is not a digit. This is the first such byte.
     InvalidHexCharacter {
-        /// The character with the byte's number. A byte past 127 gives U+0080 to U+00FF.
+        /// The character whose code point is the byte. A byte above 127 becomes U+0080 to U+00FF.
         c: char,
         /// The byte's position, counted from 0 at the start of the whole text, prefix included.
         index: usize,

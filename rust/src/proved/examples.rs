@@ -167,7 +167,7 @@ fn codec_checks_const_check_raw() {
 }
 
 #[test]
-fn codec_decoder_as() {
+fn codec_decoder_decoder() {
     let mut decoder = Decoder::new();
     let mut bytes = [0; 4];
     assert_eq!(decoder.decode(b"0x6b6", &mut bytes), Ok(1));

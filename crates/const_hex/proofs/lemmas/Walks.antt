@@ -7,6 +7,11 @@
 -- they are. `EncodedStr` is the walk for a function that passes a slice mutably to one call, and then immutably to
 -- another: `encode_to_str` and `encode_to_str_upper`. The `Proof.antt` of each function passes its calls to the walk.
 --
+-- The steps: `sets` executes an assignment, `calls_at` a call by its contract, and `lands_as` stores the result;
+-- `alloc_all` and `free_all` begin and end the locals' storage. Of the resources, `move` permutes them, `split` and
+-- `join` take apart and build separating conjunctions, `drop` discards one, `pick` opens an existential, `await`
+-- removes an update of ghost state, `heard` extracts a pure fact, and `frame` proves the first part of the goal.
+--
 -- What breaks a walk: it refers to the function's locals by number, and to its calls in order. So a new local, a new
 -- call or another order in one of these functions breaks it. Other code does not.
 --

@@ -96,8 +96,8 @@ pub fn replace_key_or_keep_it(key: &mut [u8; 32], text: &[u8]) -> Result<(), Fro
     decode_to_slice_with::<CheckFirst<FixedKernel>>(text, key)
 }
 
-/// Decodes a salt of at most 64 bytes, and returns its number of bytes. The rest of the array is unchanged. An odd number
-/// of digits is always reported as such, also if there are more than 128, and leaves the array unchanged.
+/// Decodes a salt of at most 64 bytes, and returns its length. The rest of the array is unchanged. An odd number of
+/// digits is always reported as such, also if there are more than 128, and leaves the array unchanged.
 pub fn read_salt(text: &[u8], salt: &mut [u8; 64]) -> Result<usize, FromHexError>
     ensures read { IfOk result (λ n. Reads text.now (Ok (take n salt.new))) }
     ensures rest { IfOk result (λ n. (length (body_of text.now) ≡ 2 * n) × (drop n salt.new ≡ drop n salt.old)) }

@@ -83,11 +83,11 @@ puts_one g text out new some short many space copied rest =
     let put =
     take_put 1 16 n (slice_set out 0 s) new (omega (arith, length-set out 0 s, space)) (omega (arith, all, short)) in
     let front = take_more_set out 0 s (omega (arith, space)) in
-    let kept : take n new ≡ take n text = rw copied (take-take n 16 text short) in
+    let same_front : take n new ≡ take n text = rw copied (take-take n 16 text short) in
     after_group g (take n text ++ rest) some (omega (arith, size, some, length-append (take n text) rest))
     ∙ ap (λ l. s ∷ l) (within_group g 0 (take n text) rest (omega (arith, size)))
     ∙ ap (λ k. s ∷ (take n text ++ groups_from g k rest)) end
-    ∙ rw (added, put, front, kept) refl
+    ∙ rw (added, put, front, same_front) refl
 
 -- four groups of two, each after a separator
 pub puts_pairs : (s : ℕ) (text rest : List ℕ) → 8 ≤ length text

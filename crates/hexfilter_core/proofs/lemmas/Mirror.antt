@@ -86,14 +86,14 @@ pub not_decoded : (r : Reading) (whole : List ℕ) (in_after : Option (List ℕ)
     (location : Option Location) → Consumes (Some whole) in_after x → HasError r in_after x y e location
     → Reads (text_of r whole) (Ok bytes) → ⊥
 not_decoded r whole None x y bytes e location read fails reads = read
-not_decoded r whole (Some rest) x y bytes OddLength location read (none, end, odd, pairs) (even, spelled) =
+not_decoded r whole (Some rest) x y bytes OddLength location read (none, end, odd, pairs) (even, decodes) =
     let same : IsEven (length (text_of r x)) = rw (read ∙ ap (λ l. x ++ l) end ∙ append-nil x) at even in
     omega (arith, odd, same)
-not_decoded r whole (Some rest) x y bytes (InvalidHexCharacter c k) location read fails (even, spelled) =
+not_decoded r whole (Some rest) x y bytes (InvalidHexCharacter c k) location read fails (even, decodes) =
     let front = fails.front ++ c ∷ [] in
     let more = fails.rest ++ rest in
     let cut : whole ≡ front ++ more = simp append_assoc (rw (fails.cut, append_assoc) at read) in
-    let digits = Spells-digits (body_of (text_of r whole)) bytes spelled in
+    let digits = Spells-digits (body_of (text_of r whole)) bytes decodes in
     fails.invalid (body_front (text_of r front) _ (rw (cut, text-append r 0 front more) at digits))
 not_decoded r whole in_after x y bytes _ location read fails reads = fails
 

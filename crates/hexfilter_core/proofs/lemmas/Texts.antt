@@ -163,8 +163,8 @@ module _ (r : Reading) (before after : Scanner) (x chunk out : List ℕ) (end do
 -- ---- what a text decodes to
 
 module _ (r : Reading) (d : Decoder) (x y : List ℕ) (has : HasRead d (text_of r x) y) where
-  spelled : SpellsBeginning r x y
-  spelled = rw append-nil at (read_front d (text_of r x) y [] has)
+  decodes : SpellsBeginning r x y
+  decodes = rw append-nil at (read_front d (text_of r x) y [] has)
 
   pub pairs : SpellsPairs (text_of r x) y
   pairs =
@@ -172,11 +172,11 @@ module _ (r : Reading) (d : Decoder) (x y : List ℕ) (has : HasRead d (text_of 
       let whole = ap length has.body ∙ length-append has.pairs (pending_digit d) in
       let few : length (pending_digit d) ≤ 1 = grind arith in
       let same : 2 * (length (body_of (text_of r x)) / 2) ≡ 2 * length y = omega (arith, twice, whole, few) in
-      (read_digits d (text_of r x) y has, rw same spelled)
+      (read_digits d (text_of r x) y has, rw same decodes)
 
 -- a beginning of what is decoded
-pub fewer_spelled : (r : Reading) (x y : List ℕ) (k : ℕ) → SpellsBeginning r x y → SpellsBeginning r x (take k y)
-fewer_spelled r x y k h =
+pub fewer_decoded : (r : Reading) (x y : List ℕ) (k : ℕ) → SpellsBeginning r x y → SpellsBeginning r x (take k y)
+fewer_decoded r x y k h =
     let n = length (take k y) in
     let few : n ≤ length y = omega (arith, length-take k y) in
     let part = (Spells-parts (take (2 * length y) (body_of (text_of r x))) y n (2 * n) refl h).0 in
@@ -190,20 +190,21 @@ take_written c bytes k = grind (arith, take_all)
 
 -- a beginning of a beginning is a beginning
 pub fewer_made : (m : Mode) (x y : List ℕ) (k : ℕ) → MakesBeginning m x y → MakesBeginning m x (take k y)
-fewer_made (Encode prefix upper g) x y k (rest, output_eq) =
-    let split = ap (λ l. l ++ rest) (sym (take-append-drop k y)) in
-    (drop k y ++ rest, output_eq ∙ split ∙ append_assoc (take k y) (drop k y) rest)
-fewer_made (Decode r) x y k (bytes, spelled, output_eq) =
-    (take k bytes, fewer_spelled r x bytes k spelled, ap (take k) output_eq ∙ take_written r.is_check bytes k)
+fewer_made (Encode prefix upper g) x y k (rest, output_eq) = (
+  drop k y ++ rest,
+  output_eq ∙ ap (λ l. l ++ rest) (sym (take-append-drop k y)) ∙ append_assoc (take k y) (drop k y) rest,
+)
+fewer_made (Decode r) x y k (bytes, decodes, output_eq) =
+    (take k bytes, fewer_decoded r x bytes k decodes, ap (take k) output_eq ∙ take_written r.is_check bytes k)
 
 -- what all pairs of digits decode to is a beginning, whatever follows
 pairs_begin : (r : Reading) (x more y : List ℕ) → SpellsPairs (text_of r x) y → SpellsBeginning r (x ++ more) y
 pairs_begin r x more [] h = tt
-pairs_begin r x more (b ∷ y) (digits, spelled) =
+pairs_begin r x more (b ∷ y) (digits, decodes) =
     let t = text_of r x in
     let u = text_from r (column_after_all r 0 x) more in
     let n = 2 * (length (body_of t) / 2) in
-    let twice = Spells-length (take n (body_of t)) (b ∷ y) spelled in
+    let twice = Spells-length (take n (body_of t)) (b ∷ y) decodes in
     let size : n ≡ 2 * length (b ∷ y) = omega (arith, twice, length-take n (body_of t)) in
     let longer = body-longer t u (omega (arith, size, body-shorter t)) in
     rw (
@@ -211,12 +212,12 @@ pairs_begin r x more (b ∷ y) (digits, spelled) =
       longer,
       take-append-le (2 * length (b ∷ y)) (body_of t) u (omega (arith, size)),
       ← size,
-    ) spelled
+    ) decodes
 
 read_begun : (r : Reading) (x y : List ℕ) → Reads (text_of r x) (Ok y) → SpellsBeginning r x y
-read_begun r x y (even, spelled) =
-    let twice = Spells-length (body_of (text_of r x)) y spelled in
-    rw (take_all (2 * length y) (body_of (text_of r x)) (omega (arith, twice))) spelled
+read_begun r x y (even, decodes) =
+    let twice = Spells-length (body_of (text_of r x)) y decodes in
+    rw (take_all (2 * length y) (body_of (text_of r x)) (omega (arith, twice))) decodes
 
 error_begun : (r : Reading) (in_after : Option (List ℕ)) (x y : List ℕ) (e : FromHexError) (location : Option Location)
     → HasError r in_after x y e location → SpellsBeginning r x y
@@ -229,7 +230,7 @@ pub so_far_made : (m : Mode) (s : Stage) (x y : List ℕ) → HasMade m s x y �
 so_far_made (Encode prefix upper g) s x y has =
     (_, ap (λ l. encoded prefix upper g l) (sym (append-nil x)) ∙ has.rest [])
 so_far_made (Decode r) s x y has =
-    (has.text.bytes, spelled r s.decoder x has.text.bytes has.text.read, has.text.output)
+    (has.text.bytes, decodes r s.decoder x has.text.bytes has.text.read, has.text.output)
 
 pub reached_begun : (m : Mode) (s : Stage) (in_after : Option (List ℕ)) (n : ℕ) (x y : List ℕ) (o : Option RunError)
     → Reaches m s in_after n x y o → MakesBeginning m x y

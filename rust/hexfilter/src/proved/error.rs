@@ -2,16 +2,16 @@
 //! Why a run fails.
 
 use crate::std_shim::prelude::*;
-use crate::proved::place::Place;
+use crate::proved::location::Location;
 use crate::std_shim::codec::FromHexError;
 use crate::std_shim::io;
 
 /// Why a run fails.
 #[derive(Debug)]
 pub enum RunError {
-    /// The text has an odd number of digits, or an invalid character. If bytes may be left out of the input,
-    /// the character stands at that place, and else in the first line.
-    Text(FromHexError, Option<Place>),
+    /// The text has an odd number of digits, or an invalid character, which is at this location if bytes may be left
+    /// out of the input, and else in the first line.
+    Text(FromHexError, Option<Location>),
     /// A read failed with this error. It is never `Interrupted`.
     Read(io::Error),
     /// A write or the flush failed with this error. It is never `Interrupted`.

@@ -1,15 +1,15 @@
 // Made by rust/erase from crates/hexfilter_core/src/groups.rt. Do not edit.
-//! A text in groups.
+//! Writing a text in groups, with a separator between them.
 
 use crate::std_shim::prelude::*;
 use crate::proved::mode::Groups;
 
-/// How many characters a short group has at most.
-const SHORT: usize = 16;
+/// How many characters are copied at once, if a group has at most as many.
+const BLOCK: usize = 16;
 
-/// Puts the text into the output, with a separator before each character that follows a whole group. The
-/// first group has `column` characters already. Returns how many bytes were put there, and how many
-/// characters the last group has.
+/// Writes the text to the front of the output, with a separator before each character that follows a full group.
+/// The first group has `column` characters already. Returns the number of bytes written, and the number of
+/// characters in the last group.
 #[inline(never)]
 pub(crate) fn put_groups(
     groups: Groups,
@@ -21,7 +21,7 @@ pub(crate) fn put_groups(
     let mut done = 0;
     let mut end = 0;
     'groups: while done < text.len() {
-        if column == groups.size && groups.size <= SHORT && text.len() - done > SHORT {
+        if column == groups.size && groups.size <= BLOCK && text.len() - done > BLOCK {
             let (taken, put) = put_short(groups, &text[done..], &mut output[end..]);
             done += taken;
             end += put;
@@ -37,35 +37,35 @@ pub(crate) fn put_groups(
     (end, column)
 }
 
-/// Puts whole groups into the output, each after a separator, until at most `SHORT` characters are left. Returns how many
-/// were put there, and how many bytes these are with their separators.
-// In steps, which takes half of the time of a group at a time, or less.
+/// Writes full groups to the front of the output, each after a separator, until at most `BLOCK` characters are left.
+/// Returns the number of characters, and the number of bytes written, which includes the separators.
+// Block by block, which takes at most half of the time of group by group.
 #[inline(never)]
 fn put_short(groups: Groups, text: &[u8], output: &mut [u8]) -> (usize, usize) {
     let mut done = 0;
     let mut end = 0;
-    'steps: while text.len() - done > SHORT {
-        let (taken, put) = put_step(groups, &text[done..], &mut output[end..]);
+    'blocks: while text.len() - done > BLOCK {
+        let (taken, put) = put_block(groups, &text[done..], &mut output[end..]);
         done += taken;
         end += put;
     }
     (done, end)
 }
 
-/// As `put_short`, for one group or eight pairs.
+/// As `put_short`, for one block: a group, or eight groups of two.
 #[inline(always)]
-fn put_step(groups: Groups, text: &[u8], output: &mut [u8]) -> (usize, usize) {
+fn put_block(groups: Groups, text: &[u8], output: &mut [u8]) -> (usize, usize) {
     if groups.size == 2 {
         put_pairs(groups, text, output);
         put_pairs(groups, &text[8..], &mut output[12..]);
         return (16, 24);
     }
     output[0] = groups.separator;
-    output[1..SHORT + 1].copy_from_slice(&text[..SHORT]);
+    output[1..BLOCK + 1].copy_from_slice(&text[..BLOCK]);
     (groups.size, groups.size + 1)
 }
 
-/// Puts four pairs into the output, each after a separator. Two more bytes may change.
+/// Writes four groups of two to the front of the output, each after a separator. Two more bytes may change.
 #[inline(always)]
 fn put_pairs(groups: Groups, text: &[u8], output: &mut [u8]) {
     let separator = groups.separator;
@@ -75,7 +75,9 @@ fn put_pairs(groups: Groups, text: &[u8], output: &mut [u8]) {
     output[6..14].copy_from_slice(&second);
 }
 
-/// Two pairs, each after a separator, as a word.
+/// Two groups of two, each after a separator, and two NUL bytes.
+// SIMD within a register (SWAR): the four characters are spread in one word, and 0x1000001 copies the separator to the
+// bytes 0 and 3.
 #[inline(always)]
 fn spread(separator: u8, a: u8, b: u8, c: u8, d: u8) -> [u8; 8] {
     let pairs = u64::from(u32::from_le_bytes([a, b, c, d]));
@@ -85,8 +87,8 @@ fn spread(separator: u8, a: u8, b: u8, c: u8, d: u8) -> [u8; 8] {
     (separators + first + second).to_le_bytes()
 }
 
-/// Puts a separator into the output at an index if the group is whole. Returns the index after it, and how many
-/// characters the group then has.
+/// Writes a separator to the output at the index `end` if the group is full. Returns the next index, and the number
+/// of characters in the group.
 fn separate(groups: Groups, column: usize, output: &mut [u8], end: usize) -> (usize, usize) {
     if column == groups.size {
         return (put(Some(groups.separator), output, end), 0);
@@ -94,7 +96,7 @@ fn separate(groups: Groups, column: usize, output: &mut [u8], end: usize) -> (us
     (end, column)
 }
 
-/// Puts a byte, if there is one, into the output at an index, and returns the index after it.
+/// Writes a byte, if there is one, to the output at the index `end`, and returns the next index.
 pub(crate) fn put(byte: Option<u8>, output: &mut [u8], end: usize) -> usize {
     match byte {
         Some(byte) => {

@@ -1,6 +1,5 @@
 // Made by rust/erase from crates/hexfilter_core/src/lib.rt. Do not edit.
-//! The program `hexfilter` as a library: a run over any reader and writer, and the whole program on
-//! any host.
+//! The program `hexfilter` as a library: a run over any reader and writer, and the complete program on any host.
 //!
 //! The terms of the contracts are defined in `specs/`. What a text decodes to is defined in
 //! `const_hex`.
@@ -9,9 +8,9 @@ use crate::std_shim::prelude::*;
 
 mod error;
 mod groups;
+mod location;
 mod mode;
 mod options;
-mod place;
 mod process;
 mod runs;
 mod scanner;
@@ -19,9 +18,9 @@ mod stage;
 mod transfer;
 
 pub use crate::proved::error::RunError;
+pub use crate::proved::location::Location;
 pub use crate::proved::mode::{Groups, Mode, Reading};
 pub use crate::proved::options::{Request, UsageError, UsageErrorKind, request_of};
-pub use crate::proved::place::Place;
 pub use crate::proved::process::{Host, program};
 pub use crate::proved::runs::run;
 

@@ -1,9 +1,9 @@
 // Made by rust/erase from crates/hexfilter_core/src/mode.rt. Do not edit.
-//! What a run makes of its input.
+//! The modes of a run.
 
 use crate::std_shim::prelude::*;
 
-/// What a run makes of its input.
+/// What a run writes for its input.
 #[derive(Clone, Copy, PartialEq, Eq, Debug)]
 pub enum Mode {
     /// Two digits for each byte, in groups. If the separator is a newline, these are lines, and one follows
@@ -29,14 +29,14 @@ pub struct Groups {
     pub separator: u8,
 }
 
-/// How a text is read.
+/// How a text is decoded.
 #[derive(Clone, Copy, PartialEq, Eq, Debug)]
 pub struct Reading {
     /// Whether the text is only checked: nothing is written then.
     pub is_check: bool,
     /// Whether spaces, tabs, line feeds, vertical tabs, form feeds and carriage returns are left out.
     pub ignore_whitespace: bool,
-    /// The groups of the text. After a whole group, only a separator can follow, which is left out.
+    /// The groups of the text. After a full group, only a separator can follow, which is left out.
     pub groups: Groups,
 }
 

@@ -1,5 +1,5 @@
 // Made by rust/erase from crates/hexfilter_core/src/options.rt. Do not edit.
-//! What the arguments of the program ask for.
+//! The command-line options.
 
 use crate::std_shim::prelude::*;
 use crate::proved::mode::{Groups, Mode, Reading};
@@ -7,48 +7,48 @@ use crate::proved::mode::{Groups, Mode, Reading};
 /// What the program is asked to do.
 #[derive(Clone, Copy, PartialEq, Eq, Debug)]
 pub enum Request {
-    /// To print how it is used.
+    /// To print the help.
     Help,
-    /// To print its version.
+    /// To print the version.
     Version,
     /// To run in that mode, on the file that the argument with that index names, or on standard input.
     Run(Mode, Option<usize>),
 }
 
-/// Why an argument is not valid.
+/// Why an argument is invalid.
 #[derive(Clone, Copy, PartialEq, Eq, Debug)]
 pub enum UsageErrorKind {
-    /// It has an option that there is not.
+    /// It has an unknown option.
     UnknownOption,
     /// It ends in an option whose value is missing.
     MissingValue,
-    /// It has or is a value that is no number of at most `usize::MAX`.
+    /// It has or is a value that is not a number up to `usize::MAX`.
     InvalidNumber,
-    /// It has or is a separator that is no ASCII character, a digit, or a newline.
+    /// It has or is a separator that is not one ASCII character, or is a hexadecimal digit or a newline.
     InvalidSeparator,
-    /// It asks for groups beside lines, or for lines beside groups.
+    /// It is an option for groups together with one for lines, or the other way round.
     GroupsInLines,
     /// It is a second file.
     SecondFile,
 }
 
-/// The first argument that is not valid.
+/// The first invalid argument.
 #[derive(Clone, Copy, PartialEq, Eq, Debug)]
 pub struct UsageError {
-    /// Why it is not valid.
+    /// Why it is invalid.
     pub kind: UsageErrorKind,
     /// Its index.
     pub index: usize,
 }
 
-/// What the value of an option is: a number of columns or bytes, or a separator.
+/// What kind of value an option takes: a number of columns or bytes, or a separator.
 #[derive(Clone, Copy)]
 pub(crate) enum Value {
     Size,
     Separator,
 }
 
-/// What the arguments so far have set.
+/// The options that were parsed so far.
 #[derive(Clone, Copy, Default)]
 pub(crate) struct Options {
     decode: bool,
@@ -63,13 +63,13 @@ pub(crate) struct Options {
     size: Option<usize>,
     separator: Option<u8>,
     file: Option<usize>,
-    /// What the next argument is the value of.
+    /// The kind of value that the last option still expects.
     value: Option<Value>,
-    /// Whether all other arguments are files.
+    /// Whether all further arguments are files, after `--`.
     only_files: bool,
 }
 
-/// What the arguments after the program's name ask for, or the first of them that is not valid.
+/// Parses the arguments after the program's name. An error names the first invalid argument.
 pub fn request_of(arguments: &[String]) -> Result<Request, UsageError> {
     let mut options = Options::default();
     for index in 0..arguments.len() {
@@ -82,9 +82,8 @@ pub fn request_of(arguments: &[String]) -> Result<Request, UsageError> {
 }
 
 impl Options {
-    /// The table of the options: what each of them sets, by what follows the first dash. A value follows the last
-    /// three. `-u`, `-p` and `-w` are for bytes that are encoded, `-i` is for a text that is decoded, and each mode
-    /// takes all of them.
+    /// Sets the option with this name, after the first dash. The last three take a value. `-u`, `-p` and `-w` are for
+    /// encoding and `-i` is for decoding, but each mode accepts all of them.
     fn with_option(mut self, key: &str) -> Result<Options, UsageErrorKind> {
         match key {
             "d" | "-decode" => self.decode = true,
@@ -102,7 +101,7 @@ impl Options {
         Ok(self)
     }
 
-    /// The options with the value of the last one, which may take none.
+    /// Sets the value of the last option, which is an error if that takes none.
     fn with_value(mut self, text: &str) -> Result<Options, UsageErrorKind> {
         match (self.value, text.as_bytes()) {
             (None, _) => return Err(UsageErrorKind::UnknownOption),
@@ -114,7 +113,7 @@ impl Options {
         Ok(self)
     }
 
-    /// The options with an argument.
+    /// Parses an argument.
     fn with_argument(self, index: usize, argument: &str) -> Result<Options, UsageErrorKind> {
         match self.with_word(index, argument) {
             Ok(more) if more.wrapped && more.grouped => Err(UsageErrorKind::GroupsInLines),
@@ -122,7 +121,7 @@ impl Options {
         }
     }
 
-    /// As `with_argument`, also if lines and groups are asked for.
+    /// As `with_argument`, but accepts lines and groups together.
     fn with_word(mut self, index: usize, argument: &str) -> Result<Options, UsageErrorKind> {
         if self.value.is_some() {
             return self.with_value(argument);
@@ -148,7 +147,7 @@ impl Options {
         Ok(self)
     }
 
-    /// The options with letters. What follows the letter of an option that takes a value is this value.
+    /// Parses short options in one argument. If one takes a value, the rest of the argument is its value.
     fn with_letters(mut self, text: &str) -> Result<Options, UsageErrorKind> {
         let mut letters = text;
         while !letters.is_empty() {
@@ -165,7 +164,7 @@ impl Options {
         Ok(self)
     }
 
-    /// What the options ask for after so many arguments.
+    /// The request that the options make up, after `count` arguments.
     fn request(self, count: usize) -> Result<Request, UsageError> {
         if self.value.is_some() {
             let (kind, index) = (UsageErrorKind::MissingValue, count.saturating_sub(1));
@@ -203,12 +202,12 @@ impl Options {
     }
 }
 
-/// Whether the byte may separate groups. A newline separates lines.
+/// Whether the byte is a valid separator of groups. A newline separates lines.
 fn is_separator(byte: u8) -> bool {
     byte.is_ascii() && byte != b'\n' && !byte.is_ascii_hexdigit()
 }
 
-/// The number that decimal digits write.
+/// Parses a decimal number without a sign.
 fn number(text: &str) -> Result<usize, UsageErrorKind> {
     if text.starts_with('+') {
         return Err(UsageErrorKind::InvalidNumber);

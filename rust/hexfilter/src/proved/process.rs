@@ -1,11 +1,11 @@
 // Made by rust/erase from crates/hexfilter_core/src/process.rt. Do not edit.
-//! The whole program, from its arguments to its exit status.
+//! The complete program, from its arguments to its exit status.
 
 use crate::std_shim::prelude::*;
 use crate::proved::error::RunError;
+use crate::proved::location::Location;
 use crate::proved::mode::Mode;
 use crate::proved::options::{Request, UsageError, UsageErrorKind, request_of};
-use crate::proved::place::Place;
 use crate::proved::runs::run;
 use crate::proved::transfer::{flush, write_piece};
 use crate::std_shim::io::{Eprint, Error, ErrorKind, Read, Write};
@@ -45,7 +45,7 @@ Examples:
 /// What `--version` prints.
 const VERSION: &str = "hexfilter 1.0.0\n";
 
-/// The files of a host, and the one that its standard output goes to.
+/// The operating system, as the program uses it: files, standard error, and the file behind standard output.
 pub trait Host: Eprint {
     /// An open file.
     type File: Read;
@@ -61,7 +61,7 @@ pub trait Host: Eprint {
 /// Does what the arguments after the program's name ask for, with `input` and `output` as standard input and output.
 /// Returns the exit status: 0 if that succeeds, 1 if the text cannot be decoded, 2 if the arguments are not valid, and
 /// 3 if a read or a write fails, or if the input is the file that standard output goes to. An error is one line on
-/// standard error, but none if the reader of standard output is gone.
+/// standard error, but none if standard output is a broken pipe.
 pub fn program<H: Host, R: Read, W: Write>(
     host: &H,
     arguments: &[String],
@@ -69,13 +69,13 @@ pub fn program<H: Host, R: Read, W: Write>(
     output: &mut W,
 ) -> ExitCode {
     match request_of(arguments) {
-        Ok(Request::Help) => end(host, None, print(HELP, output)),
-        Ok(Request::Version) => end(host, None, print(VERSION, output)),
+        Ok(Request::Help) => report_outcome(host, None, print(HELP, output)),
+        Ok(Request::Version) => report_outcome(host, None, print(VERSION, output)),
         Ok(Request::Run(mode, file)) => {
             let name = file_name(arguments, file);
-            end(host, name, run_on(host, mode, name, input, output))
+            report_outcome(host, name, run_on(host, mode, name, input, output))
         }
-        Err(error) => misused(host, arguments, error),
+        Err(error) => report_usage_error(host, arguments, error),
     }
 }
 
@@ -87,8 +87,8 @@ fn file_name(arguments: &[String], index: Option<usize>) -> Option<&str> {
     }
 }
 
-/// Prints which argument is not valid, and why.
-fn misused(host: &impl Eprint, arguments: &[String], error: UsageError) -> ExitCode {
+/// Prints which argument is invalid, and why.
+fn report_usage_error(host: &impl Eprint, arguments: &[String], error: UsageError) -> ExitCode {
     let argument = match arguments.get(error.index) {
         Some(argument) => argument.as_str(),
         None => "",
@@ -101,7 +101,7 @@ fn misused(host: &impl Eprint, arguments: &[String], error: UsageError) -> ExitC
         UsageErrorKind::GroupsInLines => "--wrap beside --group or --separator:",
         UsageErrorKind::SecondFile => "second file",
     };
-    // Nothing is left to be done if standard error fails.
+    // An error of standard error cannot be reported.
     let _ = eprintln!(host; "hexfilter: {reason} {argument:?}; try --help");
     ExitCode::from(2)
 }
@@ -115,7 +115,7 @@ fn run_on<H: Host, R: Read, W: Write>(
     output: &mut W,
 ) -> Result<(), RunError> {
     if host.is_output(name) {
-        // It would grow while it is read.
+        // The input would grow while it is read.
         let message = "input file is output file";
         return Err(RunError::Read(Error::new(ErrorKind::InvalidInput, message)));
     }
@@ -134,27 +134,27 @@ fn print<W: Write>(text: &str, output: &mut W) -> Result<(), RunError> {
     flush(output)
 }
 
-/// Ends a run on the file with that name, or on standard input. Prints its error, unless the reader of standard output
-/// is gone, and returns the exit status.
-fn end(host: &impl Eprint, name: Option<&str>, outcome: Result<(), RunError>) -> ExitCode {
+/// Prints the error of a run on the file with that name, or on standard input, unless standard output is a broken pipe.
+/// Returns the exit status.
+fn report_outcome(host: &impl Eprint, name: Option<&str>, outcome: Result<(), RunError>) -> ExitCode {
     let error = match outcome {
         Ok(()) => return ExitCode::SUCCESS,
         Err(error) => error,
     };
     let status = error.status();
-    // Nothing is left to be done if standard error fails.
+    // An error of standard error cannot be reported.
     let _ = match (name, error) {
         (None, RunError::Text(error, None)) => {
             eprintln!(host; "hexfilter: standard input: {error}")
         }
-        (None, RunError::Text(error, Some(Place { line, column }))) => {
+        (None, RunError::Text(error, Some(Location { line, column }))) => {
             eprintln!(host; "hexfilter: standard input: {error} (line {line}, column {column})")
         }
         (None, RunError::Read(error)) => eprintln!(host; "hexfilter: standard input: {error}"),
         (Some(name), RunError::Text(error, None)) => eprintln!(host;
             "hexfilter: {name:?}: {error}"
         ),
-        (Some(name), RunError::Text(error, Some(Place { line, column }))) => {
+        (Some(name), RunError::Text(error, Some(Location { line, column }))) => {
             eprintln!(host; "hexfilter: {name:?}: {error} (line {line}, column {column})")
         }
         (Some(name), RunError::Read(error)) => eprintln!(host; "hexfilter: {name:?}: {error}"),

@@ -1,52 +1,52 @@
 // Made by rust/erase from crates/hexfilter_core/src/scanner.rt. Do not edit.
-//! The text of an input: the input without what is left out.
+//! Removes whitespace and separators from an input, and tracks the line and column.
 
 use crate::std_shim::prelude::*;
 use crate::proved::groups::put;
+use crate::proved::location::Location;
 use crate::proved::mode::Reading;
-use crate::proved::place::Place;
 use crate::std_shim::simd::prelude::*;
 
-/// How many bytes are looked at together.
+/// The number of bytes that are compared at once.
 const LANES: usize = 32;
 
-/// How far an input was read.
+/// The state of a scanner of an input.
 #[derive(Clone, Copy, Debug)]
 pub(crate) struct Scanner {
-    /// How many characters came since the last separator, if there are groups.
+    /// The number of characters since the last separator, if there are groups.
     column: usize,
-    /// If bytes may be left out: the place of the next byte.
-    place: Place,
+    /// The location of the next byte, if bytes may be left out.
+    location: Location,
 }
 
 impl Scanner {
     /// A scanner that has read nothing.
     pub(crate) const START: Scanner = Scanner {
         column: 0,
-        place: Place::FIRST,
+        location: Location::FIRST,
     };
 
-    /// The place of the next byte.
-    pub(crate) fn place(self, reading: Reading) -> Option<Place> {
+    /// The location of the next byte.
+    pub(crate) fn location(self, reading: Reading) -> Option<Location> {
         if reading.leaves_out() {
-            return Some(self.place);
+            return Some(self.location);
         }
         None
     }
 
-    /// Reads a chunk. Puts what it adds to the text into the front of the output, and returns how long that is.
-    pub(crate) fn text(&mut self, reading: Reading, chunk: &[u8], output: &mut [u8]) -> usize {
+    /// Scans a chunk. Writes what it adds to the text to the front of the output, and returns the length.
+    pub(crate) fn scan(&mut self, reading: Reading, chunk: &[u8], output: &mut [u8]) -> usize {
         let mut scanner = *self;
         let mut done = 0;
         let mut end = 0;
         'runs: while done < chunk.len() {
-            let count = scanner.run(reading, &chunk[done..], &mut output[end..]);
+            let count = scanner.copy_run(reading, &chunk[done..], &mut output[end..]);
             done += count;
             end += count;
             if count == LANES || done == chunk.len() {
                 continue;
             }
-            let added = scanner.next(reading, chunk[done]);
+            let added = scanner.scan_byte(reading, chunk[done]);
             done += 1;
             end = put(added, output, end);
         }
@@ -54,44 +54,44 @@ impl Scanner {
         end
     }
 
-    /// Reads a byte, and returns what it adds to the text.
-    fn next(&mut self, reading: Reading, byte: u8) -> Option<u8> {
-        let (added, column) = step(reading, self.column, byte);
+    /// Scans a byte, and returns what it adds to the text.
+    fn scan_byte(&mut self, reading: Reading, byte: u8) -> Option<u8> {
+        let (added, column) = classify_byte(reading, self.column, byte);
         self.column = column;
-        self.place = self.place.after(byte);
+        self.location = self.location.after(byte);
         added
     }
 
-    /// Copies bytes before the next that is left out or is below 33, or fewer. Returns how many.
-    // By blocks, which takes less than half of the time of a byte at a time.
+    /// Copies a run of bytes that are not left out and not below 33, which may end early. Returns its length.
+    // Block by block, which takes less than half of the time of byte by byte.
     #[inline(always)]
-    fn run(&mut self, reading: Reading, chunk: &[u8], output: &mut [u8]) -> usize {
+    fn copy_run(&mut self, reading: Reading, chunk: &[u8], output: &mut [u8]) -> usize {
         let count = copy_block(chunk, output);
         if reading.groups.size == 0 {
-            self.place = self.place.right(count);
+            self.location = self.location.advance_by(count);
             return count;
         }
         let count = count.min(reading.groups.size.saturating_sub(self.column));
         self.column = self.column.saturating_add(count);
-        self.place = self.place.right(count);
+        self.location = self.location.advance_by(count);
         count
     }
 }
 
-/// Copies bytes of the first block, if there is one, before one that is below 33. Returns how many.
+/// Copies the bytes of the first block, if there is one, up to the first that is below 33. Returns their number.
 #[inline(always)]
 fn copy_block(chunk: &[u8], output: &mut [u8]) -> usize {
-    // The test of the first byte alone makes long runs of whitespace faster.
+    // Testing the first byte separately makes long runs of whitespace faster.
     if chunk.len() < LANES || chunk[0] <= b' ' {
         return 0;
     }
     let block = u8x32::from_slice(chunk);
     block.copy_to_slice(output);
-    count_digits(block)
+    count_above_space(block)
 }
 
-/// What a byte adds to the text, and how many characters then came since the last separator.
-fn step(reading: Reading, column: usize, byte: u8) -> (Option<u8>, usize) {
+/// What a byte adds to the text, and the number of characters since the last separator after it.
+fn classify_byte(reading: Reading, column: usize, byte: u8) -> (Option<u8>, usize) {
     let groups = reading.groups;
     let is_whole = groups.size > 0 && column == groups.size;
     if is_whole && byte == groups.separator {
@@ -107,13 +107,13 @@ fn step(reading: Reading, column: usize, byte: u8) -> (Option<u8>, usize) {
     (Some(if is_whole { 0 } else { byte }), next)
 }
 
-/// How many lanes come before the first with a space or a control character.
-fn count_digits(block: u8x32) -> usize {
-    let others = block.simd_lt(u8x32::splat(33)).to_bitmask();
-    if others == 0 {
+/// The number of lanes before the first space or control character.
+fn count_above_space(block: u8x32) -> usize {
+    let mask = block.simd_lt(u8x32::splat(33)).to_bitmask();
+    if mask == 0 {
         return LANES;
     }
-    others.trailing_zeros() as usize
+    mask.trailing_zeros() as usize
 }
 
 /// Whether the byte is whitespace.

@@ -1,5 +1,5 @@
 // Made by rust/erase from crates/hexfilter_core/src/stage.rt. Do not edit.
-//! What a run makes of its input, chunk after chunk.
+//! The state of a run, which encodes or decodes one chunk after another.
 
 use crate::std_shim::prelude::*;
 use crate::proved::error::RunError;
@@ -8,33 +8,33 @@ use crate::proved::mode::{Groups, Mode, Reading};
 use crate::proved::scanner::Scanner;
 use crate::std_shim::codec::{Decoder, FixedKernel, FromHexError, fill_text};
 
-/// How many bytes a chunk has at most.
+/// The maximum length of a chunk.
 pub(crate) const CHUNK: usize = 16_384;
 
-/// What a run has read and made.
+/// The state of a run.
 #[derive(Clone, Debug)]
 pub(crate) struct Stage {
-    /// Whether the prefix has yet to be written.
+    /// Whether the prefix must still be written.
     prefix: bool,
-    /// How many characters the last group has that was written.
+    /// The number of characters in the last group that was written.
     column: usize,
-    /// What has decoded the text, without what is left out.
+    /// The decoder of the text, from which bytes are left out.
     decoder: Decoder,
-    /// How far the input was read as a text.
+    /// The scanner of the input, which leaves out bytes.
     scanner: Scanner,
-    /// How many bytes of it were read, or `usize::MAX` for more.
-    read: usize,
+    /// The number of bytes that were read, or `usize::MAX` for more.
+    bytes_read: usize,
 }
 
 impl Stage {
-    /// A stage that has read nothing.
+    /// The state before the first chunk.
     pub(crate) fn new(mode: Mode) -> Stage {
         let mut stage = Stage {
             prefix: false,
             column: 0,
             decoder: Decoder::new(),
             scanner: Scanner::START,
-            read: 0,
+            bytes_read: 0,
         };
         match mode {
             Mode::Encode { prefix, .. } => {
@@ -45,17 +45,17 @@ impl Stage {
         }
     }
 
-    /// Reads the next chunk, or the end, if it is empty. Puts what the mode makes of it into the front of the output.
-    /// Returns the number of bytes there, which are all before the error, if there is one. The text is space for what
-    /// lies between.
-    pub(crate) fn next(
+    /// Encodes or decodes the next chunk into the front of the output. An empty chunk is the end of the input. Returns
+    /// the number of bytes written, which are all before the error, and the error, if there is one. `text` is a buffer
+    /// for intermediate text.
+    pub(crate) fn process_chunk(
         &mut self,
         mode: Mode,
         chunk: &[u8],
         text: &mut [u8],
         output: &mut [u8],
     ) -> (usize, Option<RunError>) {
-        let is_end = chunk.is_empty();
+        let is_eof = chunk.is_empty();
         match mode {
             Mode::Encode {
                 prefix: _,
@@ -63,15 +63,15 @@ impl Stage {
                 groups,
             } => {
                 let end = self.encode(upper, groups, chunk, text, output);
-                let newline = self.newline(groups, is_end);
+                let newline = self.last_newline(groups, is_eof);
                 (put(newline, output, end), None)
             }
-            Mode::Decode(_) if is_end => (0, self.finish()),
+            Mode::Decode(_) if is_eof => (0, self.finish()),
             Mode::Decode(reading) => self.decode(reading, chunk, text, output),
         }
     }
 
-    /// Encodes the next chunk into the front of the output. Returns the number of bytes there.
+    /// Encodes the next chunk into the front of the output. Returns the number of bytes written.
     fn encode(
         &mut self,
         upper: bool,
@@ -95,16 +95,16 @@ impl Stage {
         end
     }
 
-    /// The newline of a last line that has characters.
-    fn newline(&self, groups: Groups, is_end: bool) -> Option<u8> {
-        if is_end && groups.separator == b'\n' && self.column > 0 {
+    /// The newline after the last line, at the end of the input, unless this line is empty.
+    fn last_newline(&self, groups: Groups, is_eof: bool) -> Option<u8> {
+        if is_eof && groups.separator == b'\n' && self.column > 0 {
             return Some(b'\n');
         }
         None
     }
 
-    /// Decodes the next chunk into the front of the output. Returns the number of bytes there, which are all before the
-    /// error, if there is one. The text is space for the chunk.
+    /// Decodes the next chunk into the front of the output. Returns the number of bytes written, which are all before
+    /// the error, and the error, if there is one. `text` is a buffer for the text of the chunk.
     fn decode(
         &mut self,
         reading: Reading,
@@ -117,7 +117,7 @@ impl Stage {
             *self = next;
             return (count, None);
         }
-        // Byte by byte, up to the invalid character.
+        // The chunk has an invalid character: decode byte by byte up to it.
         let mut end = 0;
         'bytes: for done in 0..chunk.len() {
             let mut next = self.clone();
@@ -132,8 +132,8 @@ impl Stage {
         (end, None)
     }
 
-    /// Decodes a part of a chunk into the front of the output, and returns the number of bytes there. After an error,
-    /// this decoder cannot go on.
+    /// Decodes a part of a chunk into the front of the output, and returns the number of bytes written. After an error
+    /// this state must be discarded.
     fn decode_part(
         &mut self,
         reading: Reading,
@@ -141,26 +141,26 @@ impl Stage {
         text: &mut [u8],
         output: &mut [u8],
     ) -> Result<usize, FromHexError> {
-        self.read = self.read.saturating_add(part.len());
+        self.bytes_read = self.bytes_read.saturating_add(part.len());
         if reading.leaves_out() {
-            let count = self.scanner.text(reading, part, text);
+            let count = self.scanner.scan(reading, part, text);
             return decode_text(&mut self.decoder, reading, &text[..count], output);
         }
-        // Not by the scanner, which would copy the part: by rustc 1.95 for x86-64, hexfilter takes 0.5 million
-        // instructions in place of 0.8 to decode 262,144 digits.
+        // Without the scanner, which would copy the part: built with rustc 1.95 for x86-64, hexfilter then takes 0.5
+        // million instructions instead of 0.8 million to decode 262,144 digits.
         decode_text(&mut self.decoder, reading, part, output)
     }
 
-    /// The error that the next byte is invalid.
+    /// The error for an invalid next byte.
     fn error(&self, reading: Reading, byte: u8) -> RunError {
         let error = FromHexError::InvalidHexCharacter {
             c: char::from(byte),
-            index: self.read,
+            index: self.bytes_read,
         };
-        RunError::Text(error, self.scanner.place(reading))
+        RunError::Text(error, self.scanner.location(reading))
     }
 
-    /// Ends the input. Returns `OddLength` if the text has an odd number of digits.
+    /// Ends the input. Returns the error `OddLength` if the text has an odd number of digits.
     fn finish(&self) -> Option<RunError> {
         let end = self.clone();
         match end.decoder.finish() {
@@ -170,8 +170,8 @@ impl Stage {
     }
 }
 
-/// Decodes the next part of a text into the front of the output, or only checks it. Returns the number of
-/// bytes there.
+/// Decodes the next part of a text into the front of the output, or only checks it. Returns the number of bytes
+/// written.
 #[inline(always)]
 fn decode_text(
     decoder: &mut Decoder,

@@ -1,12 +1,12 @@
 // Made by rust/erase from crates/hexfilter_core/src/transfer.rt. Do not edit.
-//! Reads and writes that a signal may interrupt.
+//! Reads and writes that are retried after an interrupt.
 
 use crate::std_shim::prelude::*;
 use crate::proved::error::RunError;
 use crate::std_shim::io::{Error, ErrorKind, Read, Write};
 
 /// Reads into the front of the buffer, and returns the number of bytes, which is 0 only at the end.
-/// A call that a signal interrupts is made again.
+/// A call that a signal interrupts is retried.
 pub(crate) fn read_chunk<R: Read>(input: &mut R, buffer: &mut [u8]) -> Result<usize, RunError> {
     'reads: for _ in 0..u64::MAX {
         match input.read(buffer) {
@@ -27,8 +27,8 @@ pub(crate) fn too_many_reads() -> RunError {
     RunError::Read(Error::new(ErrorKind::TimedOut, "too many reads"))
 }
 
-/// Writes all the bytes. A call that a signal interrupts is made again.
-// `WriteSink` of const_hex has the same loop, but is private there, and does not exist in Rust.
+/// Writes all the bytes. A call that a signal interrupts is retried.
+// `WriteSink` of const_hex has the same loop, but keeps it private, and does not exist in Rust.
 pub(crate) fn write_piece<W: Write>(output: &mut W, piece: &[u8]) -> Result<(), RunError> {
     let mut done = 0;
     'writes: for _ in 0..u64::MAX {
@@ -48,7 +48,7 @@ pub(crate) fn write_piece<W: Write>(output: &mut W, piece: &[u8]) -> Result<(), 
     Err(write_error(ErrorKind::TimedOut, "too many writes"))
 }
 
-/// Flushes. A call that a signal interrupts is made again.
+/// Flushes. A call that a signal interrupts is retried.
 pub(crate) fn flush<W: Write>(output: &mut W) -> Result<(), RunError> {
     'flushes: for _ in 0..u64::MAX {
         match output.flush() {

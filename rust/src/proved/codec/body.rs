@@ -1,6 +1,6 @@
 // Made by rust/erase from crates/const_hex/src/codec/body.rt. Do not edit.
-//! The body of a text, which is what follows the prefix: the rule of the prefix, the first invalid
-//! character, and decoding by a kernel.
+//! The body of a text, which is what follows the prefix: removing the prefix, finding the first invalid
+//! character, and decoding with a kernel.
 
 use crate::std_shim::prelude::*;
 use crate::proved::error::FromHexError;
@@ -25,10 +25,10 @@ pub(crate) const fn strip_even(text: &[u8]) -> Result<&[u8], FromHexError> {
 }
 
 /// Whether two bytes are `0x` or `0X`.
-// Constant time: both characters are compared as one number of 16 bits, the first one as its lower byte. If
-// they were compared one after the other, a valid text without a prefix would take another path when its
-// first digit is `0`.
-// `0X` has the distance 0 and `0x` 0x2000. Without the subtraction LLVM loads the two characters one by one.
+// Constant time: both characters are compared at once, as a 16-bit number whose lower byte is the first one. If they
+// were compared one after the other, a valid text without a prefix would take another branch when its first digit is
+// `0`. The distance from `0X` is 0 for `0X` and 0x2000 for `0x`. Without the subtraction LLVM loads the characters one
+// by one.
 #[inline(always)]
 pub(crate) const fn is_prefix(first: u8, second: u8) -> bool {
     let distance = u16::from_le_bytes([first, second]).wrapping_sub(0x5830);
@@ -36,14 +36,14 @@ pub(crate) const fn is_prefix(first: u8, second: u8) -> bool {
 }
 
 /// Whether both bytes are digits.
-// NIL alone has the highest bit, so one test serves for both.
+// Only NIL has the highest bit set, so one test of the OR suffices.
 #[inline(always)]
 pub(crate) fn are_digits(first: u8, second: u8) -> bool {
     value_at(first) | value_at(second) < 128
 }
 
-/// The error that names the first byte of a text's body that is not a digit, and its position in the
-/// whole text. The text must have an even length.
+/// The error with the first byte of a text's body that is not a digit, and its position in the whole text. The text
+/// must have an even length.
 #[inline(always)]
 pub(crate) fn find_invalid_character<K: Kernel>(text: &[u8]) -> FromHexError {
     let (c, index) = locate_invalid::<K>(text);
@@ -52,7 +52,8 @@ pub(crate) fn find_invalid_character<K: Kernel>(text: &[u8]) -> FromHexError {
 
 /// The first byte after the prefix that is not a digit, and its position in the whole text. If there is
 /// none, a NUL character and the length of the text.
-// Not inlined, and of the text alone: so the search stands once, and the public decoders keep nothing for it but that.
+// Not inlined, and only the text is passed: so the search is compiled once, and the public decoders keep only the text
+// for it.
 #[cold]
 #[inline(never)]
 fn locate_invalid<K: Kernel>(text: &[u8]) -> (char, usize) {
@@ -61,7 +62,7 @@ fn locate_invalid<K: Kernel>(text: &[u8]) -> (char, usize) {
     (byte as char, index + (text.len() - body.len()))
 }
 
-/// The error that names a byte and its position.
+/// The error with a byte and its position.
 #[inline(always)]
 pub(crate) const fn invalid_character(byte: u8, index: usize) -> FromHexError {
     FromHexError::InvalidHexCharacter {
@@ -79,25 +80,25 @@ pub(crate) fn find_first_invalid<K: Kernel>(text: &[u8]) -> (u8, usize) {
     } else {
         skip_halves::<K>(text)
     };
-    find_first_invalid_from(text, skip_fours(text, start))
+    find_first_invalid_from(text, skip_digits_by_four(text, start))
 }
 
-/// Where to search for the first byte that is not a digit: all bytes before are digits. The kernel checks the first half
-/// of the text, then that of the half that has an invalid byte, and so on.
-// Not inlined: so `machine_code` proves it once, and takes its contract where it is called. It proves no call in a loop.
+/// An index before which all bytes are digits, found by binary search: the kernel checks the first half of the text,
+/// then the first half of the half that has an invalid byte, and so on.
+// Not inlined: so `machine_code` proves it once, and uses its contract at the call. It cannot prove a call in a loop.
 #[inline(never)]
 fn skip_halves<K: Kernel>(text: &[u8]) -> usize {
-    let start = skip_run::<K>(text, 0, text.len() / 2);
-    let start = skip_run::<K>(text, start, text.len() / 4);
-    let start = skip_run::<K>(text, start, text.len() / 8);
-    let start = skip_run::<K>(text, start, text.len() / 16);
-    let start = skip_run::<K>(text, start, text.len() / 32);
-    skip_run::<K>(text, start, text.len() / 64)
+    let start = skip_if_digits::<K>(text, 0, text.len() / 2);
+    let start = skip_if_digits::<K>(text, start, text.len() / 4);
+    let start = skip_if_digits::<K>(text, start, text.len() / 8);
+    let start = skip_if_digits::<K>(text, start, text.len() / 16);
+    let start = skip_if_digits::<K>(text, start, text.len() / 32);
+    skip_if_digits::<K>(text, start, text.len() / 64)
 }
 
-/// Skips a run of this size after the first digits, if it has only digits. Returns the index after it.
+/// Skips `size` bytes from `start` on, if all of them are digits. Returns the new index.
 #[inline(always)]
-fn skip_run<K: Kernel>(text: &[u8], start: usize, size: usize) -> usize {
+fn skip_if_digits<K: Kernel>(text: &[u8], start: usize, size: usize) -> usize {
     let end = start + size;
     if K::check(&text[start..end]) {
         end
@@ -106,9 +107,9 @@ fn skip_run<K: Kernel>(text: &[u8], start: usize, size: usize) -> usize {
     }
 }
 
-/// As `find_first_invalid`, for a text that begins with that many digits.
-// A caller that has already seen an invalid character may get the NUL character, if another process has
-// removed it from shared memory in between. Nothing is read out of bounds then.
+/// As `find_first_invalid`, for a text whose first `start` bytes are digits.
+// A caller that has already seen an invalid character may still get the NUL character, if another process has changed
+// shared memory in between. Nothing is read out of bounds then.
 #[inline(always)]
 pub(crate) const fn find_first_invalid_from(text: &[u8], start: usize) -> (u8, usize) {
     let mut index = start;
@@ -122,11 +123,11 @@ pub(crate) const fn find_first_invalid_from(text: &[u8], start: usize) -> (u8, u
     (0, index)
 }
 
-/// Skips digits after the first ones, two pairs per iteration while four bytes are left, and stops before the first pair
-/// that has another byte. Returns the index there.
-// With the last index at which four bytes are left, LLVM needs no test of an index in Rust either.
+/// Skips digits from `start` on, four per iteration while four bytes are left, and stops before the first pair with an
+/// invalid byte. Returns the index there.
+// With `last` as the bound of the loop, LLVM removes the bounds checks in Rust, too.
 #[inline(always)]
-fn skip_fours(text: &[u8], start: usize) -> usize {
+fn skip_digits_by_four(text: &[u8], start: usize) -> usize {
     let mut index = start;
     if text.len() >= 4 {
         let last = text.len() - 4;
@@ -146,10 +147,9 @@ fn skip_fours(text: &[u8], start: usize) -> usize {
 /// Decodes the body into the output and returns true. Returns false if some byte is not a digit.
 /// The kernel decides whether the body is checked first. The body must have two bytes for each byte
 /// of the output.
-// The contract is that of `Kernel::decode_checked`. As in const-hex, the codec goes over a text twice for
-// a kernel that says so.
-// A kernel that checks first may itself be a `CheckFirst`. Then this runs its `check` once, and its
-// `decode_unchecked`: `CheckFirst` calls these two of its kernel, and never `decode_checked`.
+// The contract is that of `Kernel::decode_checked`. As in const-hex, a kernel with USE_CHECK_FN checks the whole text
+// before it is decoded. If that kernel is itself a `CheckFirst`, its `check` still runs only once: `CheckFirst` calls
+// the `check` and the `decode_unchecked` of its kernel, and never `decode_checked`.
 #[inline(always)]
 pub(crate) fn decode_body<K: Kernel>(body: &[u8], output: &mut [u8]) -> bool {
     if K::USE_CHECK_FN {

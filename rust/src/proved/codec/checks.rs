@@ -1,5 +1,5 @@
 // Made by rust/erase from crates/const_hex/src/codec/checks.rt. Do not edit.
-//! Whether a text can be decoded.
+//! Checking whether a text can be decoded.
 
 use crate::std_shim::prelude::*;
 use crate::proved::codec::body::{
@@ -18,7 +18,7 @@ pub fn check(input: &[u8]) -> Result<(), FromHexError> {
     check_with::<FixedKernel>(input)
 }
 
-/// As [`check`], by a kernel of the caller's choice. Does not allocate.
+/// As [`check`], with a kernel of the caller's choice. Does not allocate.
 #[inline]
 pub fn check_with<K: Kernel>(input: &[u8]) -> Result<(), FromHexError> {
     let body = strip_even(input)?;

@@ -1,5 +1,5 @@
 // Made by rust/erase from crates/const_hex/src/codec/decoder.rt. Do not edit.
-//! Decoding a text that arrives in chunks.
+//! The streaming decoder, for a text that arrives in chunks.
 
 use crate::std_shim::prelude::*;
 use crate::proved::codec::body::{
@@ -8,11 +8,11 @@ use crate::proved::codec::body::{
 use crate::proved::error::FromHexError;
 use crate::proved::{FixedKernel, Kernel, is_digit};
 
-/// The state of a decoder that has neither half of a pair nor an error.
+/// The state of a decoder without a pending digit and without an error.
 const EVEN: u8 = 0;
-/// The state of a decoder whose byte is a digit that waits for its other half.
-const WAITING: u8 = 1;
-/// The state of a decoder that found an invalid character.
+/// The state of a decoder whose `byte` is the pending first digit of a pair.
+const PENDING: u8 = 1;
+/// The state of a decoder after an invalid character, which is its `byte`.
 const FAILED: u8 = 2;
 
 /// Decodes a text that arrives in chunks, as from a file or a socket.
@@ -21,17 +21,16 @@ const FAILED: u8 = 2;
 /// digits, or into empty chunks. Only a prefix at the start of the whole text is removed.
 ///
 /// Pass each chunk to [`decode`](Decoder::decode), and call [`finish`](Decoder::finish) at the end
-/// of the text. [`decode_to_slice`](crate::decode_to_slice) names an odd length before any invalid
-/// character. A decoder cannot: it names the first invalid character at once, and an odd length at
+/// of the text. [`decode_to_slice`](crate::decode_to_slice) reports an odd length before any invalid
+/// character. A decoder cannot: it reports the first invalid character at once, and an odd length at
 /// the end.
-// Calls for C take this struct as it is. Its bytes may then have any values, and if all are zero it
-// is a new decoder.
+// The C interface exposes this struct: its bytes may then have any values, and all zeros are a new decoder.
 #[repr(C)]
 #[derive(Clone, Copy, Debug)]
 pub struct Decoder {
-    /// How many bytes were read, or the position of the invalid character.
+    /// The number of bytes that were read, or the position of the invalid character.
     index: usize,
-    /// The digit that waits, or the invalid character.
+    /// The pending digit, or the invalid character.
     byte: u8,
     state: u8,
 }
@@ -51,8 +50,8 @@ impl Decoder {
     /// their number. The rest of the output is unchanged.
     ///
     /// A chunk of n characters decodes to at most (n + 1) / 2 bytes, so an output of that size always
-    /// suffices. A digit without its other half is kept for the next chunk. The first of these errors
-    /// is returned:
+    /// suffices. The first digit of an incomplete pair is stored for the next chunk. The first of these
+    /// errors is returned:
     ///
     /// - [`FromHexError::InvalidHexCharacter`], if an earlier chunk had an invalid character: the
     ///   same error again. Nothing changes;
@@ -69,8 +68,8 @@ impl Decoder {
         self.decode_with::<FixedKernel>(chunk, output)
     }
 
-    /// As [`decode`](Decoder::decode), by a kernel of the caller's choice. Each chunk may have
-    /// another. Does not allocate.
+    /// As [`decode`](Decoder::decode), with a kernel of the caller's choice, which may differ from chunk
+    /// to chunk. Does not allocate.
     #[inline]
     pub fn decode_with<K: Kernel>(
         &mut self,
@@ -80,15 +79,15 @@ impl Decoder {
         if let Some(error) = self.error() {
             return Err(error);
         }
-        let (waiting, digits) = self.next_digits(chunk);
-        let count = count_pairs(waiting, digits);
+        let (pending, digits) = self.next_digits(chunk);
+        let count = count_pairs(pending, digits);
         if count > output.len() {
             return Err(FromHexError::InvalidStringLength);
         }
-        if !decode_next::<K>(waiting, digits, &mut output[..count]) {
+        if !decode_next::<K>(pending, digits, &mut output[..count]) {
             return Err(self.fail::<K>(chunk.len() - digits.len(), digits));
         }
-        self.advance(chunk.len(), left_over(waiting, digits, count));
+        self.advance(chunk.len(), left_over(pending, digits, count));
         Ok(count)
     }
 
@@ -101,17 +100,17 @@ impl Decoder {
         if let Some(error) = self.error() {
             return Err(error);
         }
-        let (waiting, digits) = self.next_digits(chunk);
+        let (pending, digits) = self.next_digits(chunk);
         if !FixedKernel::check(digits) {
             return Err(self.fail::<FixedKernel>(chunk.len() - digits.len(), digits));
         }
-        let pairs = count_pairs(waiting, digits);
-        self.advance(chunk.len(), left_over(waiting, digits, pairs));
+        let pairs = count_pairs(pending, digits);
+        self.advance(chunk.len(), left_over(pending, digits, pairs));
         Ok(())
     }
 
-    /// Ends the text. `Ok` if it was read whole: then the chunks together are a text that
-    /// [`decode`](crate::decode) accepts.
+    /// Ends the text. Returns `Ok` if the chunks together are a text that [`decode`](crate::decode)
+    /// accepts.
     ///
     /// Returns [`FromHexError::OddLength`] if the text has an odd number of bytes and no invalid
     /// character, so also for a lone `0`. If a chunk had an invalid character, returns its error again.
@@ -121,7 +120,7 @@ impl Decoder {
         if let Some(error) = self.error() {
             return Err(error);
         }
-        if self.state == WAITING {
+        if self.state == PENDING {
             return Err(FromHexError::OddLength);
         }
         Ok(())
@@ -134,26 +133,26 @@ impl Decoder {
         self.index
     }
 
-    /// The error that ended the text.
+    /// The stored error, if a chunk had an invalid character.
     #[inline(always)]
     fn error(&self) -> Option<FromHexError> {
-        if self.state <= WAITING {
+        if self.state <= PENDING {
             return None;
         }
         Some(invalid_character(self.byte, self.index))
     }
 
-    /// The digit that waits for its other half.
+    /// The pending digit, if there is one.
     #[inline(always)]
-    fn waiting(&self) -> Option<u8> {
-        if self.state == WAITING {
+    fn pending(&self) -> Option<u8> {
+        if self.state == PENDING {
             Some(self.byte)
         } else {
             None
         }
     }
 
-    /// The digit that waits and the digits that follow, if this chunk follows.
+    /// The pending digit and the digits of the next chunk. A prefix is removed, even if it began in an earlier chunk.
     #[inline(always)]
     fn next_digits<'a>(&self, chunk: &'a [u8]) -> (Option<u8>, &'a [u8]) {
         if self.index == 0 {
@@ -161,25 +160,25 @@ impl Decoder {
         }
         match chunk {
             [x, rest @ ..] if self.index == 1 && is_prefix(self.byte, *x) => (None, rest),
-            _ => (self.waiting(), chunk),
+            _ => (self.pending(), chunk),
         }
     }
 
-    /// Goes on after so many bytes, with the digit that waits now.
+    /// Advances by `count` bytes, and stores the pending digit.
     #[inline(always)]
-    fn advance(&mut self, count: usize, waiting: Option<u8>) {
+    fn advance(&mut self, count: usize, pending: Option<u8>) {
         self.index = self.index.saturating_add(count);
-        match waiting {
+        match pending {
             Some(digit) => {
                 self.byte = digit;
-                self.state = WAITING;
+                self.state = PENDING;
             }
             None => self.state = EVEN,
         }
     }
 
-    /// Ends with the first invalid character of these digits, which stand so many bytes after what was
-    /// read.
+    /// Stores the error for the first invalid character of these digits, which begin `skipped` bytes after what was
+    /// read, and returns it.
     #[cold]
     #[inline]
     fn fail<K: Kernel>(&mut self, skipped: usize, digits: &[u8]) -> FromHexError {
@@ -194,33 +193,33 @@ impl Decoder {
     }
 }
 
-/// How many pairs there are.
+/// The number of pairs.
 #[inline(always)]
-fn count_pairs(waiting: Option<u8>, digits: &[u8]) -> usize {
-    (digits.len() + usize::from(waiting.is_some())) / 2
+fn count_pairs(pending: Option<u8>, digits: &[u8]) -> usize {
+    (digits.len() + usize::from(pending.is_some())) / 2
 }
 
-/// The digit after so many pairs, if there is one.
+/// The digit after `count` pairs, if there is one.
 #[inline(always)]
-fn left_over(waiting: Option<u8>, digits: &[u8], count: usize) -> Option<u8> {
-    match (waiting, digits) {
+fn left_over(pending: Option<u8>, digits: &[u8], count: usize) -> Option<u8> {
+    match (pending, digits) {
         (None, [.., last]) if digits.len() > 2 * count => Some(*last),
         (Some(_), [.., last]) if digits.len() == 2 * count => Some(*last),
-        (Some(_), []) => waiting,
+        (Some(_), []) => pending,
         _ => None,
     }
 }
 
 /// Decodes the pairs into the output and returns true. Returns false if some byte is not a digit.
 #[inline(always)]
-fn decode_next<K: Kernel>(waiting: Option<u8>, digits: &[u8], output: &mut [u8]) -> bool {
-    match waiting {
+fn decode_next<K: Kernel>(pending: Option<u8>, digits: &[u8], output: &mut [u8]) -> bool {
+    match pending {
         Some(high) => decode_after::<K>(high, digits, output),
         None => decode_digits::<K>(digits, output),
     }
 }
 
-/// As `decode_next`, after a digit that waits.
+/// As `decode_next`, after a pending digit.
 // Not inlined: with this body `decode_with` would be too large to be inlined.
 #[inline(never)]
 fn decode_after<K: Kernel>(high: u8, digits: &[u8], output: &mut [u8]) -> bool {
@@ -233,7 +232,7 @@ fn decode_after<K: Kernel>(high: u8, digits: &[u8], output: &mut [u8]) -> bool {
     }
 }
 
-/// Decodes the digits into the output and returns true. A last digit without its other half is only
+/// Decodes the digits into the output and returns true. The last digit of an odd number is only
 /// tested. Returns false if some byte is not a digit.
 #[inline(always)]
 fn decode_digits<K: Kernel>(digits: &[u8], output: &mut [u8]) -> bool {
@@ -242,7 +241,7 @@ fn decode_digits<K: Kernel>(digits: &[u8], output: &mut [u8]) -> bool {
 }
 
 /// Whether the byte after the pairs, if there is one, is a digit.
-// Not by `K::check`, which a caller in C would have to call through the dispatcher for one byte.
+// Without `K::check`: called from C, that would go through the dispatcher for a single byte.
 #[inline(always)]
 fn check_last(last: &[u8]) -> bool {
     match last {

@@ -1,5 +1,5 @@
 // Made by rust/erase from crates/const_hex/src/codec/decoders.rt. Do not edit.
-//! Decoding a whole text.
+//! Decoding a complete text.
 
 use crate::std_shim::prelude::*;
 use crate::proved::codec::body::{decode_body, find_invalid_character, strip_even, strip_prefix};
@@ -24,7 +24,7 @@ pub fn decode_to_slice(input: &[u8], output: &mut [u8]) -> Result<(), FromHexErr
     decode_to_slice_with::<FixedKernel>(input, output)
 }
 
-/// As [`decode_to_slice`], by a kernel of the caller's choice. If the kernel checks a text before
+/// As [`decode_to_slice`], with a kernel of the caller's choice. If the kernel checks a text before
 /// it decodes, every error leaves the output unchanged. Does not allocate.
 #[inline]
 pub fn decode_to_slice_with<K: Kernel>(input: &[u8], output: &mut [u8]) -> Result<(), FromHexError> {
@@ -41,7 +41,7 @@ pub fn decode_to_slice_with<K: Kernel>(input: &[u8], output: &mut [u8]) -> Resul
 /// Decodes a text, with or without a prefix, in either case, to the front of the output, and returns
 /// the number of bytes. The rest of the output is unchanged.
 ///
-/// The text must be whole. If it comes in chunks, use a [`Decoder`](crate::Decoder): this call would
+/// The text must be complete. If it arrives in chunks, use a [`Decoder`](crate::Decoder): this call would
 /// remove a prefix from each chunk.
 ///
 /// The first of these errors is returned:
@@ -59,7 +59,7 @@ pub fn decode_to_front(input: &[u8], output: &mut [u8]) -> Result<usize, FromHex
     decode_to_front_with::<FixedKernel>(input, output)
 }
 
-/// As [`decode_to_front`], by a kernel of the caller's choice. Does not allocate.
+/// As [`decode_to_front`], with a kernel of the caller's choice. Does not allocate.
 #[inline]
 pub fn decode_to_front_with<K: Kernel>(
     input: &[u8],

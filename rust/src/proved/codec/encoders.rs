@@ -56,7 +56,7 @@ pub fn encode_full_to_slice(
     encode_full_to_slice_with::<FixedKernel>(input, prefix, upper, output)
 }
 
-/// As [`encode_full_to_slice`], by a kernel of the caller's choice. Does not allocate.
+/// As [`encode_full_to_slice`], with a kernel of the caller's choice. Does not allocate.
 #[inline]
 pub fn encode_full_to_slice_with<K: Kernel>(
     input: &[u8],
@@ -71,7 +71,7 @@ pub fn encode_full_to_slice_with<K: Kernel>(
     Ok(())
 }
 
-/// Fills the output with the text of the input, in lowercase, and lends it as text.
+/// Fills the output with the text of the input, in lowercase, and returns it as a `&str`.
 ///
 /// The output must have exactly two bytes for each byte of the input. Otherwise returns
 /// [`FromHexError::InvalidStringLength`], and the output is unchanged. Does not allocate.

@@ -27,11 +27,11 @@ use denote.Text.{str-field, str-laws, str-copy}
 use Rattle.std.specs.Borrow.{Array, full_share}
 use Rattle.std.specs.Io.BufRead.{Rests}
 use Rattle.const_hex.specs.Prelude.{hex_text, InvalidStringLength}
-use Rattle.const_hex.specs.contracts.error.FromHexError as refusal
+use Rattle.const_hex.specs.contracts.error.FromHexError as hex_error
 use Rattle.const_hex.specs.contracts.codec.encoders.encode_to_str as e
 use Rattle.const_hex.specs.contracts.codec.encoders.encode_into as g
 use Rattle.const_hex.specs.contracts.codec.encoders.encoded_text as h
-use Rattle.const_hex.proofs.error.FromHexError.TheLaws as refusal_laws
+use Rattle.const_hex.proofs.error.FromHexError.TheLaws as hex_error_laws
 use Rattle.const_hex.proofs.lemmas.Walks.{flag, flag_lit}
 
 -- what the slice holds at the end, and what the result borrows of it
@@ -39,8 +39,8 @@ ends : {A : Type 0} {m k : ℕ} {text old new : List ℕ} (r : Result (Bor (List
     → IfOk r (λ w. w.now ≡ new)
     → ((k ≡ m) → new ≡ text) → ((k ≢ m) → new ≡ old)
     → IfOk r (λ w. w.now ≡ text) × MatchResult r (λ _. new ≡ text) (λ _. new ≡ old)
-ends (Ok w) fits lent filled kept = let e = filled (fits.0 refl) in (lent ∙ e, e)
-ends (Err e) fits lent filled kept = (tt, kept (λ k. cc (fits.1 k)))
+ends (Ok w) fits lent filled unchanged = let e = filled (fits.0 refl) in (lent ∙ e, e)
+ends (Err e) fits lent filled unchanged = (tt, unchanged (λ k. cc (fits.1 k)))
 
 abbrev code_of : Bool → Fn
 code_of up = record {
@@ -160,7 +160,7 @@ module _ {M : Type 1} (𝓤 : Ura M) (𝓛 : Logic 𝓤) (𝓜 : Model 𝓤 𝓛
       await ! tt $ pick !
       (λ s. split ! $ split ! $ move ! (2 ∷ []) $ pick !
       (λ ws. split ! $ drop ! $ split ! $ heard ! _ (λ same. split ! $ heard ! _ (λ long.
-      split ! $ heard ! _ (λ filled. split ! $ heard ! _ (λ ascii. heard ! _ (λ kept.
+      split ! $ heard ! _ (λ filled. split ! $ heard ! _ (λ ascii. heard ! _ (λ unchanged.
       -- [the tokens; the slice; the input; the locals]
       move ! (1 ∷ []) $ peeks ! Out (Is Out) (shows 𝓛 Out) s (v ∷ []) (λ repr.
       rewrite ! 0 (λ (vs : List Val). ‵ (Out.own_val s vs)) repr.0.0 refl $
@@ -194,14 +194,14 @@ module _ {M : Type 1} (𝓤 : Ura M) (𝓛 : Logic 𝓤) (𝓜 : Model 𝓤 𝓛
       -- [the tokens; the result; how the slice ends; the locals]
       move ! (1 ∷ []) $ peeks ! Returned (Is Returned) (shows 𝓛 Returned) r (v' ∷ []) (λ repr'.
       let text_laws = of_field (str-field loan) (str-laws loan) refl (copy_shared (str-field loan) (str-copy loan)) in
-      let typed = (((result_laws (str-field loan).row refusal.the_row text_laws refusal_laws.the_row_laws).lawful
+      let typed = (((result_laws (str-field loan).row hex_error.the_row text_laws hex_error_laws.the_row_laws).lawful
       𝓛).typed r _ repr').0 in
       lands_as ! refl refl typed $
       returns ! (look_at ! 0 refl) $ free_all ! refl $
       suffices ! _
       (ends_at 𝓛 e.ended hs c ((κs, qs, bounds, a, (shr_slice_vals x, (mut_slice_vals o, tt))), tt) v' r (tt, (tt, tt))
       (tt, (tt, tt))) $
-      let ended = ends r fits lent filled kept in
+      let ended = ends r fits lent filled unchanged in
       move ! (2 ∷ []) $ use1 𝓛
       (‵ (Rests (Array u8 0) o (λ new. MatchResult r (λ _. new ≡ hex_text up x.now) (λ _. new ≡ o.now))))
       (Rests-of o (λ new. MatchResult r (λ _. new ≡ hex_text up x.now) (λ _. new ≡ o.now)) s.now ended.1) $

@@ -27,7 +27,7 @@ nothing status in_before in_after out_before out_after (done, text, partly_writt
     let (e, location, (x, y, read, (bytes, fails, output_eq), wrote)) = text one in
     nothing_written out_before out_after y output_eq wrote
 nothing status in_before in_after out_before out_after (done, text, partly_written, inr (inr three)) =
-    let (x, y, read, (bytes, spelled, output_eq), wrote) = partly_written three in
+    let (x, y, read, (bytes, decodes, output_eq), wrote) = partly_written three in
     nothing_written out_before out_after y output_eq wrote
 
 pub returns : goal.returns

@@ -47,6 +47,6 @@ returns-clause-invalid g c = λ b i location result_eq.
 pub returns-clause-partly_written : goal.returns-clause-partly_written
 returns-clause-partly_written g c =
     on_err_weaker c.run.result (λ part.
-    let (x, y, read, (bytes, spelled, output_eq), wrote) = part in
-    let partly_written : Spells (take (2 * length bytes) (body_of x)) bytes = rw (text_plain plain x refl) at spelled in
+    let (x, y, read, (bytes, decodes, output_eq), wrote) = part in
+    let partly_written : Spells (take (2 * length bytes) (body_of x)) bytes = rw (text_plain plain x refl) at decodes in
     (x, y, read, rw output_eq partly_written, wrote)) c.run.ensures.partly_written
