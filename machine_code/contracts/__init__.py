@@ -1,1 +1,1 @@
-"""Trusted: what is claimed of the functions."""
+"""Trusted: the contracts, which say what is proved of each function."""

@@ -1,8 +1,9 @@
-"""How those that call a function use its contract, which is proved of it.
+"""Function summaries: what a caller gets from the contract of a callee, which is proved of that.
 
-A contract says in `requires` what it asks for, and in `called` what holds after a call. What is
-written to a buffer is compared as any other store is: at an arbitrary index. If more followed here
-than what is proved, or less were asked for, a wrong caller could be accepted.
+The precondition `requires` is proved at a call, and `summary` has the states after it. What a callee
+writes to a buffer is checked as any other store is, at an arbitrary index. If a summary said more
+than what is proved of the callee, or if a precondition were left out, a wrong caller could be
+accepted.
 """
 
 import functools
@@ -10,112 +11,115 @@ import functools
 import z3
 
 from contracts.functions import is_digit
-from execution.terms import byte, fresh_public, simple, word
-from solver.questions import is_public, names, require
+from execution.terms import bv64, bv8, fresh_public, simplify
+from solver.questions import free_constants, is_public, require
 
 
-def effects(contracts):
-    """What functions do by their contracts, by the names that others call them with."""
-    return {contract.called_as: functools.partial(_called, contract) for contract in contracts}
+def summaries(contracts):
+    """The summaries of some contracts, by the names of the functions where they are called."""
+    return {
+        contract.name_at_call_sites: functools.partial(_apply, contract) for contract in contracts
+    }
 
 
-def _called(contract, state):
-    """The states after a call of a function, each with the result, if there is one. It takes the
-    state at the first instruction of the function."""
-    passed = list(zip(contract.arguments, state.arguments(len(contract.arguments))))
-    condition = simple(
-        z3.And(*[z3.substitute(condition, *passed) for condition in contract.requires])
+def _apply(contract, state):
+    """The states after a call, each with the result, if there is one. `state` is the one at the
+    first instruction of the callee."""
+    bindings = list(zip(contract.arguments, state.arguments(len(contract.arguments))))
+    precondition = simplify(
+        z3.And(*[z3.substitute(condition, *bindings) for condition in contract.requires])
     )
     require(
-        state.is_declassified or is_public(condition),
+        state.is_declassified or is_public(precondition),
         "an argument depends on bytes that are secret",
     )
-    state.prove(condition, "arguments that the contract does not allow")
-    arguments = {formal.decl().name(): given for formal, given in passed}
-    is_constant = not contract.is_declassified and all(map(is_public, arguments.values()))
+    state.prove(precondition, "arguments that violate the precondition")
+    arguments = {parameter.decl().name(): argument for parameter, argument in bindings}
+    is_constant_time = not contract.is_declassified and all(map(is_public, arguments.values()))
     require(
-        state.is_declassified or is_constant,
+        state.is_declassified or is_constant_time,
         "how long a call takes may depend on bytes that are secret",
     )
-    if path := state.branch(condition):
-        yield from contract.called(path, **arguments)
+    if path := state.branch(precondition):
+        yield from contract.summary(path, **arguments)
 
 
 def arbitrary_index(state, count):
-    """The state with an index below a count, or None if there is none; and the index."""
-    index = word(0) if state.is_valid(count == 1) else fresh_public(64)
-    return state.branch(z3.ULT(index, count)), index
+    """The state with an arbitrary index i below a count, or None if the count is 0; and i."""
+    i = bv64(0) if state.is_valid(count == 1) else fresh_public(64)
+    return state.branch(z3.ULT(i, count)), i
 
 
 def offset_in(state, name, address):
-    return simple(address - state.regions[name].base)
+    """The offset of an address in a region."""
+    return simplify(address - state.regions[name].base)
 
 
-def is_in(name, address):
-    return name in names(address)
+def is_in_region(name, address):
+    """Whether an address has the base of a region."""
+    return name in free_constants(address)
 
 
-def write(state, address, data):
-    """What a kernel writes is compared with the contract of its caller, so it has to go to the
-    output."""
-    require(is_in("output", address), "a kernel writes to what is no output")
+def write_to_output(state, address, data):
+    """A store by a kernel. It has to go to the output, where the caller's contract checks it."""
+    require(is_in_region("output", address), "a kernel writes outside of the output")
     state.store(address, data)
 
 
-def checked(state, text, count):
-    """The state in which all characters are digits, and the one in which some are not, each with
-    the result. In the second, time may depend on the text if it is no valid one."""
-    is_input = is_in("input", text)
-    at_index, index = arbitrary_index(state, count)
-    if not at_index:
+def check_states(state, text, count):
+    """The state where all characters of a text are digits, and the one where some are not, each with
+    the result. The second one is declassified if no valid input leads there."""
+    is_input = is_in_region("input", text)
+    state_at_i, i = arbitrary_index(state, count)
+    if not state_at_i:
         return [(state, 1)]
-    if is_input:  # of which any character is read
-        characters = at_index.load(simple(text + index), 1)
+    if is_input:
+        characters = state_at_i.load(simplify(text + i), 1)
+        are_digits = z3.And(*map(is_digit, characters))
+        accepted = state.assuming_digits(offset_in(state, "input", text), count)
     else:
         state.prove(count == 2, "text that is neither in the input nor a pair")
-        at_index, characters = state, state.load(text, 2)
-    are_digits = z3.And(*map(is_digit, characters))
-    true = (
-        state.with_digits(offset_in(state, "input", text), count)
-        if is_input
-        else state.branch(are_digits)
-    )
-    input_is_valid = at_index.truth_for_valid_input(are_digits)
+        state_at_i, characters = state, state.load(text, 2)
+        are_digits = z3.And(*map(is_digit, characters))
+        accepted = state.branch(are_digits)
+    truth = state_at_i.truth_for_valid_input(are_digits)
     require(
-        input_is_valid is not False,
+        truth is not False,
         "text that is never valid is read: its bytes may decide how long that takes",
     )
-    if false := at_index.branch(z3.Not(are_digits)):
-        false.is_declassified |= input_is_valid is True
-    return [(path, result) for path, result in ((true, 1), (false, 0)) if path]
+    if rejected := state_at_i.branch(z3.Not(are_digits)):
+        rejected.is_declassified |= truth is True
+    return [(path, result) for path, result in ((accepted, 1), (rejected, 0)) if path]
 
 
-def read_any(state, text, count):
-    """Each of so many characters of the input may be read."""
-    at_index, index = arbitrary_index(state, count)
-    if at_index:
-        require(is_in("input", text), "a search in what is no input")
-        at_index.load(simple(text + index), 1)
+def read_arbitrary_index(state, text, count):
+    """A load of an arbitrary one of the first `count` characters of a text in the input."""
+    state_at_i, i = arbitrary_index(state, count)
+    if state_at_i:
+        require(is_in_region("input", text), "a search outside of the input")
+        state_at_i.load(simplify(text + i), 1)
 
 
-def skipped(state, text, count):
-    """The state after digits were skipped, with the index after them."""
-    read_any(state, text, count)
+def skip_states(state, text, count):
+    """The state after some digits were skipped, with the index after them."""
+    read_arbitrary_index(state, text, count)
     index = fresh_public(64)
     after = state.branch(z3.ULE(index, count))
-    if after := after.with_digits(offset_in(state, "input", text), index, are_named=False):
+    if after := after.assuming_digits(
+        offset_in(state, "input", text), index, with_known_bytes=False
+    ):
         yield after, index
 
 
-def first_invalid_from(state, text, count):
-    """The states after a search, with the index of the first character that is no digit, which may
-    be any, and the character; or, if all are digits, the length and 0."""
+def search_states(state, text, count):
+    """The states after a search for the first invalid character, each with its index and the
+    character; or, if all are digits, with the length and 0."""
     start = offset_in(state, "input", text)
-    read_any(state, text, count)
-    if all_digits := state.with_digits(start, count):
-        yield all_digits, count, byte(0)
+    read_arbitrary_index(state, text, count)
+    if all_digits := state.assuming_digits(start, count):
+        yield all_digits, count, bv8(0)
     index = fresh_public(64)
     found = state.branch(z3.ULT(index, count))
-    found = found and found.with_no_digit(start + index)
-    if found := found and found.with_digits(start, index, are_named=False):
+    found = found and found.assuming_non_digit(start + index)
+    if found := found and found.assuming_digits(start, index, with_known_bytes=False):
         yield found, index, found.byte_of_input(start + index)

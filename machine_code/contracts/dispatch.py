@@ -1,11 +1,10 @@
-"""What chooses: the functions of the kernel on x86-64 (rust/src/asm/dispatch.s), which jump to the
-one for the CPU; and those of const_hex.h whose error may be NULL (c/asm/dispatch.S), which call
-those for which it may not.
+"""The contracts of the dispatchers on x86-64 (rust/src/asm/dispatch.s), which jump to the kernel for
+the CPU, and of the thunks of const_hex.h (c/asm/dispatch.S), which pass a local error to the actual
+function where `error` is NULL.
 
-It does not look at its arguments, so what is proved holds for any: they arrive unchanged, except
-that a NULL error becomes a pointer to a local one, and the result is that of what is called. If a
-claim were weaker, a program could run a kernel that its CPU lacks, or a function with other
-arguments than its own.
+The arguments are arbitrary: they arrive unchanged at the callee, except for a NULL error, and the
+result is the callee's. If a contract were weaker, a program could run a kernel that its CPU does not
+support, or a function with wrong arguments.
 """
 
 import functools
@@ -14,159 +13,165 @@ import z3
 
 from contracts.functions import Function
 from contracts.names import FUNCTIONS, KERNELS, WITH_ERROR
-from execution.terms import fresh_secret, split, word
+from execution.terms import bv64, bytes_le, fresh_secret
 from semantics.x86_64 import reported
 from solver.questions import public, require, secret
 
-# What x86-64-v2 needs, by the x86-64 psABI, and x86-64-v3 beyond that: the leaf of `cpuid`, the
-# register, and the bits.
+# The feature bits of x86-64-v2 in the x86-64 psABI, and those that x86-64-v3 adds: the leaf of
+# `cpuid`, the register, and the bits.
 FEATURES_OF_V2 = [
-    (1, "rcx", 1 | 1 << 9 | 1 << 13 | 1 << 19 | 1 << 20 | 1 << 23)
-]  # SSE3 to SSE4.2, CX16, POPCNT
-FEATURES = [
+    # SSE3, SSSE3, CMPXCHG16B, SSE4.1, SSE4.2, POPCNT
+    (1, "rcx", 1 << 0 | 1 << 9 | 1 << 13 | 1 << 19 | 1 << 20 | 1 << 23),
+]
+FEATURES_OF_V3 = [
     (1, "rcx", 1 << 12 | 1 << 22 | 1 << 27 | 1 << 28 | 1 << 29),  # FMA, MOVBE, OSXSAVE, AVX, F16C
     (7, "rbx", 1 << 3 | 1 << 5 | 1 << 8),  # BMI1, AVX2, BMI2
-    (0x80000001, "rcx", 1 << 5),
-]  # LZCNT
-LEAVES = {
-    0: 7,
-    0x80000000: 0x80000001,
-}  # what `cpuid` of these leaves has to return at least, so that others exist
-SAVED_REGISTERS = 6  # of `xgetbv`: the system saves the registers of SSE and AVX
+    (0x80000001, "rcx", 1 << 5),  # LZCNT
+]
+# The greatest basic and extended leaf, which these two leaves return, have to be at least these.
+GREATEST_LEAVES = {0: 7, 0x80000000: 0x80000001}
+XCR0_SSE_AVX = 1 << 1 | 1 << 2  # the operating system saves the XMM and the YMM registers
 
 
-def reports(features):
+def cpu_has(features):
     """Whether the CPU reports features."""
     return z3.And(
         *[reported("cpuid", leaf, register) & bits == bits for leaf, register, bits in features]
     )
 
 
-def for_this_cpu():
-    """The kernel for this CPU: 3 if it has x86-64-v3 and the system saves its registers, 2 for
-    x86-64-v2, or 1."""
-    leaves = [z3.UGE(reported("cpuid", leaf, "rax"), least) for leaf, least in LEAVES.items()]
-    is_saved = reported("xgetbv", 0, "rax") & SAVED_REGISTERS == SAVED_REGISTERS
-    has_v3 = z3.And(reports(FEATURES), *leaves, is_saved)
-    level = z3.If(has_v3, word(3), 2)
-    return z3.If(reports(FEATURES_OF_V2), level, 1)
+def level_of_cpu():
+    """The microarchitecture level of the CPU: 3 for x86-64-v3, if the operating system saves its
+    registers, 2 for x86-64-v2, or 1."""
+    has_leaves = [
+        z3.UGE(reported("cpuid", leaf, "rax"), least) for leaf, least in GREATEST_LEAVES.items()
+    ]
+    saves_registers = reported("xgetbv", 0, "rax") & XCR0_SSE_AVX == XCR0_SSE_AVX
+    has_v3 = z3.And(cpu_has(FEATURES_OF_V3), *has_leaves, saves_registers)
+    level = z3.If(has_v3, bv64(3), 2)
+    return z3.If(cpu_has(FEATURES_OF_V2), level, 1)
 
 
-class Dispatched(Function):
-    """A function that calls another one, with its own arguments, and returns what that one does."""
+class Thunk(Function):
+    """A function that passes its arguments to a callee, and returns the callee's result."""
 
     level = "dispatch"
     is_in_module = False
-    ends = ("_nonnull",)
-    is_unrolled = uses_static = is_any_valid = True
+    callee_suffixes = ("_nonnull",)
+    is_unrolled = uses_static = is_every_input_valid = True
 
     def __init__(self, function, parameters):
         self.function = function
         self.symbol = f"const_hex_{function}"
         self.arguments = [secret(f"argument_{name}", 64) for name in parameters.split()]
-        self.imported = {end: functools.partial(self.calls, end) for end in self.ends}
+        self.callee_summaries = {
+            suffix: functools.partial(self.summary_of_callee, suffix)
+            for suffix in self.callee_suffixes
+        }
 
     def cases(self, state):
-        state.result_of_call = None
+        state.callee_result = None
         return [state]
 
-    def calls(self, end, state):
-        """The call: all arguments are the own ones. Then the result may be anything."""
-        require(state.result_of_call is None, "it calls twice")
-        self.prove_choice(state, end)
-        for index, (given, wanted) in enumerate(
-            zip(state.arguments(len(self.arguments)), self.arguments)
-        ):
-            self.prove_passed(state, index, given, wanted)
+    def summary_of_callee(self, suffix, state):
+        """Proves at the call that the callee and the arguments are right. Its result is unknown."""
+        require(state.callee_result is None, "more than one call")
+        self.prove_callee(state, suffix)
+        passed = state.arguments(len(self.arguments))
+        for index, (actual, expected) in enumerate(zip(passed, self.arguments)):
+            self.prove_argument(state, index, actual, expected)
         state.havoc_arguments(len(self.arguments))
-        state.result_of_call = fresh_secret(64)
-        state.stored_at_call = len(state.stored)
-        yield state, state.result_of_call
+        state.callee_result = fresh_secret(64)
+        state.stores_before_call = len(state.static_stores)
+        yield state, state.callee_result
 
-    def prove_passed(self, state, index, given, wanted):
-        state.prove(given == wanted, f"argument {index} is another")
+    def prove_argument(self, state, index, actual, expected):
+        """Proves that an argument of the call is the thunk's own."""
+        state.prove(actual == expected, f"argument {index} is wrong")
 
-    def returns(self, state):
-        require(state.result_of_call is not None, "it calls nothing")
-        state.prove(state.result(64) == state.result_of_call, "the result is another")
-        require(len(state.stored) == state.stored_at_call, "a byte is stored after the call")
+    def prove_postcondition(self, state):
+        require(state.callee_result is not None, "no call")
+        state.prove(state.result(64) == state.callee_result, "the result is not the callee's")
+        is_byte_unchanged = len(state.static_stores) == state.stores_before_call
+        require(is_byte_unchanged, "a store to the dispatcher's byte after the call")
 
 
-class Kernel(Dispatched):
-    """A function of C's kernel, for this CPU, which has x86-64-v2. It is the one that the stored
-    byte names; another thread may store it at any time. If it names none, the CPU is asked, and
-    the byte is stored."""
+class KernelDispatcher(Thunk):
+    """A function of C's kernel, which calls the one for this CPU, which has x86-64-v2. The stored
+    byte has the level of that kernel, or 0 at first: then the level comes from `cpuid`, and is
+    stored. Another thread may store the byte at any time."""
 
-    is_called = True
+    is_called_by_contract = True
     call_depth = 0
-    requires = (reports(FEATURES_OF_V2),)
-    ends = builds = {"_v2": 2, "_v3": 3}
+    requires = (cpu_has(FEATURES_OF_V2),)
+    callee_suffixes = levels = {"_v2": 2, "_v3": 3}
 
-    def prove_choice(self, state, end):
-        number = self.builds[end]
-        if not state.stored:
-            return state.prove(
-                z3.Or(*[read == number for read in state.loaded]), "not the one that is stored"
-            )
-        for named in self.builds.values():
-            state.prove(
-                z3.Or(*[read != named for read in state.loaded]),
-                "the CPU is asked although a kernel is stored",
-            )
-        for stored in state.stored:
-            state.prove(stored == number, "another kernel is stored")
-        state.prove(for_this_cpu() == number, "the kernel is not the one for this CPU")
+    def prove_callee(self, state, suffix):
+        """Proves that the callee has the stored level or, if none was stored, that of the CPU."""
+        level = self.levels[suffix]
+        if not state.static_stores:
+            is_stored = z3.Or(*[loaded == level for loaded in state.static_loads])
+            return state.prove(is_stored, "the kernel is not the stored one")
+        for other in self.levels.values():
+            is_not_stored = z3.Or(*[loaded != other for loaded in state.static_loads])
+            state.prove(is_not_stored, "a level is stored again")
+        for stored in state.static_stores:
+            state.prove(stored == level, "the level of another kernel is stored")
+        state.prove(level_of_cpu() == level, "the kernel is not the one for this CPU")
 
 
-class OfRust(Kernel):
-    """A function of Rust's kernel. Its last argument is where one of portable code is, for a CPU
-    without x86-64-v2."""
+class RustKernelDispatcher(KernelDispatcher):
+    """A function of Rust's kernel. Its last argument is a pointer to a function in portable code,
+    for a CPU without x86-64-v2."""
 
-    requires, builds = (), Kernel.builds | {"portable": 1}
+    requires, levels = (), KernelDispatcher.levels | {"portable": 1}
 
     def __init__(self, function, parameters):
         super().__init__(function.removeprefix("kernel_"), f"{parameters} portable")
         self.symbol = rf"const_hex_\d+_\d+_\d+_{self.function}"
         self.arguments[-1] = public("portable", 64)
-        self.passed = {"portable": functools.partial(self.calls, "portable")}
+        self.callable_arguments = {
+            "portable": functools.partial(self.summary_of_callee, "portable")
+        }
 
 
-class OrNull(Dispatched):
-    """A function whose last argument, the error, may be NULL. Then the one that is called gets a
-    local error."""
+class NullErrorThunk(Thunk):
+    """A function whose last argument, the error, may be NULL. Then the callee gets a local one."""
 
     def __init__(self, function, parameters, is_null):
         super().__init__(function, parameters)
         self.is_null = is_null
         self.name = "the error is NULL" if is_null else "the error is not NULL"
-        self.arguments[-1] = word(0) if is_null else public("error", 64)
+        self.arguments[-1] = bv64(0) if is_null else public("error", 64)
         self.requires = () if is_null else (public("error", 64) != 0,)
 
     def stacks(self, state):
-        return state.STACK_OF_DISPATCH, state.STACK
+        return state.DISPATCHER_STACK_SIZE, state.STACK_SIZE
 
-    def prove_choice(self, state, end):
-        require(not state.stored, "a byte is stored")
+    def prove_callee(self, state, suffix):
+        require(not state.static_stores, "a store to the dispatcher's byte before the call")
 
-    def prove_passed(self, state, index, given, wanted):
+    def prove_argument(self, state, index, actual, expected):
         if index < len(self.arguments) - 1 or not self.is_null:
-            return super().prove_passed(state, index, given, wanted)
-        # The local error lies in the stack, above what belongs to the call, and may be anything
-        # afterwards.
-        state.prove(given & 7 == 0, "the local error is not aligned")
-        offset = given - state.regions["stack"].base
-        lowest = state.top() + state.frame(len(self.arguments))
+            return super().prove_argument(state, index, actual, expected)
+        # The local error lies on the stack, above the arguments of the call. The callee may write
+        # to it.
+        state.prove(actual & 7 == 0, "the local error is not aligned")
+        offset = actual - state.regions["stack"].base
+        lowest = state.sp_offset() + state.argument_frame_size(len(self.arguments))
         state.prove(
             z3.UGE(offset, lowest), "the local error is not above the arguments in the stack"
         )
-        state.store(given, split(fresh_secret(128)))
+        state.store(actual, bytes_le(fresh_secret(128)))
 
 
-OR_NULL = [
-    OrNull(name, FUNCTIONS[name].parameters, is_null)
+NULL_ERROR_THUNKS = [
+    NullErrorThunk(name, FUNCTIONS[name].parameters, is_null)
     for name in sorted(WITH_ERROR)
     for is_null in (0, 1)
 ]
-CHOICES = [
-    choice(name, parameters) for choice in (Kernel, OfRust) for name, parameters in KERNELS.items()
+KERNEL_DISPATCHERS = [
+    dispatcher(name, parameters)
+    for dispatcher in (KernelDispatcher, RustKernelDispatcher)
+    for name, parameters in KERNELS.items()
 ]

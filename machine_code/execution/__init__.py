@@ -1,1 +1,1 @@
-"""Trusted: runs machine code on all inputs at once."""
+"""Trusted: symbolic execution of machine code."""

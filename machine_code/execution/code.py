@@ -1,65 +1,67 @@
-"""The instructions and constants of a file, as `reading` has them.
+"""The instructions and constants of a linked file, as `reading` has them.
 
-A file lies at an unknown address, a multiple of a page, and all that it has at fixed distances from
-there. Instructions are read where they are run. If this were wrong, another instruction or constant
-could be proved than that which runs.
+The load address of a file is unknown, but a multiple of the page size, and everything in the file
+has a fixed offset from it. Instructions are decoded when they are run. If this were wrong, the proof
+could be about another instruction or constant than the one that runs.
 """
 
 import z3
 
 from execution.state import Region
-from execution.terms import word
+from execution.terms import bv64
 from reading import library
 from reading.image import AARCH64, X86_64
 from semantics import aarch64, webassembly, x86_64
 
 PROCESSORS = {X86_64: x86_64, AARCH64: aarch64, None: webassembly}
-PAGE = 4096  # Loaders keep no greater alignment.
+PAGE_SIZE = 4096  # Loaders keep no greater alignment.
 
 
 class Code:
-    """A function of a file, by its symbol. Others are called by their contracts."""
+    """A function of a file, by its symbol. The functions in `summaries` are not entered where they
+    are called: their contracts say what they do."""
 
-    def __init__(self, content, symbol, effects, level=None):
-        self.object = library.read(content)
-        self.processor = PROCESSORS[self.object.machine]
+    def __init__(self, content, symbol, summaries, level=None):
+        self.image = library.read(content)
+        self.processor = PROCESSORS[self.image.machine]
+        # The microarchitecture level, which names of kernels end in, such as v3.
         self.level = level or symbol.rpartition("_")[2]
-        self.start = self.object.symbols[symbol]
-        self.static = None
+        self.start = self.image.symbols[symbol]
+        # The offset of the dispatcher's byte, once it is accessed.
+        self.static_offset = None
         self.callees = {
-            self.object.symbols[name]: effect
-            for name, effect in effects.items()
-            if name in self.object.symbols
+            self.image.symbols[name]: summary
+            for name, summary in summaries.items()
+            if name in self.image.symbols
         }
-        self.constants = Region(
-            "constants", word(self.object.size), PAGE if self.object.machine else 1, self.object
-        )
-        self.instructions = {}
+        alignment = PAGE_SIZE if self.image.machine else 1
+        self.constants = Region("constants", bv64(self.image.size), alignment, self.image)
+        self.instructions = {}  # that are decoded so far, by their addresses
 
     def instruction(self, address):
-        """That at an address, or None. It is read with those after it when it is asked for."""
-        if address not in self.instructions and (part := self.object.code_at(address)):
-            self.instructions = (
-                self.processor.instructions(self, part, self.level) | self.instructions
-            )
+        """The instruction at an address, or None. It is decoded on demand, with those after it."""
+        if address not in self.instructions and (code := self.image.code_at(address)):
+            decoded = self.processor.instructions(self, code, self.level)
+            self.instructions = decoded | self.instructions
         return self.instructions.get(address)
 
     def runtime_address(self, address):
-        """An address of the file, wherever that lies."""
-        return self.constants.base + (address - self.object.first)
+        """An address of the file as a term: its offset from the unknown load address."""
+        return self.constants.base + (address - self.image.base_address)
 
     def is_static(self, offset, count):
-        """Whether it is the only static byte of a function, which all threads share."""
-        if (
-            count != 1
-            or not z3.is_bv_value(offset)
-            or not self.object.is_choice(self.object.first + offset.as_long())
-        ):
+        """Whether an access is to the dispatcher's byte, which all threads share. A function may
+        access only one such byte."""
+        if count != 1 or not z3.is_bv_value(offset):
             return False
-        self.static = offset.as_long() if self.static is None else self.static
-        return self.static == offset.as_long()
+        if not self.image.is_dispatch_byte(self.image.base_address + offset.as_long()):
+            return False
+        if self.static_offset is None:
+            self.static_offset = offset.as_long()
+        return self.static_offset == offset.as_long()
 
     def name_at(self, address):
+        """The symbol, the offset from it, and the instruction at an address, for messages."""
         instruction = self.instruction(address)
         text = instruction.text if instruction else "no instruction"
-        return f"{self.object.name_at(address)} {text}"
+        return f"{self.image.name_at(address)} {text}"

@@ -1,14 +1,14 @@
-"""Proves the functions of a file, each part of one in a process of its own, so that no proof
-depends on another.
+"""Proves the functions of a file, in a process for each, so that no proof depends on another.
 
-If a contract were left out here, or a function were called by a contract that is proved of another
-one, wrong code could be accepted.
+If a contract were left out here, or if a call were replaced by a contract that is proved of another
+function, wrong code could be accepted.
 """
 
 import itertools
 import os
 import re
 import textwrap
+from dataclasses import dataclass
 
 from contracts import callees, dispatch
 from contracts.kernels import KERNELS
@@ -22,38 +22,64 @@ from reading.image import X86_64
 from solver import cvc5, questions
 from solver.questions import Rejected
 
-SAMPLE = 100  # so many questions of each function go to the second solver, too
+SAMPLE_SIZE = 100  # queries of each proof that go to the second solver, too
 MAX_LINE = 300  # characters of a line of output
-CONTRACTS = (*FUNCTIONS, *MESSAGES, *KERNELS, *dispatch.OR_NULL, *dispatch.CHOICES)
-# On x86-64 the kernels have these ends of names, and others choose one of them.
-LEVEL = re.compile("_v[23]$")
+CONTRACTS = (
+    *FUNCTIONS,
+    *MESSAGES,
+    *KERNELS,
+    *dispatch.NULL_ERROR_THUNKS,
+    *dispatch.KERNEL_DISPATCHERS,
+)
+# On x86-64 the names of the kernels' functions end so, and a dispatcher chooses one of them.
+LEVEL_SUFFIX = re.compile("_v[23]$")
 
 
-def contracts_of(obj):
-    """What has to be proved: pairs of a symbol and the number of a contract. What is called by its
-    contract has the symbol for it, and so it is among them."""
-    is_x86_64 = obj.machine == X86_64
+@dataclass
+class Job:
+    """A proof of a function from a part of its initial states."""
 
-    def is_of(symbol, contract):
-        if obj.machine is None:
-            return contract.is_in_module and re.fullmatch(
-                contract.symbol.removesuffix("_nonnull"), symbol
-            )
-        if contract in KERNELS and is_x86_64 != bool(LEVEL.search(symbol)):
-            return False
-        return (is_x86_64 or contract not in dispatch.CHOICES) and re.fullmatch(
-            contract.symbol, symbol
-        )
+    file: str
+    symbol: str
+    number: int  # of the contract
+    content: bytes  # of the file
+    part: int
+    all_to_cvc5: bool
 
-    pairs = itertools.product(sorted(obj.symbols), range(len(CONTRACTS)))
-    return [(symbol, number) for symbol, number in pairs if is_of(symbol, CONTRACTS[number])]
+    @property
+    def function(self):
+        return self.file, self.symbol, self.number
 
 
-def functions_of(content):
-    """The image or the module with these bytes, and what has to be proved of it, which is not
-    nothing."""
-    file = library.whole(content)
-    functions = contracts_of(file)
+def symbols_and_contracts(image):
+    """What has to be proved: pairs of a symbol and the number of a contract. A callee with a summary
+    has the symbol of its contract, and so it is among them."""
+    pairs = itertools.product(sorted(image.symbols), range(len(CONTRACTS)))
+    return [
+        (symbol, number)
+        for symbol, number in pairs
+        if _is_contract_of(CONTRACTS[number], symbol, image.machine)
+    ]
+
+
+def _is_contract_of(contract, symbol, machine):
+    """Whether a contract is for a symbol in a file for a machine (None for a module)."""
+    if machine is None:
+        name = contract.symbol.removesuffix("_nonnull")
+        return contract.is_in_module and bool(re.fullmatch(name, symbol))
+    is_x86_64 = machine == X86_64
+    if contract in KERNELS and is_x86_64 != bool(LEVEL_SUFFIX.search(symbol)):
+        return False
+    if contract in dispatch.KERNEL_DISPATCHERS and not is_x86_64:
+        return False
+    return bool(re.fullmatch(contract.symbol, symbol))
+
+
+def functions_to_prove(content):
+    """The image or the module with these bytes, and its functions with their contracts. There has to
+    be one."""
+    file = library.read_and_validate(content)
+    functions = symbols_and_contracts(file)
     if not functions:
         raise ValueError(
             "it has no function of the library, or is stripped: keep its symbol table, in "
@@ -62,45 +88,40 @@ def functions_of(content):
     return file, functions
 
 
-def effects_of(symbol, contract):
-    """What functions do that are called by their contracts. Each of these has a lower call_depth, or
-    two might be proved by each other's: functions of the header, local ones, those that choose a
-    kernel, and kernels."""
-    if contract.imported is not None:
-        return {symbol + end: effect for end, effect in contract.imported.items()}
-    return callees.effects(
+def summaries_of_callees(symbol, contract):
+    """The summaries of the functions that are not entered where this one calls them. Each has a
+    lower `call_depth`, since else two functions could be proved by each other's contracts."""
+    if contract.callee_summaries is not None:
+        return {symbol + suffix: summary for suffix, summary in contract.callee_summaries.items()}
+    return callees.summaries(
         other
         for other in CONTRACTS
         if other in KERNELS or other.is_local and other.call_depth < contract.call_depth
     )
 
 
-def prove(content, symbol, contract, which=slice(None)):
-    """Proves a function of a file, from all starts or from some. Returns how many paths have
-    ended."""
-    code = Code(content, symbol, effects_of(symbol, contract), contract.level)
-    starts = contract.starts(code)
-    return run(
-        code,
-        starts[which],
-        () if contract.is_unrolled else loop_headers(code, starts[0].address),
-        infer_invariant,
-    )
+def prove(content, symbol, contract, selected=slice(None)):
+    """Proves a function of a file, from all its initial states or from selected ones. Returns the
+    number of paths."""
+    code = Code(content, symbol, summaries_of_callees(symbol, contract), contract.level)
+    states = contract.initial_states(code)
+    headers = () if contract.is_unrolled else loop_headers(code, states[0].address)
+    return run(code, states[selected], headers, infer_invariant)
 
 
-def task(job):
-    """Proves a function of a file from one part of its starts. Returns which function it is, whether
-    it is rejected, and a line about it."""
-    (file, symbol, number), content, part, is_whole = job
-    contract = CONTRACTS[number]
+def run_job(job):
+    """Proves a function from a part of its initial states. Returns the function, whether it is
+    rejected, and a line of output."""
+    contract = CONTRACTS[job.number]
     fault = None
     try:
-        count = prove(content, symbol, contract, slice(part, None, contract.parts))
-        outcome = f"proved at every length: {count} paths, {questions.counts['asked']} questions"
-        if others := cvc5.disagreements(
-            questions.proved, None if is_whole else SAMPLE // contract.parts
-        ):
-            fault = f"cvc5 says {others[0][1]}: {others[0][0]}"
+        part = slice(job.part, None, contract.parts)
+        count = prove(job.content, job.symbol, contract, part)
+        outcome = f"proved at every length: {count} paths, {questions.counts['queries']} queries"
+        sample_size = None if job.all_to_cvc5 else SAMPLE_SIZE // contract.parts
+        if found := cvc5.disagreements(questions.unsat_queries, sample_size):
+            query, answer = found[0]
+            fault = f"cvc5 says {answer}: {query}"
     except (Rejected, ValueError) as rejected:
         fault = rejected
     except FileNotFoundError as missing:
@@ -108,12 +129,9 @@ def task(job):
     except Exception as error:
         fault = f"an error in this tool: {error!r}"
     outcome = f"REJECTED: {fault}" if fault else outcome
-    name = (
-        f"{contract.name}, {part + 1} of {contract.parts}" if contract.parts > 1 else contract.name
-    )
-    line = textwrap.shorten(f"{symbol}, {name}: {outcome}", MAX_LINE)
-    return (
-        (file, symbol, number),
-        bool(fault),
-        f"{line}, {sum(os.times()[:4]):.0f} s of processor time",
-    )
+    name = contract.name
+    if contract.parts > 1:
+        name += f", {job.part + 1} of {contract.parts}"
+    line = textwrap.shorten(f"{job.symbol}, {name}: {outcome}", MAX_LINE)
+    seconds = sum(os.times()[:4])
+    return job.function, bool(fault), f"{line}, {seconds:.0f} s of processor time"

@@ -1,37 +1,46 @@
-"""What a machine holds: registers, memory, and what is known of them.
+"""The symbolic state of a machine: registers, memory, and the path condition.
 
-Memory is regions at unknown bases: the input, the output, objects such as the stack or an error,
-and the file with its constants. An address is a term of 64 bits; an access has to lie inside of one
-region, whatever the bases are. The bytes of objects are kept by their offsets, those of the input
-have names, and the output is never read. If `_locate` or `load` were wrong, an access outside of a
-buffer or a wrong byte could be accepted.
+Memory consists of regions at unknown bases: the input, the output, objects such as the stack or an
+error, and the file with its constants. An address is a term of 64 bits, and an access has to lie
+within one region, whatever the bases are. Objects have a term for each byte, by its offset; a byte
+of the input is an unknown constant; the output is never read. If `_locate` or `load` were wrong, an
+access outside of a buffer or a wrong byte could be accepted.
 """
 
 import itertools
 
 import z3
 
-from execution.terms import byte, chosen, fresh_public, fresh_secret, joined, simple, split, word
+from execution.terms import (
+    bv64,
+    bv8,
+    bytes_le,
+    concat_le,
+    fresh_public,
+    fresh_secret,
+    simplify,
+    table_entry,
+)
 from solver import quotient_by_ten
 from solver.questions import (
     Rejected,
+    all_values,
     facts_of,
-    is_unsatisfiable,
+    free_constants,
     is_public,
+    is_unsatisfiable,
     is_valid,
-    names,
     public,
     relevant,
     require,
     secret,
-    values,
 )
 
 
 class Region:
-    """So many bytes of memory at an unknown base that is a multiple of `align`. The constants are
-    those of a file. The "input", the "output" and the "static" byte have these names;
-    each other region is an object.
+    """Some bytes of memory at an unknown base that is a multiple of `align`. Only the region of
+    a file's constants has `data`. The names "input", "output" and "static" are special; each other
+    region is an object, whose bytes the state knows.
     """
 
     def __init__(self, name, size, align=1, data=None, is_writable=True):
@@ -44,73 +53,81 @@ class Region:
         self.is_object = data is None and name not in ("input", "output", "static")
 
 
-STATIC = Region("static", word(1))  # which lasts from call to call
-MAX_VALUES = 64  # of the offset of a constant, or of a jump
+STATIC = Region("static", bv64(1))  # the dispatcher's byte, which keeps its value between calls
+MAX_VALUES = 64  # of the offset of a constant, or of an indirect jump's target
 
 
 class State:
-    """What is known at an instruction. A processor adds its registers, which of them have the stack
-    pointer, arguments and the result, and which of them are callee-saved: see `semantics`."""
+    """The symbolic state before an instruction. The subclass of a processor adds its registers, and
+    which of them are the stack pointer, the arguments, the result, or callee-saved."""
 
-    # How many of the lowest bytes of a vector are callee-saved, and the bytes of an address.
-    CALLEE_SAVED_VECTORS, WORD = {}, 8
+    CALLEE_SAVED_VECTORS = {}  # how many of the lowest bytes, by the number of the vector
+    POINTER_SIZE = 8
 
-    near = None  # in how many steps facts may be from what is asked, if that has a limit
-    # Whether the upper halves of vectors are clear, where `vzeroupper` has to clear them.
-    flags, is_clean = None, True
-    # Where the digits of the input begin, and the digit that waits before them, if there is one.
-    body, waiting = word(0), None
-    # The last loop that was entered, if nothing was called since by its contract, and the
-    # instructions since its header.
+    # How distant from a goal the facts in a query may be, or None (see `questions.relevant`).
+    fact_distance = None
+    flags = None
+    # Whether the upper halves of the YMM registers are zero, so that `vzeroupper` is not needed.
+    is_upper_half_clean = True
+    digits_start = bv64(0)  # the index in the input at which the digits begin, after a prefix
+    waiting = None  # a decoder's digit that waits for the second digit of its byte
+    # The last loop that was entered, unless a function was called since by its contract, and the
+    # number of instructions since its header.
     loop, steps = None, 0
-    # Whether time may depend on secrets: the input is surely invalid.
+    # Whether branches and addresses may depend on secrets: the input is known to be invalid.
     is_declassified = False
 
     def __init__(self):
-        self.facts = []  # conditions that hold
+        self.facts = []  # the path condition
         self.general, self.vectors = {}, {}  # registers
-        # Memory by names, the bytes of objects by names and offsets, and those of the input by the
-        # terms of their offsets.
-        self.regions, self.cells, self.input = {}, {}, {}
-        # Offset and count of what was read of the input and written to the output, and whether
-        # reads are of digits, by these terms themselves: two keys are the same only if their terms
-        # are.
-        self.reads, self.writes, self.digits = [], [], {}
-        # What was loaded from the static byte, and what was stored there.
-        self.loaded, self.stored = [], []
-        self.calls = {}  # where they return to
+        self.regions = {}  # by their names
+        self.cells = {}  # the bytes of objects, by the name of the region and the offset
+        self.input = {}  # the offsets and the bytes of the input, by the ids of the offsets in z3
+        # The offset and the size of each read of the input and of each write to the output.
+        self.reads, self.writes = [], []
+        # Whether a read is of digits alone. Two keys are the same only if their terms are.
+        self.reads_of_digits = {}
+        self.static_loads, self.static_stores = [], []  # the values
+        self.return_targets = {}  # addresses, by the names that stand for them on the stack
         self.loops = {}  # that were entered, by the addresses of their headers
 
     def start(self, code, contract):
-        """Before the first instruction of a function, nothing is known of registers but the
-        arguments. A function that others call by its contract has less of the stack."""
+        """The state at the call of a function: nothing is known of registers and objects, except
+        for the arguments. A function that others call by its contract has less stack."""
         self.code = code
         self.contract = contract
         self.address = code.start  # of the instruction
-        self.near = contract.near
+        self.fact_distance = contract.fact_distance
         self.is_declassified = contract.is_declassified
-        self.STACK, self.STACK_OF_CALLED = contract.stacks(self)
-        on_stack = contract.arguments[len(self.ARGUMENTS) :]
-        stack = Region("stack", word(self.STACK + self.RETURN + 8 * len(on_stack)), 16)
-        given = [part(self.WORD) if callable(part) else part for part in contract.regions]
-        self.regions = {region.name: region for region in (*given, stack, code.constants)}
+        self.STACK_SIZE, self.CALLEE_STACK_SIZE = contract.stacks(self)
+        stack_arguments = contract.arguments[len(self.ARGUMENT_REGISTERS) :]
+        first_argument = self.STACK_SIZE + self.RETURN_ADDRESS_SIZE
+        stack = Region("stack", bv64(first_argument + 8 * len(stack_arguments)), 16)
+        # Some regions depend on the size of a pointer.
+        regions = [
+            region(self.POINTER_SIZE) if callable(region) else region for region in contract.regions
+        ]
+        self.regions = {region.name: region for region in (*regions, stack, code.constants)}
         for region in self.regions.values():
             self.assume(region.base & region.align - 1 == 0)
-        self.general = {name: secret(name, 64) for name in self.GENERAL}
-        self.general |= dict(zip(self.ARGUMENTS, contract.arguments))
-        for number in range(self.VECTORS):
-            self.vectors[number] = [secret(f"v{number}_{index}", 8) for index in range(self.WIDTH)]
-        for region in given:
+        self.general = {name: secret(name, 64) for name in self.GENERAL_REGISTERS}
+        self.general |= dict(zip(self.ARGUMENT_REGISTERS, contract.arguments))
+        for number in range(self.VECTOR_COUNT):
+            self.vectors[number] = [
+                secret(f"v{number}_{index}", 8) for index in range(self.VECTOR_SIZE)
+            ]
+        for region in regions:
             if region.is_object:
                 size = region.size.as_long()
                 data = [secret(f"{region.name}_{offset}", 8) for offset in range(size)]
                 self.put_cells(region.name, 0, data)
-        for index, argument in enumerate(on_stack):
-            self.put_cells("stack", self.STACK + self.RETURN + 8 * index, split(argument))
+        for index, argument in enumerate(stack_arguments):
+            self.put_cells("stack", first_argument + 8 * index, bytes_le(argument))
         self.enter()
         self.entry = self.copy()  # the state at the call
 
     def copy(self):
+        """A state that can change without this one; terms are shared."""
         other = object.__new__(type(self))
         other.__dict__ = {
             name: value.copy() if type(value) in (dict, list) else value
@@ -118,46 +135,53 @@ class State:
         }
         return other
 
-    # What is known
+    # The path condition
     def assume(self, condition):
+        """Adds a condition to the path condition."""
         self.facts += facts_of(condition)
 
     def is_valid(self, goal):
-        return is_valid(self.facts, goal, self.near)
+        """Whether a goal follows from the path condition."""
+        return is_valid(self.facts, goal, self.fact_distance)
 
     def prove(self, goal, message):
+        """Rejects the code, with a message, unless a goal follows from the path condition."""
         require(self.is_valid(goal), message)
 
     def branch(self, condition, address=None):
-        """This state where a condition holds, perhaps at another address, or None if it can't
-        hold."""
+        """This state where a condition holds, perhaps at another address, or None if that path is
+        infeasible."""
         return None if self.is_valid(z3.Not(condition)) else self.assuming(condition, address)
 
     def assuming(self, condition, address=None):
-        """This state where a condition holds, perhaps at another address."""
+        """This state where a condition is assumed, perhaps at another address."""
         other = self.copy()
         other.assume(condition)
         other.address = self.address if address is None else address
         return other
 
-    def input_is_valid(self):
-        """That the input is valid, as far as it was read."""
-        return [fact for condition in self.contract.valid(self) for fact in facts_of(condition)]
+    def valid_input_facts(self):
+        """The facts that the input is valid, as far as it was read."""
+        facts = []
+        for condition in self.contract.validity_conditions(self):
+            facts += facts_of(condition)
+        return facts
 
-    def if_then_else(self, condition, one, other, is_asked=False):
-        """The first of two terms where a condition holds, else the second; that one alone, if it is
-        asked and known, or time may depend on it."""
-        if is_asked or self.is_declassified or is_public(condition):
-            for term, path in (one, condition), (other, z3.Not(condition)):
+    def if_then_else(self, condition, then_term, else_term, is_queried=False):
+        """The term that a condition selects. Where the condition is public, or `is_queried` asks for
+        it, a query may find that only one of the two terms is possible."""
+        if is_queried or self.is_declassified or is_public(condition):
+            for term, path in (then_term, condition), (else_term, z3.Not(condition)):
                 if self.is_valid(path):
                     return term
-        return simple(z3.If(condition, one, other))
+        return simplify(z3.If(condition, then_term, else_term))
 
     def truth_for_valid_input(self, condition):
-        """Whether a condition holds for all valid inputs, or for none; None where it is public."""
+        """The truth of a condition that is the same for all valid inputs; None where the condition
+        is public. If it depends on a secret, the branch is not constant-time."""
         if self.is_declassified or is_public(condition):
             return None
-        facts = self.facts + self.input_is_valid()
+        facts = self.facts + self.valid_input_facts()
         goals = (True, condition), (False, z3.Not(condition))
         for truth, goal in goals:
             if is_valid(facts, goal):
@@ -165,262 +189,287 @@ class State:
         raise Rejected("a branch depends on bytes that are secret")
 
     # Products
-    def _parts(self, number):
-        """A tenth of a number, and the bits below it in a product. What is known of them is
-        assumed."""
-        *parts, known = quotient_by_ten.parts(simple(number))
-        self.assume(known)
-        return parts
+    def _quotient_and_low_bits(self, number):
+        """The quotient of a number by ten, and the three bits below it in the upper half of the
+        product. The lemma about them is assumed."""
+        quotient, low_bits, lemma = quotient_by_ten.quotient_of(simplify(number))
+        self.assume(lemma)
+        return quotient, low_bits
 
-    def tenth(self, number):
-        """A tenth of a number of 64 bits, rounded down."""
-        return simple(z3.ZeroExt(3, self._parts(number)[0]))
+    def divided_by_ten(self, number):
+        """The quotient of a number of 64 bits by ten, rounded down."""
+        quotient, _ = self._quotient_and_low_bits(number)
+        return simplify(z3.ZeroExt(3, quotient))
 
     def product(self, a, b):
         """The product of two numbers of 64 bits, which has 128."""
-        if (
-            z3.is_bv_value(b)
-            and b.as_long() == quotient_by_ten.FACTOR
-            and not z3.is_bv_value(simple(a))
-        ):
-            return simple(z3.Concat(*self._parts(a), a * b))
-        return simple(z3.ZeroExt(64, a) * z3.ZeroExt(64, b))
+        is_by_factor = z3.is_bv_value(b) and b.as_long() == quotient_by_ten.FACTOR
+        if is_by_factor and not z3.is_bv_value(simplify(a)):
+            return simplify(z3.Concat(*self._quotient_and_low_bits(a), a * b))
+        return simplify(z3.ZeroExt(64, a) * z3.ZeroExt(64, b))
 
     # Memory
-    def address_of(self, o):
-        """The address that an operand has: registers by their scales, and a number."""
-        terms = [self.general[name] * scale for name, scale in o.terms]
-        return simple(sum(terms, word(o.offset)))
+    def address_of(self, operand):
+        """The effective address of a memory operand: registers by their scales, and an offset."""
+        terms = [self.general[name] * scale for name, scale in operand.terms]
+        return simplify(sum(terms, bv64(operand.offset)))
 
     def _locate(self, address, count, aligned):
-        """The region of an access, and its offset."""
-        address = simple(address)
+        """The region of an access, and its offset there. Proves that the access is in bounds, and
+        that the address is public."""
+        address = simplify(address)
         is_allowed = self.is_declassified or is_public(address)
-        require(is_allowed, "an address depends on bytes that are secret, or on what is unknown")
-        bases = [name for name in self.regions if name in names(address)]
+        require(is_allowed, "an address depends on bytes that are secret or unknown")
+        bases = [name for name in self.regions if name in free_constants(address)]
         require(len(bases) == 1, f"an address in {bases}: {address}")
         region = self.regions[bases[0]]
-        offset = simple(address - region.base)
+        offset = simplify(address - region.base)
         self.prove(
             z3.And(z3.UGE(region.size, count), z3.ULE(offset, region.size - count)),
             f"an access may lie outside of {region.name}: {offset}",
         )
-        require(
-            not aligned or self.is_valid(address & count - 1 == 0), "an access may be misaligned"
-        )
-        is_static = (
-            region is self.code.constants
-            and self.contract.uses_static
-            and self.code.is_static(offset, count)
-        )
-        return STATIC if is_static else region, offset
+        is_aligned = not aligned or self.is_valid(address & count - 1 == 0)
+        require(is_aligned, "an access may be misaligned")
+        may_be_static = region is self.code.constants and self.contract.uses_static
+        if may_be_static and self.code.is_static(offset, count):
+            region = STATIC
+        return region, offset
 
     def load(self, address, count, aligned=False):
+        """The bytes that a load reads."""
         region, offset = self._locate(address, count, aligned)
         if region.data is not None:
-            return self._constants(region, offset, count)
+            return self._load_constants(region, offset, count)
         if region.name == "input":
             self.reads.append((offset, count))
             return [self.byte_of_input(offset + index) for index in range(count)]
         if region.name == "static":
             # Another thread may have written it since it was read before.
-            self.loaded.append(fresh_public(8))
-            return self.loaded[-1:]
+            self.static_loads.append(fresh_public(8))
+            return self.static_loads[-1:]
         require(region.is_object, f"{region.name} is read")
-        first = self._offset_in(region, offset)
-        known = [self.cells.get((region.name, first + index)) for index in range(count)]
-        require(None not in known, "an uninitialized byte of the stack is read")
-        return known
+        start = self._constant_offset(region, offset)
+        data = [self.cells.get((region.name, start + index)) for index in range(count)]
+        require(None not in data, "an uninitialized byte of the stack is read")
+        return data
 
-    def _constants(self, region, offset, count):
+    def _load_constants(self, region, offset, count):
+        """Bytes of constants: of a table, if the offset is secret, or else at all possible
+        offsets."""
         if count == 1 and not is_public(offset):
-            # A guess of where the table begins: the offset where all that is unknown is 0.
-            solver = z3.Solver()
-            solver.check()
-            first = solver.model().eval(offset, True).as_long()
-            index = simple(offset - first)
-            table = region.data.read(first, 256)
-            self.prove(
-                z3.ULT(index, len(table)), "an index beyond a table, or a table that may be written"
-            )
-            return [simple(chosen([*map(byte, table.ljust(256, b"\0"))], z3.Extract(7, 0, index)))]
+            return [self._load_from_table(region, offset)]
         data = None
-        for value in values(self.facts, offset, MAX_VALUES):
-            new = [byte(part) for part in region.data.read(value, count)]
-            require(len(new) == count, "an address that has no constant, or may be written")
+        for value in all_values(self.facts, offset, MAX_VALUES):
+            candidate = [bv8(number) for number in region.data.read_constants(value, count)]
+            require(
+                len(candidate) == count, "an address without a constant, or one that is written"
+            )
             if data:
-                new = [z3.If(offset == value, *choice) for choice in zip(new, data)]
-            data = new
-        return list(map(simple, data))
+                candidate = [z3.If(offset == value, *pair) for pair in zip(candidate, data)]
+            data = candidate
+        return list(map(simplify, data))
 
-    def jumps(self, address):
-        """The conditions under which a jump leads to addresses of the file, and these addresses; or
-        an argument."""
+    def _load_from_table(self, region, offset):
+        """The byte at a secret offset, in a table of at most 256 bytes."""
+        # A heuristic for where the table begins: the offset where all unknown constants are 0.
+        solver = z3.Solver()
+        solver.check()
+        start = solver.model().eval(offset, True).as_long()
+        index = simplify(offset - start)
+        table = region.data.read_constants(start, 256)
+        self.prove(
+            z3.ULT(index, len(table)), "an index beyond a table, or a table that may be written"
+        )
+        entries = [*map(bv8, table.ljust(256, b"\0"))]
+        return simplify(table_entry(entries, z3.Extract(7, 0, index)))
+
+    def indirect_targets(self, address):
+        """The targets of an indirect jump, each with the condition under which it is taken; or the
+        address, if it is an argument that may be called."""
         require(
             self.is_declassified or is_public(address), "a jump depends on bytes that are secret"
         )
-        if address.decl().name() in self.contract.passed:
+        if address.decl().name() in self.contract.callable_arguments:
             return address
-        require("constants" in names(address), "a jump target that is not known")
-        offset = simple(address - self.code.constants.base)
+        require("constants" in free_constants(address), "an unknown jump target")
+        offset = simplify(address - self.code.constants.base)
         return [
-            (offset == value, self.code.object.first + value)
-            for value in values(self.facts, offset, MAX_VALUES)
+            (offset == value, self.code.image.base_address + value)
+            for value in all_values(self.facts, offset, MAX_VALUES)
         ]
 
     def store(self, address, data, aligned=False):
+        """Stores bytes. The contract decides what may be written to the output."""
         region, offset = self._locate(address, len(data), aligned)
         require(region.is_writable, f"{region.name} is written")
         if region.is_object:
-            self.put_cells(region.name, self._offset_in(region, offset), data)
+            self.put_cells(region.name, self._constant_offset(region, offset), data)
         elif region.name == "static":
-            self.stored += data
+            self.static_stores += data
         else:
-            self.contract.store(self, offset, data)
+            self.contract.prove_store(self, offset, data)
             self.writes.append((offset, len(data)))
 
     def put_cells(self, name, offset, data):
+        """Sets bytes of an object."""
         self.cells |= {(name, offset + index): value for index, value in enumerate(data)}
 
-    def cell(self, name, offset, count):
+    def number_in(self, name, offset, count):
         """The number that some bytes of an object make."""
-        return joined([self.cells[name, offset + index] for index in range(count)])
+        return concat_le([self.cells[name, offset + index] for index in range(count)])
 
-    def top(self):
-        """The offset of the stack pointer in the stack."""
-        top = simple(self.general[self.TOP] - self.regions["stack"].base)
-        is_inside = z3.is_bv_value(top) and top.as_long() <= self.STACK + self.RETURN
+    def sp_offset(self):
+        """The offset of the stack pointer in the stack, which has to be constant."""
+        offset = simplify(self.general[self.SP] - self.regions["stack"].base)
+        highest = self.STACK_SIZE + self.RETURN_ADDRESS_SIZE
+        is_inside = z3.is_bv_value(offset) and offset.as_long() <= highest
         require(is_inside, "the stack pointer is not in the stack")
-        return top.as_long()
+        return offset.as_long()
 
-    def _offset_in(self, region, offset):
-        require(z3.is_bv_value(offset), f"an offset in the {region.name} is not known")
+    def _constant_offset(self, region, offset):
+        """The offset of an access to an object, as a number."""
+        require(z3.is_bv_value(offset), f"an offset in the {region.name} is not constant")
         require(
-            region.name != "stack" or offset.as_long() >= self.top(),
+            region.name != "stack" or offset.as_long() >= self.sp_offset(),
             "an access below the stack pointer",
         )
         return offset.as_long()
 
-    def drop_below(self):
-        """A signal handler may change what lies below the stack pointer."""
-        top = self.top()
+    def invalidate_below_sp(self):
+        """Forgets what lies below the stack pointer, which a signal handler may overwrite: there is
+        no red zone."""
+        sp_offset = self.sp_offset()
         self.cells = {
             (name, offset): value
             for (name, offset), value in self.cells.items()
-            if name != "stack" or offset >= top
+            if name != "stack" or offset >= sp_offset
         }
 
-    # Bytes of the input. Two names may stand for one byte.
+    # Bytes of the input. Two constants may stand for the same byte, at offsets that may be equal.
     def byte_of_input(self, offset):
-        offset = simple(offset)
+        """The unknown byte at an offset in the input."""
+        offset = simplify(offset)
         if offset.get_id() not in self.input:
             self.input[offset.get_id()] = offset, fresh_secret(8)
         return self.input[offset.get_id()][1]
 
-    def prove_equal(self, value, wanted, message):
-        """That two values are the same, where bytes of the input are the same that have the same
-        offset."""
-        about = {*names(value == wanted)}
-        used = [each for each in self.input.values() if about.issuperset(names(each[1]))]
+    def prove_equal(self, value, expected, message):
+        """Proves that two values are equal. Bytes of the input are equal where their offsets are:
+        these equations are facts, too."""
+        goal_constants = {*free_constants(value == expected)}
+        in_goal = [
+            (offset, character)
+            for offset, character in self.input.values()
+            if goal_constants.issuperset(free_constants(character))
+        ]
         facts = self.facts.copy()
-        for (first, one), (second, other) in itertools.combinations(used, 2):
-            if self.is_valid(first == second):
-                facts += facts_of(one == other)
-        require(is_valid(facts, value == wanted, self.near), message)
+        for (offset1, character1), (offset2, character2) in itertools.combinations(in_goal, 2):
+            if self.is_valid(offset1 == offset2):
+                facts += facts_of(character1 == character2)
+        require(is_valid(facts, value == expected, self.fact_distance), message)
 
-    # Digits. What is known of a part of the input does not say which names lie in it, so that is
-    # asked.
-    def known_digits(self):
-        """The parts of the input, by offset and count, that are digits."""
+    # Digits. A range of the input does not say which of the known offsets lie in it: that takes a
+    # query.
+    def known_digit_ranges(self):
+        """The ranges of the input, by offset and count, that were read and are digits alone."""
         for offset, count in self.reads:
-            if (offset, count) not in self.digits:
-                self.digits[offset, count] = all(
+            if (offset, count) not in self.reads_of_digits:
+                self.reads_of_digits[offset, count] = all(
                     self.is_valid(self.contract.is_digit(self.byte_of_input(offset + index)))
                     for index in range(count)
                 )
-            if self.digits[offset, count]:
+            if self.reads_of_digits[offset, count]:
                 yield offset, count
 
-    def is_known(self, character, is_digit):
-        """Whether what is known of a character alone says that it is a digit, or that it is
-        none."""
-        wanted = self.contract.is_digit(character) == is_digit
-        return is_unsatisfiable([*relevant(self.facts, wanted, 0), z3.Not(wanted)])
+    def is_known_digit(self, character, is_digit):
+        """Whether the facts about a character alone say that it is a digit, or that it is none."""
+        goal = self.contract.is_digit(character) == is_digit
+        return is_unsatisfiable([*relevant(self.facts, goal, 0), z3.Not(goal)])
 
-    def with_digits(self, offset, count, are_named=True):
-        """This state where a part of the input has digits alone, or None if it can't: what is known
-        to be no digit lies elsewhere, and what is known to lie in the part is a digit, which
-        only some callers ask."""
+    def assuming_digits(self, offset, count, with_known_bytes=True):
+        """This state where a range of the input is digits alone, or None if that is infeasible: a
+        known non-digit lies outside of the range and, `with_known_bytes`, each byte that is known to
+        lie in the range is a digit."""
         other = self.copy()
-        offset = simple(offset)
-        count = simple(count)
+        offset = simplify(offset)
+        count = simplify(count)
         other.reads.append((offset, count))
-        other.digits[offset, count] = True
+        other.reads_of_digits[offset, count] = True
         for index, character in self.input.values():
             is_inside = z3.ULT(index - offset, count)
             if not other:
                 return None
-            if self.is_known(character, False):
+            if self.is_known_digit(character, False):
                 other = other.branch(z3.Not(is_inside))
-            elif are_named and not self.is_known(character, True) and other.is_valid(is_inside):
+            elif (
+                with_known_bytes
+                and not self.is_known_digit(character, True)
+                and other.is_valid(is_inside)
+            ):
                 other = other.branch(self.contract.is_digit(character))
         return other
 
-    def with_no_digit(self, offset):
-        """This state where a character of the input is no digit, or None if it can't be: it lies in
-        no part that has digits alone."""
+    def assuming_non_digit(self, offset):
+        """This state where a character of the input is no digit, or None if that is infeasible: it
+        lies in no range of digits."""
         other = self.branch(z3.Not(self.contract.is_digit(self.byte_of_input(offset))))
-        for start, count in list(self.known_digits()):
+        for start, count in list(self.known_digit_ranges()):
             other = other and other.branch(z3.Not(z3.ULT(offset - start, count)))
         return other
 
     # Calls
     def return_to(self, address):
-        """A number that stands for the address of an instruction, to which a return will go."""
+        """A constant that stands for the return address of a call."""
         token = public(f"return_{address:x}", 64)
-        self.calls |= {token.decl().name(): address}
+        self.return_targets |= {token.decl().name(): address}
         return token
 
-    def returned(self):
-        """What a return out of the function needs."""
+    def prove_abi_at_return(self):
+        """Proves what the ABI asks for at a return: the callee-saved registers are preserved."""
         for name in self.CALLEE_SAVED:
             self.prove(self.general[name] == self.entry.general[name], f"{name} is not preserved")
         for number, count in self.CALLEE_SAVED_VECTORS.items():
-            for byte_now, before in zip(self.vectors[number][:count], self.entry.vectors[number]):
-                self.prove(byte_now == before, f"v{number} is not preserved")
+            saved_bytes = self.entry.vectors[number][:count]
+            for value, saved in zip(self.vectors[number], saved_bytes):
+                self.prove(value == saved, f"v{number} is not preserved")
 
     def arguments(self, count):
-        """So many arguments, at the first instruction of a function: in registers, and then in the
-        stack."""
-        return [self.general[name] for name in self.ARGUMENTS[:count]] + [
-            self.cell("stack", self.top() + self.frame(index), 8)
-            for index in range(len(self.ARGUMENTS), count)
+        """The first `count` arguments, at the first instruction of a function: in registers, and
+        then on the stack."""
+        in_registers = [self.general[name] for name in self.ARGUMENT_REGISTERS[:count]]
+        on_stack = [
+            self.number_in("stack", self.sp_offset() + self.argument_frame_size(index), 8)
+            for index in range(len(self.ARGUMENT_REGISTERS), count)
         ]
+        return in_registers + on_stack
 
     def result(self, bits=None, number=0):
-        """So many bits of a result, or those that callers may look at if it is a bool."""
-        return simple(z3.Extract((bits or self.BOOL) - 1, 0, self.general[self.RESULTS[number]]))
+        """The lowest bits of a result; without `bits` those of a bool, since callers ignore its
+        others."""
+        register = self.RESULT_REGISTERS[number]
+        return simplify(z3.Extract((bits or self.BOOL_BITS) - 1, 0, self.general[register]))
 
     def prove_call(self):
-        """What a function needs that is called by its contract: its stack, which is aligned."""
-        top = self.top()
+        """Proves that a callee has enough stack, and that it is aligned."""
+        sp_offset = self.sp_offset()
+        is_aligned = (sp_offset - self.STACK_SIZE) % 16 == 0
         require(
-            top >= self.STACK_OF_CALLED and (top - self.STACK) % 16 == 0,
-            "the stack of a function that is called",
+            sp_offset >= self.CALLEE_STACK_SIZE and is_aligned,
+            "the stack of a callee is too small or misaligned",
         )
 
-    def frame(self, count):
-        """How many bytes of the stack belong to a call with so many arguments."""
-        return self.RETURN + 8 * max(0, count - len(self.ARGUMENTS))
+    def argument_frame_size(self, count):
+        """The bytes of the stack that the return address and `count` arguments of a call take."""
+        return self.RETURN_ADDRESS_SIZE + 8 * max(0, count - len(self.ARGUMENT_REGISTERS))
 
     def havoc_arguments(self, count):
-        """Those in the stack belong to what was called."""
-        for offset in range(self.RETURN, self.frame(count)):
-            self.put_cells("stack", self.top() + offset, [fresh_secret(8)])
+        """Havocs the arguments of a call on the stack, which a callee may overwrite."""
+        for offset in range(self.RETURN_ADDRESS_SIZE, self.argument_frame_size(count)):
+            self.put_cells("stack", self.sp_offset() + offset, [fresh_secret(8)])
 
     def havoc_registers(self):
-        """A function that was called has changed all registers that it need not keep."""
-        preserved = (*self.CALLEE_SAVED, self.TOP)
+        """Havocs the caller-saved registers, which a callee may overwrite."""
+        preserved = (*self.CALLEE_SAVED, self.SP)
         self.general = {
             name: value if name in preserved else fresh_secret(64)
             for name, value in self.general.items()
@@ -431,7 +480,9 @@ class State:
         self.flags = None
 
     def put_results(self, results):
-        """A number has some bits, and nothing is known of the others. So has a bool."""
-        for register, result in zip(self.RESULTS, results):
-            result = result if z3.is_expr(result) else z3.BitVecVal(result, self.BOOL)
-            self.general[register] = simple(z3.Extract(63, 0, z3.Concat(fresh_secret(64), result)))
+        """Sets the results of a call. The bits of a register above a result are unknown."""
+        for register, result in zip(self.RESULT_REGISTERS, results):
+            result = result if z3.is_expr(result) else z3.BitVecVal(result, self.BOOL_BITS)
+            self.general[register] = simplify(
+                z3.Extract(63, 0, z3.Concat(fresh_secret(64), result))
+            )

@@ -1,1 +1,1 @@
-"""Not trusted: loop invariants. A wrong one is rejected."""
+"""Not trusted: loop invariant inference. A wrong invariant is rejected."""

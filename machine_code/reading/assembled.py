@@ -1,9 +1,9 @@
-"""The instructions of a section, as `objdump` prints them, assembled again.
+"""Disassembles code with `objdump`, and assembles the result again with `as`, as a round trip.
 
-`objdump` prints several encodings as the same text, also some that a CPU rejects, and it
-knows instructions that not every CPU has. So each text goes to the assembler, which knows what
-the CPU has. An instruction is rejected where it is run, unless the assembler makes the same bytes
-of its text and has nothing to say.
+`objdump` prints several encodings as the same text, also some that are undefined, and it knows
+instructions that not every CPU has. So the text of each instruction goes to the assembler, which is
+told what the CPU has. An instruction is rejected where it is run, unless the assembler encodes its
+text as the same bytes, without a diagnostic.
 """
 
 import collections
@@ -16,74 +16,79 @@ from elftools.elf.elffile import ELFFile
 
 from reading.image import AARCH64, X86_64
 
-# `rejected` says why it must not be run, or is None.
+# `rejected` is the reason why it must not be run, or None.
 Instruction = collections.namedtuple(
     "Instruction", "address size mnemonic operands text rejected", defaults=[None]
 )
-# By the processor: what prints its instructions, and what begins a comment there.
+# By the machine: the command, and a pattern of what begins a comment in its output.
 DISASSEMBLERS = {
     X86_64: (["objdump", "-m", "i386:x86-64", "-M", "intel", "-w"], "[#<]"),
     AARCH64: (["aarch64-linux-gnu-objdump", "-m", "aarch64"], "//|<"),
 }
-LINE = re.compile(r"^\s*([0-9a-f]+):\t((?:(?:[0-9a-f]{2})+ )+)\s*\t(.*)$")
-# Each text is assembled in a slot of its own, which has more bytes than an instruction, and these
-# where none is.
-SLOT, FILL = 16, b"\xcc"
+# The address, the bytes and the text of an instruction in the output of `objdump`.
+OBJDUMP_LINE = re.compile(r"^\s*([0-9a-f]+):\t((?:(?:[0-9a-f]{2})+ )+)\s*\t(.*)$")
+# Each text is assembled in a slot of its own, which is longer than any instruction and padded.
+SLOT_SIZE, PADDING = 16, b"\xcc"
 ADDRESS = re.compile(r"(?<!#)\b0x([0-9a-f]+)$")
-MESSAGE = re.compile(r"\{standard input\}:(\d+): \w+: (.*)")
+DIAGNOSTIC = re.compile(r"\{standard input\}:(\d+): \w+: (.*)")
 
 
-def with_distance(instruction):
-    """The text of an instruction that ends in an address, with the distance to it."""
+def with_relative_target(instruction):
+    """The text of an instruction, whose target, if it ends in one, is relative to its address."""
     return ADDRESS.sub(
         lambda match: f".{int(match[1], 16) - instruction.address:+d}", instruction.text
     )
 
 
-def read(part, processor, operands, command, text_of, is_same):
-    """The instructions of some code, by address. `operands` reads what stands after a mnemonic.
-    Those that the assembler makes otherwise have a reason why they are rejected: `text_of` gives
-    what is assembled for one, and `is_same` says of one whose bytes differ that they are right."""
-    (first, content), instructions = part, printed(part, processor, operands)
-    made, messages = _assembled(command, map(text_of, instructions.values()))
-    for number, (address, i) in enumerate(instructions.items()):
-        old, new = content[address - first :][: i.size], made[SLOT * number :][:SLOT]
-        if (messages[number] or new != old.ljust(SLOT, FILL)) and not is_same(i, old, new):
-            what = "; ".join(messages[number]) or new.rstrip(FILL).hex()
-            instructions[address] = i._replace(
-                rejected=f"{old.hex()} is not what the assembler makes of it: {what}"
+def disassemble_and_check(code, machine, parse_operands, command, text_of, is_equivalent):
+    """The instructions of some code, by their addresses. An instruction that the assembler encodes
+    otherwise is rejected. `parse_operands` parses what stands after a mnemonic, `text_of` gives the
+    text that is assembled for an instruction, and `is_equivalent` accepts another encoding."""
+    start, content = code
+    instructions = disassemble(code, machine, parse_operands)
+    slots, diagnostics = _assemble(command, map(text_of, instructions.values()))
+    for number, (address, instruction) in enumerate(instructions.items()):
+        encoding = content[address - start :][: instruction.size]
+        assembled = slots[SLOT_SIZE * number :][:SLOT_SIZE]
+        is_same = assembled == encoding.ljust(SLOT_SIZE, PADDING) and not diagnostics[number]
+        if not is_same and not is_equivalent(instruction, encoding, assembled):
+            result = "; ".join(diagnostics[number]) or assembled.rstrip(PADDING).hex()
+            instructions[address] = instruction._replace(
+                rejected=f"{encoding.hex()} is not assembled again to the same bytes: {result}"
             )
     return instructions
 
 
-def printed(part, processor, operands=lambda text: ()):
-    """The instructions of some code, by address, as `objdump` prints them."""
-    first, content = part
-    command, comment = DISASSEMBLERS[processor]
+def disassemble(code, machine, parse_operands=lambda text: ()):
+    """The instructions of some code, by their addresses, as `objdump` prints them."""
+    start, content = code
+    command, comment = DISASSEMBLERS[machine]
     with tempfile.NamedTemporaryFile() as file:
         file.write(content)
         file.flush()
-        command = [*command, "-D", "-b", "binary", f"--adjust-vma={first:#x}", file.name]
+        command = [*command, "-D", "-b", "binary", f"--adjust-vma={start:#x}", file.name]
         listing = subprocess.run(command, check=True, capture_output=True, text=True).stdout
     instructions = {}
-    for match in filter(None, map(LINE.match, listing.splitlines())):
+    for match in filter(None, map(OBJDUMP_LINE.match, listing.splitlines())):
         address, size = int(match[1], 16), len(bytes.fromhex(match[2]))
         text = re.split(comment, match[3])[0].replace("\t", " ").strip()
-        # A nop may have prefixes and operands, which mean nothing. That of two bytes has another
-        # name.
+        # A nop may have prefixes and operands without a meaning. objdump prints that of two bytes
+        # as xchg.
         mnemonic, _, rest = re.sub("^(data16 |cs )*nop.*|^xchg +ax,ax$", "nop", text).partition(" ")
         try:
-            instructions[address] = Instruction(address, size, mnemonic, operands(rest), text)
+            operands = parse_operands(rest)
         except Exception:
-            # An operand that is not known here. It is rejected if it is run.
-            instructions[address] = Instruction(address, size, "unknown", (), text)
+            # An unsupported operand. The instruction is rejected if it is run.
+            mnemonic, operands = "unknown", ()
+        instructions[address] = Instruction(address, size, mnemonic, operands, text)
     return instructions
 
 
-def _assembled(command, texts):
-    """The slots with what the assembler makes of each text, and what it says of each."""
+def _assemble(command, texts):
+    """The slots with the encoding of each text, and the assembler's diagnostics of each."""
     lines = [
-        f".org {SLOT * number}, {FILL[0]}; {text}\n" for number, text in enumerate([*texts, ""])
+        f".org {SLOT_SIZE * number}, {PADDING[0]}; {text}\n"
+        for number, text in enumerate([*texts, ""])
     ]
     english = os.environ | {"LC_ALL": "C"}
     with tempfile.NamedTemporaryFile() as file:
@@ -94,8 +99,8 @@ def _assembled(command, texts):
         )
         if not file.read():
             raise OSError(f"{command[0]} fails: {run.stderr}")
-        made = ELFFile(file).get_section_by_name(".text").data()
-    messages = collections.defaultdict(list)
-    for line, words in MESSAGE.findall(run.stderr):
-        messages[int(line) - 1].append(words)
-    return made, messages
+        slots = ELFFile(file).get_section_by_name(".text").data()
+    diagnostics = collections.defaultdict(list)
+    for line, message in DIAGNOSTIC.findall(run.stderr):
+        diagnostics[int(line) - 1].append(message)
+    return slots, diagnostics

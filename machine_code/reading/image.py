@@ -1,9 +1,8 @@
-"""A linked file as it lies in memory: its parts at fixed distances, and the addresses of its names.
-What runs is what is proved, so no linker is trusted.
+"""A linked file as the loader maps it: segments or sections at fixed offsets, and the addresses of
+its symbols. The code that runs is the code that is proved, so no linker is trusted.
 
-elf.py, mach_o.py and pe.py read a file that an ordinary linker made of an honest build. They look
-for what such a build can get wrong. A file made to deceive is out of scope: it can run any other
-code.
+elf.py, mach_o.py and pe.py read a file that an ordinary linker made of an honest build, and reject
+what such a build can get wrong. A file made to deceive is out of scope: it can run any other code.
 """
 
 import re
@@ -11,95 +10,104 @@ from collections import namedtuple
 
 from contracts.names import FUNCTIONS
 
-X86_64, AARCH64 = 62, 183  # e_machine of ELF
-ALIGNMENT = {X86_64: 1, AARCH64: 4}  # of code
-MAX_CODE = 1 << 14  # Code is read up to the next symbol, or so many bytes.
-PAGES = 1 << 16  # The file is counted from a multiple of this number, which each page size divides.
+X86_64, AARCH64 = 62, 183  # EM_X86_64, EM_AARCH64
+INSTRUCTION_ALIGNMENT = {X86_64: 1, AARCH64: 4}
+MAX_CODE_SIZE = 1 << 14  # in bytes, of code that no symbol follows
+MAX_PAGE_SIZE = 1 << 16
 PREFIX = "const_hex_"
-HEADER = {PREFIX + name for name in FUNCTIONS}
-# The symbols of the byte in which the dispatcher of the C library, or of the Rust crate, keeps its
-# choice.
-CHOICE = re.compile(rf"{PREFIX}(kernel|\d+_\d+_\d+)_choice")
+HEADER_FUNCTIONS = {PREFIX + name for name in FUNCTIONS}
+# The symbols of the byte in which the dispatcher of the C library, or of the Rust crate, stores
+# which kernel it has chosen.
+DISPATCH_BYTE = re.compile(rf"{PREFIX}(kernel|\d+_\d+_\d+)_choice")
 
 
-# A segment or a section. It has zeros after its bytes in the file, up to its size in memory.
-Part = namedtuple("Part", "address size content is_writable is_executable")
+# A segment (ELF) or a section (PE, Mach-O). After its bytes in the file it has zeros up to its size
+# in memory.
+Mapping = namedtuple("Mapping", "address size content is_writable is_executable")
 
 
 class Image:
-    def __init__(self, machine, parts):
-        if machine not in ALIGNMENT or not parts:
+    """The mappings of a file for a machine (e_machine of ELF), and its symbols."""
+
+    def __init__(self, machine, mappings):
+        if machine not in INSTRUCTION_ALIGNMENT or not mappings:
             raise ValueError(
                 "no linked library or program for x86-64 or AArch64; an object has to be linked, "
                 "as machine_code/README.md says"
             )
-        if any(part.is_writable and part.is_executable for part in parts):
-            raise ValueError("code that can be written: link without -N and -n")
-        self.machine, self.parts = machine, sorted(parts)
-        self.first = self.parts[0].address // PAGES * PAGES
-        self.size = max(part.address + part.size for part in parts) - self.first
-        # What is named after the library, the addresses of all names, and those of the dispatcher's
-        # byte.
-        self.symbols = {}
-        self.starts = set()
-        self.choices = set()
-        # The functions of the header that the loader finds by name, and what other files have to
-        # define.
+        if any(mapping.is_writable and mapping.is_executable for mapping in mappings):
+            raise ValueError("a writable and executable segment: link without -N and -n")
+        self.machine, self.mappings = machine, sorted(mappings)
+        # The lowest address, rounded down to a page of any size.
+        self.base_address = self.mappings[0].address // MAX_PAGE_SIZE * MAX_PAGE_SIZE
+        self.size = max(mapping.address + mapping.size for mapping in mappings) - self.base_address
+        self.symbols = {}  # the addresses of those that begin with PREFIX
+        self.symbol_addresses = set()  # of all symbols
+        self.dispatch_bytes = set()  # addresses
+        # The functions of the header that other files find by name, and those that are undefined.
         self.exported = set()
         self.imported = set()
-        # The addresses that the loader writes in parts that are not writable.
+        # The addresses that the loader relocates in mappings that are not writable.
         self.relocated = set()
 
     def add_symbol(self, name, address, size=1):
-        """Adds a symbol, whose size PE and Mach-O do not have."""
-        self.starts.add(address)
-        if CHOICE.fullmatch(name) and size == 1:
-            self.choices.add(address)
+        """Adds a symbol. PE and Mach-O do not have its size."""
+        self.symbol_addresses.add(address)
+        if DISPATCH_BYTE.fullmatch(name) and size == 1:
+            self.dispatch_bytes.add(address)
         if name.startswith(PREFIX) and self.symbols.setdefault(name, address) != address:
             raise ValueError(f"{name} has two addresses: link one version of the library")
 
     def add_exported(self, name, address):
-        if name in HEADER or name in self.symbols:
+        """Adds a symbol that the loader finds by name."""
+        if name in HEADER_FUNCTIONS or name in self.symbols:
             self.add_symbol(name, address, size=0)
-            self.exported |= {name} & HEADER
+            self.exported |= {name} & HEADER_FUNCTIONS
 
     def add_imported(self, name):
-        self.imported |= {name} & HEADER
+        """Adds an undefined symbol, which the loader finds in another file."""
+        self.imported |= {name} & HEADER_FUNCTIONS
 
-    def part_at(self, address):
-        inside = (part for part in self.parts if part.address <= address < part.address + part.size)
-        return next(inside, None)
+    def mapping_at(self, address):
+        """The mapping that an address lies in, or None."""
+        for mapping in self.mappings:
+            if mapping.address <= address < mapping.address + mapping.size:
+                return mapping
+        return None
 
     def bytes_at(self, address, size, is_code=False):
-        """So many bytes of code or constants, or fewer: up to where they end, or the loader
-        writes."""
-        part = self.part_at(address)
-        if not part or part.is_writable or is_code and not part.is_executable:
+        """Up to `size` bytes of code or constants, not beyond the mapping or to a relocated
+        address."""
+        mapping = self.mapping_at(address)
+        if not mapping or mapping.is_writable or is_code and not mapping.is_executable:
             return b""
-        content = part.content[address - part.address :][:size]
-        relocated = (at for at in range(len(content)) if address + at in self.relocated)
+        content = mapping.content[address - mapping.address :][:size]
+        relocated = (index for index in range(len(content)) if address + index in self.relocated)
         return content[: next(relocated, None)]
 
-    def read(self, offset, count):
-        """The constants at an offset, which may be fewer."""
-        return self.bytes_at(self.first + offset, count)
+    def read_constants(self, offset, count):
+        """Up to `count` bytes of constants at an offset from the base address."""
+        return self.bytes_at(self.base_address + offset, count)
 
-    def is_choice(self, address):
-        """Whether it is the byte of a dispatcher, which is 0 at the start, and belongs to nothing
-        else."""
-        part = self.part_at(address) if address in self.choices else None
-        return bool(
-            part and part.is_writable and not any(part.content[address - part.address :][:1])
-        )
+    def is_dispatch_byte(self, address):
+        """Whether the address is that of a dispatcher's byte, which is writable and at first 0."""
+        mapping = self.mapping_at(address) if address in self.dispatch_bytes else None
+        if not mapping or not mapping.is_writable:
+            return False
+        initial_value = mapping.content[address - mapping.address :][:1]
+        return not any(initial_value)
 
     def code_at(self, address):
-        """The address, and the code from there on, if it is code."""
-        end = min([address + MAX_CODE, *(start for start in self.starts if start > address)])
+        """The address with the code from there up to the next symbol, or None if no code is
+        there."""
+        following = [start for start in self.symbol_addresses if start > address]
+        end = min([address + MAX_CODE_SIZE, *following])
         code = self.bytes_at(address, end - address, is_code=True)
-        return (address, code) if code and address % ALIGNMENT[self.machine] == 0 else None
+        is_aligned = address % INSTRUCTION_ALIGNMENT[self.machine] == 0
+        return (address, code) if code and is_aligned else None
 
     def name_at(self, address):
-        """Where an address is, for messages."""
-        names = [(start, name) for name, start in self.symbols.items() if start <= address]
-        start, name = max(names, default=(0, "the file"))
+        """The symbol that comes before an address, and the offset from it, for messages."""
+        symbols = [(start, name) for name, start in self.symbols.items() if start <= address]
+        start, name = max(symbols, default=(0, "the file"))
         return f"{name}+{address - start:#x}"

@@ -1,17 +1,17 @@
-"""What can be proved: a linked file, or a module for WebAssembly."""
+"""Reads a file of any format, and checks that it has the symbols that a proof needs."""
 
 import functools
 
 from contracts.names import FUNCTIONS, WITH_ERROR
 from reading import elf, image, mach_o, module, pe
 
-MODULE, PE = b"\0asm", b"MZ"
-# By the first bytes of a file.
+WASM_MAGIC, PE_MAGIC = b"\0asm", b"MZ"
+# By the magic number, the first bytes of a file.
 READERS = {
     b"\x7fELF": elf.read,
     b"\xcf\xfa\xed\xfe": mach_o.read,
-    PE: pe.read,
-    MODULE: module.read,
+    PE_MAGIC: pe.read,
+    WASM_MAGIC: module.read,
 }
 
 
@@ -25,61 +25,64 @@ def read(data):
             except (OSError, ValueError):
                 raise
             except Exception as error:
-                # It ends too early, or says that something lies where nothing is.
-                raise ValueError(f"a file that is cut or damaged: {error!r}")
+                # It is truncated, or has an offset outside of it.
+                raise ValueError(f"a truncated or corrupt file: {error!r}")
     if data.startswith(b"\xca\xfe\xba\xbe"):
         raise ValueError(
-            "a universal file: prove what `lipo -thin` makes of it, for each processor"
+            "a universal file: prove what `lipo -thin` extracts of it, for each processor"
         )
     raise ValueError(
-        "no linked file of ELF, Mach-O or PE, and no module; an archive has to be linked, "
-        "as machine_code/README.md says"
+        "not a linked ELF, Mach-O or PE file, nor a WebAssembly module; an archive has to be "
+        "linked, as machine_code/README.md says"
     )
 
 
-def whole(data):
-    """The same, if it has the names that are needed to prove it."""
+def read_and_validate(data):
+    """The same, if it has the symbols that a proof needs."""
     file = read(data)
-    if data.startswith(MODULE):
+    if data.startswith(WASM_MAGIC):
         _check_exports(file)
     elif (
-        data.startswith(PE) and file.machine == image.X86_64 and image.HEADER & file.symbols.keys()
+        data.startswith(PE_MAGIC)
+        and file.machine == image.X86_64
+        and image.HEADER_FUNCTIONS & file.symbols.keys()
     ):
         raise ValueError(
             "compilers for Windows call functions for C by another ABI, which is not proved"
         )
     else:
-        _check_names(file)
+        _check_symbols(file)
     return file
 
 
 def _check_exports(module):
-    """A module exports what the package uses, and nothing else."""
-    wanted = {"memory", "__data_end", "__heap_base"}
-    wanted |= {f"const_hex_{name}" for name, function in FUNCTIONS.items() if function.is_in_module}
-    for name in sorted((module.exported | module.addresses.keys()) ^ wanted):
-        raise ValueError(
-            f"the export {name!r}: it is missing, or belongs to nothing of the library"
-        )
+    """A module has the exports that the package uses, and no other."""
+    expected = {"memory", "__data_end", "__heap_base"}
+    expected |= {
+        f"const_hex_{name}" for name, function in FUNCTIONS.items() if function.is_in_module
+    }
+    for name in sorted((module.exported | module.exported_globals.keys()) ^ expected):
+        raise ValueError(f"the export {name!r} is missing or unexpected")
 
 
-def _check_names(file):
+def _check_symbols(file):
+    """A linked file has all functions of the library, or none, and its hidden symbols."""
     if not file.symbols and file.imported:
         raise ValueError(
             f"it calls {min(file.imported)} of a shared library: prove the shared library, "
             "such as libconst_hex.so"
         )
     # A loader finds each function of the header, or none.
-    if file.exported and (missing := image.HEADER - file.exported):
+    if file.exported and (missing := image.HEADER_FUNCTIONS - file.exported):
         raise ValueError(f"the loader does not find {', '.join(sorted(missing))}: export them, too")
-    # Without a dispatcher, a program for x86-64-v3 alone calls the kernel.
+    # A program that is compiled for x86-64-v3 calls that kernel directly, and has no dispatcher.
     has_dispatcher = any(name + "_v3" in file.symbols for name in file.symbols)
     hidden = {
         name + "_nonnull" for name in file.symbols if name.removeprefix("const_hex_") in WITH_ERROR
     }
-    if hidden - file.symbols.keys() or has_dispatcher and not file.choices:
+    if hidden - file.symbols.keys() or has_dispatcher and not file.dispatch_bytes:
         raise ValueError(
-            "it is built from portable.c, which this tool does not prove, or stripped: the names of "
-            "hidden functions or of the dispatcher's byte are missing. Use neither strip nor "
+            "it is built from portable.c, which this tool does not prove, or stripped: the symbols "
+            "of hidden functions or of the dispatcher's byte are missing. Use neither strip nor "
             "strip -x, nor -Wl,-s or -Wl,-x"
         )

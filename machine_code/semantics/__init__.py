@@ -1,1 +1,1 @@
-"""Trusted: what instructions do."""
+"""Trusted: the semantics of instructions, and calling conventions."""

@@ -1,19 +1,20 @@
-"""AArch64: its operands as `objdump` writes them, what each instruction does, and the procedure
-call standard.
+"""AArch64: the syntax of operands in `objdump`, the semantics of each instruction, and the procedure
+call standard (AAPCS64).
 
 If the semantics were wrong, code would be proved that does something else. test_semantics.py
-compares each form that occurs with QEMU. An instruction is rejected unless the assembler, which
-knows ARMv8.0, makes the same bytes of its text.
+compares each form that occurs with QEMU. An instruction is rejected unless the assembler, which is
+told ARMv8.0, encodes its text as the same bytes.
 """
 
+import itertools
 import re
 from operator import add, and_, invert, lshift, mul, neg, or_, sub, xor
 
 import z3
 
-from execution import state
 from execution.paths import Branch
-from execution.terms import byte, joined, simple, split, word
+from execution.state import State as CommonState
+from execution.terms import bv64, bv8, bytes_le, concat_le, simplify
 from reading import assembled
 from reading.image import AARCH64
 from semantics.lanes import (
@@ -22,16 +23,16 @@ from semantics.lanes import (
     SUBTRACT_SATURATED,
     Operand,
     bytes_of,
+    condition_holds,
     conditions,
     difference_flags,
-    each,
     general,
-    holds,
     jump_if,
     lanes,
-    looked_up,
+    map_lanes,
     set_if,
     sum_flags,
+    table_lookup,
 )
 from solver.questions import public, require
 
@@ -39,14 +40,14 @@ from solver.questions import public, require
 OPERAND = re.compile(r"\[[^]]*\]!?|\{[^}]*\}(?:\[\d+\])?|[^,\s][^,]*")
 SIZES = {"b": 1, "h": 2, "s": 4, "d": 8, "q": 16}
 ADRP_IMMEDIATE = 0x60FFFFE0  # the bits of immlo and immhi
-# Of a general register: not x18, which belongs to the platform.
-NUMBER = r"(?!18\b)\d+"
+# The number of a general register, but not of x18, the platform register.
+REGISTER_NUMBER = r"(?!18\b)\d+"
 
 
-def _operand(text):
-    """A register of so many bytes, of which a vector has lanes; an element of a vector; a number;
-    an address; how another operand is shifted; or a condition."""
-    if match := re.fullmatch(rf"([xw])({NUMBER}|zr)|(w?sp)", text):
+def _parse_operand(text):
+    """A general register, a vector with its arrangement of lanes, an element of a vector, an
+    address, a shift or extension of the operand before it, a condition code, or an immediate."""
+    if match := re.fullmatch(rf"([xw])({REGISTER_NUMBER}|zr)|(w?sp)", text):
         name = "sp" if match[3] else f"x{match[2]}"
         return Operand("general", 4 if text[0] == "w" else 8, name)
     if match := re.fullmatch(r"([bhsdq])(\d+)", text):
@@ -57,385 +58,450 @@ def _operand(text):
     if match := re.fullmatch(r"\{?v(\d+)\.([bhsd])\}?\[(\d+)\]", text):
         size = SIZES[match[2]]
         return Operand("element", size, int(match[1]), offset=int(match[3]) * size)
-    if match := re.fullmatch(rf"\[(x{NUMBER}|sp)(?:, (?:#(-?\d+)|(x{NUMBER})))?\](!?)", text):
+    register = f"x{REGISTER_NUMBER}"
+    if match := re.fullmatch(rf"\[({register}|sp)(?:, (?:#(-?\d+)|({register})))?\](!?)", text):
         terms = [(name, 1) for name in (match[1], match[3]) if name]
-        return Operand("memory", terms=terms, offset=int(match[2] or 0), is_moved=bool(match[4]))
+        return Operand("memory", terms=terms, offset=int(match[2] or 0), writeback=bool(match[4]))
     if match := re.fullmatch(r"(lsl|lsr) #(\d+)|(uxtw)", text):
         return Operand("shift", name=match[1] or match[3], value=int(match[2] or 0))
     if text in CONDITIONS:
         return Operand("condition", value=CONDITIONS[text])
     number = text.removeprefix("#")
-    return Operand("number", value=int(number, 16 if number == text else 0))
+    return Operand("immediate", value=int(number, 16 if number == text else 0))
 
 
-def _operands(text):
-    """Those of an instruction. What stands after an address is added to its base afterwards."""
-    # Two registers in braces, which are loaded or stored, are two operands.
-    operands = [
-        _operand(part.strip())
-        for part in OPERAND.findall(re.sub(r"^{(.*?), (.*?)}", r"{\1}, {\2}", text))
-    ]
+def _parse_operands(text):
+    """The operands of an instruction. The operand after an address is its post-index."""
+    # A list of two registers in braces makes two operands.
+    text = re.sub(r"^{(.*?), (.*?)}", r"{\1}, {\2}", text)
+    operands = [_parse_operand(part.strip()) for part in OPERAND.findall(text)]
     if len(operands) > 1 and operands[-2].kind == "memory":
-        *operands, after = operands
-        operands[-1].after = after
+        *operands, post_index = operands
+        operands[-1].post_index = post_index
     return operands
 
 
-def _is_page(i, old, new):
-    """Whether an `adrp` has the page of its text, which the assembler leaves to the linker."""
-    if i.mnemonic != "adrp":
+def _is_adrp_of_target(instruction, encoding, reassembled):
+    """Whether an `adrp` encodes the page of its text. The assembler leaves it to a relocation."""
+    if instruction.mnemonic != "adrp":
         return False
-    code, without_page = [int.from_bytes(part[:4], "little") for part in (old, new)]
+    code, without_page = [int.from_bytes(part[:4], "little") for part in (encoding, reassembled)]
     immlo = code >> 29 & 3
     immhi = code >> 5 & 0x7FFFF
     pages = immhi << 2 | immlo
     signed_pages = pages - (pages >> 20 << 21)
-    target = (i.address >> 12) + signed_pages << 12
+    target = (instruction.address >> 12) + signed_pages << 12
     is_same = (code ^ without_page) & ~ADRP_IMMEDIATE == 0
-    return is_same and i.operands[1].value == target
+    return is_same and instruction.operands[1].value == target
 
 
 def instructions(code, part, level):
     """The instructions of a part of a file, by their addresses."""
-    command = ["aarch64-linux-gnu-as", "-march=armv8-a"]
-    return assembled.read(part, AARCH64, _operands, command, assembled.with_distance, _is_page)
+    return assembled.disassemble_and_check(
+        part,
+        AARCH64,
+        _parse_operands,
+        command=["aarch64-linux-gnu-as", "-march=armv8-a"],
+        text_of=assembled.with_relative_target,
+        is_equivalent=_is_adrp_of_target,
+    )
 
 
-class State(state.State):
-    """The arguments are in these registers, and a call has left the address to return to in x30."""
+class State(CommonState):
+    """The registers of AArch64. A call leaves the return address in x30."""
 
-    TOP = "sp"
-    STACK, STACK_OF_CALLED, STACK_OF_CALLER, STACK_OF_DISPATCH = 2000, 64, 128, 2032
-    RETURN = 0
-    VECTORS, WIDTH = 32, 16
-    GENERAL = *(f"x{number}" for number in range(31)), "sp"
-    ARGUMENTS = tuple(f"x{number}" for number in range(8))
-    RESULTS, BOOL = ("x0", "x1"), 32
+    SP = "sp"
+    # In bytes: of a function with all that it calls; of a callee with a contract, at the depth 0,
+    # and more for each greater depth; and of a function with its dispatcher.
+    STACK_SIZE = 2000
+    CALLEE_STACK_SIZE = 64
+    CALLER_STACK_SIZE = 128
+    DISPATCHER_STACK_SIZE = 2032
+    RETURN_ADDRESS_SIZE = 0  # on the stack
+    VECTOR_COUNT, VECTOR_SIZE = 32, 16
+    GENERAL_REGISTERS = *(f"x{number}" for number in range(31)), "sp"
+    ARGUMENT_REGISTERS = tuple(f"x{number}" for number in range(8))
+    RESULT_REGISTERS, BOOL_BITS = ("x0", "x1"), 32
     CALLEE_SAVED = "sp", *(f"x{number}" for number in range(19, 30))
     CALLEE_SAVED_VECTORS = dict.fromkeys(range(8, 16), 8)
-    IS_FIRST_SOURCE = False
+    IS_TWO_ADDRESS = False  # whether the destination operand is also the first source
 
     def enter(self):
-        self.general["sp"] = simple(self.regions["stack"].base + self.STACK)
+        """Sets the registers that a call sets."""
+        self.general["sp"] = simplify(self.regions["stack"].base + self.STACK_SIZE)
         self.general["x30"] = public("return", 64)
 
     def return_address(self):
+        """The address that a callee returns to."""
         return self.general["x30"]
 
     # Operands
-    def number(self, o, size=None):
-        """What a general register or a number has."""
-        if o.kind == "number":
-            return z3.BitVecVal(o.value, 8 * size)
-        require(o.kind == "general", "a general register is needed")
-        whole = word(0) if o.name == "xzr" else self.general[o.name]
-        return whole if o.size == 8 else simple(z3.Extract(31, 0, whole))
+    def number(self, operand, size=None):
+        """The value of a general register, or of an immediate of `size` bytes."""
+        if operand.kind == "immediate":
+            return z3.BitVecVal(operand.value, 8 * size)
+        require(operand.kind == "general", "a general register is needed")
+        whole = bv64(0) if operand.name == "xzr" else self.general[operand.name]
+        return whole if operand.size == 8 else simplify(z3.Extract(31, 0, whole))
 
     def numbers(self, operands, size):
-        """Those of general registers. The last one may be shifted, or extended from 32 bits."""
+        """The values of source operands. The last one may be shifted, or extended from 32 bits."""
         if operands[-1].kind != "shift":
-            return [self.number(o, size) for o in operands]
-        *operands, last, shifted = operands
-        if size == 8 and last.size == 4 and shifted.name == "uxtw":
+            return [self.number(operand, size) for operand in operands]
+        *operands, last, modifier = operands
+        if size == 8 and last.size == 4 and modifier.name == "uxtw":
             number = z3.ZeroExt(32, self.number(last))
         else:
-            require(shifted.name in SHIFTS, "an unsupported shift")
-            number = SHIFTS[shifted.name](self.number(last, size), shifted.value)
-        return [*self.numbers(operands, size), simple(number)]
+            require(modifier.name in SHIFTS, "an unsupported shift")
+            number = SHIFTS[modifier.name](self.number(last, size), modifier.value)
+        return [*self.numbers(operands, size), simplify(number)]
 
-    def data(self, o):
+    def data(self, operand):
         """The bytes of any register."""
-        if o.kind == "general":
-            return split(self.number(o))
-        return self.vectors[o.name][o.offset :][: o.size]
+        if operand.kind == "general":
+            return bytes_le(self.number(operand))
+        return self.vectors[operand.name][operand.offset :][: operand.size]
 
-    def put(self, o, term):
-        if o.name != "xzr":
-            self.general[o.name] = simple(z3.ZeroExt(32, term) if o.size == 4 else term)
+    def put(self, operand, term):
+        """Writes a general register; 32 bits are zero-extended."""
+        if operand.name != "xzr":
+            self.general[operand.name] = simplify(
+                z3.ZeroExt(32, term) if operand.size == 4 else term
+            )
 
-    def put_data(self, o, data):
-        """Writes any register. What lies above in it is cleared, but not what is beside an
-        element."""
-        if o.kind == "general":
-            return self.put(o, joined(data))
-        if o.kind == "element":
-            old = self.vectors[o.name]
-            data = old[: o.offset] + data + old[o.offset + o.size :]
-        self.vectors[o.name] = data + [byte(0)] * (16 - len(data))
+    def put_data(self, operand, data):
+        """Writes any register. A vector is zero-extended; an element leaves the others as they
+        are."""
+        if operand.kind == "general":
+            return self.put(operand, concat_le(data))
+        if operand.kind == "element":
+            old = self.vectors[operand.name]
+            data = old[: operand.offset] + data + old[operand.offset + operand.size :]
+        self.vectors[operand.name] = data + [bv8(0)] * (16 - len(data))
 
 
 SHIFTS = {"lsl": SHIFT_LEFT, "lsr": z3.LShR}
 CONDITIONS = conditions(
     {
-        "eq": lambda flag: flag("z"),
-        "cs": lambda flag: flag("c"),
-        "hi": lambda flag: z3.And(flag("c"), z3.Not(flag("z"))),
-        "gt": lambda flag: z3.And(z3.Not(flag("z")), flag("s") == flag("o")),
+        "eq": lambda flag: flag("zero"),
+        "cs": lambda flag: flag("carry"),
+        "hi": lambda flag: z3.And(flag("carry"), z3.Not(flag("zero"))),
+        "gt": lambda flag: z3.And(z3.Not(flag("zero")), flag("sign") == flag("overflow")),
     },
     {"ne": "eq", "cc": "cs", "ls": "hi", "le": "gt"},
 )
 
 
-def comparison_flags(a, b):
-    """Of a difference. The carry says that nothing is borrowed."""
-    return difference_flags(a, b) | {"c": z3.UGE(a, b)}
+def subs_flags(a, b):
+    """The flags that a subtraction sets: the carry is the opposite of a borrow."""
+    return difference_flags(a, b) | {"carry": z3.UGE(a, b)}
 
 
-def test_flags(a, b):
-    """Of the bits that two numbers have in common. There is no carry."""
-    both = a & b
-    return {"s": both < 0, "z": both == 0, "c": z3.BoolVal(False), "o": z3.BoolVal(False)}
+def ands_flags(a, b):
+    """The flags that a bitwise AND sets."""
+    result = a & b
+    return {
+        "sign": result < 0,
+        "zero": result == 0,
+        "carry": z3.BoolVal(False),
+        "overflow": z3.BoolVal(False),
+    }
 
 
 # General instructions
-def upper_product(s, to, one, other):
-    s.put(to, simple(z3.Extract(127, 64, s.product(s.number(one), s.number(other)))))
+def umulh(state, dest, src1, src2):
+    """The upper half of a product."""
+    product = state.product(state.number(src1), state.number(src2))
+    state.put(dest, simplify(z3.Extract(127, 64, product)))
 
 
-def move_part(s, to, number, *shift):
+def movk(state, dest, number, *shift):
     """Writes 16 bits, and keeps the others."""
     bit = shift[0].value if shift else 0
-    s.put(to, simple(s.number(to) & ~(0xFFFF << bit) | number.value << bit))
+    state.put(dest, simplify(state.number(dest) & ~(0xFFFF << bit) | number.value << bit))
 
 
-def insert_bits(s, to, source, low, count):
-    """So many bits from anywhere in a register replace the lowest of another."""
-    require(count.value < 8 * to.size, "an unsupported bit field")
-    rest = z3.Extract(8 * to.size - 1, count.value, s.number(to))
-    new = z3.Extract(low.value + count.value - 1, low.value, s.number(source, to.size))
-    s.put(to, simple(z3.Concat(rest, new)))
+def bfxil(state, dest, src, low, count):
+    """Bit field extract and insert: the lowest bits of a register become bits of another one."""
+    require(count.value < 8 * dest.size, "an unsupported bit field")
+    rest = z3.Extract(8 * dest.size - 1, count.value, state.number(dest))
+    new = z3.Extract(low.value + count.value - 1, low.value, state.number(src, dest.size))
+    state.put(dest, simplify(z3.Concat(rest, new)))
 
 
 def shift(function):
-    def handler(s, to, source, count):
-        require(count.kind == "number", "an unsupported shift")
-        s.put(to, simple(function(s.number(source, to.size), count.value)))
+    """A shift of a general register by an immediate."""
+
+    def handler(state, dest, src, count):
+        require(count.kind == "immediate", "an unsupported shift")
+        state.put(dest, simplify(function(state.number(src, dest.size), count.value)))
 
     return handler
 
 
 def select(function):
-    def handler(s, to, one, other, condition):
-        is_one = holds(s, condition.value)
-        a = s.number(one, to.size)
-        b = simple(function(s.number(other, to.size)))
-        s.put(to, s.if_then_else(is_one, a, b, is_asked=True))
+    """Conditional select: the first source, or a function of the second one."""
+
+    def handler(state, dest, src1, src2, condition):
+        holds = condition_holds(state, condition.value)
+        then_term = state.number(src1, dest.size)
+        else_term = simplify(function(state.number(src2, dest.size)))
+        state.put(dest, state.if_then_else(holds, then_term, else_term, is_queried=True))
 
     return handler
 
 
 # Vectors
-def require_lanes(*vectors):
-    require(all(o.lane_size for o in vectors), "vectors are needed")
+def require_vectors(*vectors):
+    """Rejects operands without lanes."""
+    require(all(operand.lane_size for operand in vectors), "vectors are needed")
 
 
 def by_lanes(function):
-    def handler(s, to, one, other):
-        require_lanes(to, one, other)
-        s.put_data(to, each(function, to.lane_size, s.data(one), s.data(other)))
+    """Applies a function to each lane of two vectors."""
+
+    def handler(state, dest, src1, src2):
+        require_vectors(dest, src1, src2)
+        state.put_data(
+            dest, map_lanes(function, dest.lane_size, state.data(src1), state.data(src2))
+        )
 
     return handler
 
 
-def by_kind(function):
-    def handler(s, to, *sources):
-        of_kind = general if to.kind == "general" else by_lanes
-        of_kind(function)(s, to, *sources)
+def general_or_by_lanes(function):
+    """An instruction with a form for general registers and one for vectors."""
+
+    def handler(state, dest, *sources):
+        of_kind = general if dest.kind == "general" else by_lanes
+        of_kind(function)(state, dest, *sources)
 
     return handler
 
 
-def shifted(function):
-    def handler(s, to, source, count):
-        require_lanes(to, source)
-        s.put_data(to, each(lambda a: function(a, count.value), to.lane_size, s.data(source)))
+def shift_lanes(function):
+    """Shifts each lane by an immediate."""
+
+    def handler(state, dest, src, count):
+        require_vectors(dest, src)
+        shifted = lambda lane: function(lane, count.value)
+        state.put_data(dest, map_lanes(shifted, dest.lane_size, state.data(src)))
 
     return handler
 
 
-def shift_left_and_insert(s, to, source, count):
-    """The lower bits of each number stay as they were."""
-    require_lanes(to, source)
+def sli(state, dest, src, count):
+    """Shift left and insert: the lowest bits of each lane are preserved."""
+    require_vectors(dest, src)
     inserted = lambda a, old: a << count.value | old & (1 << count.value) - 1
-    s.put_data(to, each(inserted, to.lane_size, s.data(source), s.data(to)))
+    state.put_data(dest, map_lanes(inserted, dest.lane_size, state.data(src), state.data(dest)))
 
 
-def constant(s, to, number):
-    require(to.lane_size, "a vector is needed")
-    s.put_data(to, split(z3.BitVecVal(number.value, 8 * to.lane_size)) * (to.size // to.lane_size))
+def movi(state, dest, immediate):
+    """The immediate in each lane."""
+    require(dest.lane_size, "a vector is needed")
+    lane = bytes_le(z3.BitVecVal(immediate.value, 8 * dest.lane_size))
+    state.put_data(dest, lane * (dest.size // dest.lane_size))
 
 
-def move(s, to, source):
-    """Between registers of any kind. What is above in a register is cleared."""
-    if source.kind == "number" or source.kind == to.kind == "general":
-        return s.put(to, s.number(source, to.size))
-    # An element comes from the lower bytes of a register, and goes into a register that may be
-    # wider.
-    s.put_data(to, s.data(source)[: to.size] + [byte(0)] * (to.size - source.size))
+def move(state, dest, src):
+    """Moves an immediate or a register of any kind, zero-extended."""
+    if src.kind == "immediate" or src.kind == dest.kind == "general":
+        return state.put(dest, state.number(src, dest.size))
+    # Into an element go the lowest bytes of a register; from an element, a register that may be
+    # wider is written.
+    state.put_data(dest, state.data(src)[: dest.size] + [bv8(0)] * (dest.size - src.size))
 
 
-def duplicate(s, to, source):
-    s.put_data(to, s.data(source)[: to.lane_size] * (to.size // to.lane_size))
+def dup(state, dest, src):
+    """The source in each lane."""
+    state.put_data(dest, state.data(src)[: dest.lane_size] * (dest.size // dest.lane_size))
 
 
-def narrow(s, to, source):
-    lower = lambda a: z3.Extract(8 * to.lane_size - 1, 0, a)
-    s.put_data(to, each(lower, source.lane_size, s.data(source)))
+def xtn(state, dest, src):
+    """Extract narrow: the lower half of each lane."""
+    lower = lambda a: z3.Extract(8 * dest.lane_size - 1, 0, a)
+    state.put_data(dest, map_lanes(lower, src.lane_size, state.data(src)))
 
 
-def widen(s, to, source):
-    wide = lambda a: z3.ZeroExt(8 * (to.lane_size - source.lane_size), a)
-    s.put_data(to, each(wide, source.lane_size, s.data(source)))
+def uxtl(state, dest, src):
+    """Zero-extends each lane."""
+    wide = lambda a: z3.ZeroExt(8 * (dest.lane_size - src.lane_size), a)
+    state.put_data(dest, map_lanes(wide, src.lane_size, state.data(src)))
 
 
-def every_second(first):
-    """Every second number of two vectors."""
+def unzip(first):
+    """The even lanes (first = 0) or the odd ones (first = 1) of two vectors."""
 
-    def handler(s, to, one, other):
-        require_lanes(to, one, other)
-        numbers = lanes(s.data(one) + s.data(other), to.lane_size)
-        s.put_data(to, bytes_of(numbers[first::2]))
+    def handler(state, dest, src1, src2):
+        require_vectors(dest, src1, src2)
+        numbers = lanes(state.data(src1) + state.data(src2), dest.lane_size)
+        state.put_data(dest, bytes_of(numbers[first::2]))
 
     return handler
 
 
-def extract(s, to, one, other, first):
-    require_lanes(to, one, other)
-    s.put_data(to, (s.data(one) + s.data(other))[first.value :][: to.size])
+def ext(state, dest, src1, src2, index):
+    """Bytes of the concatenation of two vectors, from an index on."""
+    require_vectors(dest, src1, src2)
+    state.put_data(dest, (state.data(src1) + state.data(src2))[index.value :][: dest.size])
 
 
-def look_up(s, to, table, indices):
-    s.put_data(to, looked_up(s.data(table), s.data(indices)))
+def tbl(state, dest, table, indices):
+    """Table lookup, in one vector."""
+    state.put_data(dest, table_lookup(state.data(table), state.data(indices)))
 
 
-def form_address(s, to, target):
-    s.put(to, s.code.runtime_address(target.value))
+def adr(state, dest, target):
+    """The address of a label, or of its page."""
+    state.put(dest, state.code.runtime_address(target.value))
 
 
-# Jumps
-def call(s, to):
-    s.general["x30"] = s.return_to(s.next)
-    return to.value
+# Branches
+def branch_and_link(state, target):
+    """A call: the return address goes to x30."""
+    state.general["x30"] = state.return_to(state.next)
+    return target.value
 
 
-def ret(s, *operands):
+def ret(state, *operands):
+    """A return to the address in x30."""
     require(not operands, "a return by another register")
-    return s.general["x30"]
+    return state.general["x30"]
 
 
-def jump_if_bit(is_set):
-    def handler(s, source, bit, to):
-        value = z3.Extract(bit.value, bit.value, s.number(source))
-        return Branch(simple(value == is_set), to.value)
+def compare_and_branch(is_zero):
+    """A branch if a register is zero, or if it is not."""
+
+    def handler(state, src, target):
+        value = state.number(src)
+        return Branch(simplify(value == 0 if is_zero else value != 0), target.value)
+
+    return handler
+
+
+def test_bit_and_branch(is_set):
+    """A branch if a bit of a register is set, or if it is clear."""
+
+    def handler(state, src, bit, target):
+        value = z3.Extract(bit.value, bit.value, state.number(src))
+        return Branch(simplify(value == is_set), target.value)
 
     return handler
 
 
 # Loads and stores
-def accessed(s, o):
-    """The address of a load or store, and what its base is afterwards."""
-    require(o.kind == "memory", "an address of another form")
-    name = o.terms[0][0]
+def address_and_base(state, operand):
+    """The address of a load or store, and the value of its base register afterwards."""
+    require(operand.kind == "memory", "an unsupported addressing mode")
+    name = operand.terms[0][0]
     if name == "sp":
-        s.prove(s.general["sp"] & 15 == 0, "the stack pointer is not aligned")
-    address, base = s.address_of(o), s.general[name]
-    if o.after:
-        base = simple(base + s.number(o.after, 8))
-    elif o.is_moved:
+        state.prove(state.general["sp"] & 15 == 0, "the stack pointer is not aligned")
+    address, base = state.address_of(operand), state.general[name]
+    if operand.post_index:
+        base = simplify(base + state.number(operand.post_index, 8))
+    elif operand.writeback:
         base = address
     return address, {name: base}
 
 
 def load(size=None):
-    """A load of so many bytes into each register, or of as many as it has."""
+    """Loads `size` bytes into each register, or as many as it has."""
 
-    def handler(s, *operands):
-        *targets, o = operands
-        address, moved = accessed(s, o)
-        count = size or targets[0].size
-        data = s.load(address, count * len(targets))
-        s.general |= moved
-        for number, target in enumerate(targets):
+    def handler(state, *operands):
+        *registers, memory = operands
+        address, base = address_and_base(state, memory)
+        count = size or registers[0].size
+        data = state.load(address, count * len(registers))
+        state.general |= base
+        for number, register in enumerate(registers):
             part = data[count * number :][:count]
-            s.put_data(target, part + [byte(0)] * (target.size - count))
+            state.put_data(register, part + [bv8(0)] * (register.size - count))
 
     return handler
 
 
-def store_data(s, o, data):
-    """One that moves the stack pointer first makes space for what it stores."""
-    address, moved = accessed(s, o)
-    s.general |= moved
-    s.store(address, data)
+def store_data(state, memory, data):
+    """Stores bytes. The base register is written first: if it is the stack pointer, the bytes must
+    not lie below it."""
+    address, base = address_and_base(state, memory)
+    state.general |= base
+    state.store(address, data)
 
 
 def store(size=None):
-    def handler(s, *operands):
-        *sources, o = operands
-        store_data(s, o, [x for source in sources for x in s.data(source)[:size]])
+    """Stores the lowest `size` bytes of each register, or all."""
+
+    def handler(state, *operands):
+        *registers, memory = operands
+        data = []
+        for register in registers:
+            data += state.data(register)[:size]
+        store_data(state, memory, data)
 
     return handler
 
 
-def store_interleaved(s, one, other, o):
-    require_lanes(one, other)
-    pairs = zip(lanes(s.data(one), one.lane_size), lanes(s.data(other), other.lane_size))
-    store_data(s, o, bytes_of(number for pair in pairs for number in pair))
+def st2(state, src1, src2, memory):
+    """Stores two vectors with interleaved lanes."""
+    require_vectors(src1, src2)
+    pairs = zip(lanes(state.data(src1), src1.lane_size), lanes(state.data(src2), src2.lane_size))
+    store_data(state, memory, bytes_of(itertools.chain(*pairs)))
 
 
 HANDLERS = {
-    "add": by_kind(add),
+    "add": general_or_by_lanes(add),
     "adds": general(add, sum_flags),
-    "cmn": general(add, sum_flags, is_kept=False),
-    "tst": general(and_, test_flags, is_kept=False),
-    "sub": by_kind(sub),
-    "subs": general(sub, comparison_flags),
-    "cmp": general(sub, comparison_flags, is_kept=False),
-    "and": by_kind(and_),
-    "orr": by_kind(or_),
+    "cmn": general(add, sum_flags, writes_result=False),
+    "tst": general(and_, ands_flags, writes_result=False),
+    "sub": general_or_by_lanes(sub),
+    "subs": general(sub, subs_flags),
+    "cmp": general(sub, subs_flags, writes_result=False),
+    "and": general_or_by_lanes(and_),
+    "orr": general_or_by_lanes(or_),
     "eor": general(xor),
     "neg": general(neg),
     "mvn": general(invert),
     "msub": general(lambda a, b, c: c - a * b),
-    "umulh": upper_product,
-    "movk": move_part,
-    "bfxil": insert_bits,
+    "umulh": umulh,
+    "movk": movk,
+    "bfxil": bfxil,
     "lsl": shift(SHIFT_LEFT),
     "lsr": shift(z3.LShR),
-    **dict.fromkeys(("adr", "adrp"), form_address),
-    "nop": lambda s: None,
-    "cset": lambda s, to, condition: set_if(condition.value)(s, to),
+    **dict.fromkeys(("adr", "adrp"), adr),
+    "nop": lambda state: None,
+    "cset": lambda state, dest, condition: set_if(condition.value)(state, dest),
     "csel": select(lambda b: b),
     "csinv": select(invert),
-    "b": lambda s, to: to.value,
-    "bl": call,
+    "b": lambda state, target: target.value,
+    "bl": branch_and_link,
     "ret": ret,
-    "cbz": lambda s, source, to: Branch(simple(s.number(source) == 0), to.value),
-    "cbnz": lambda s, source, to: Branch(simple(s.number(source) != 0), to.value),
-    "tbz": jump_if_bit(0),
-    "tbnz": jump_if_bit(1),
+    "cbz": compare_and_branch(True),
+    "cbnz": compare_and_branch(False),
+    "tbz": test_bit_and_branch(0),
+    "tbnz": test_bit_and_branch(1),
     "mul": by_lanes(mul),
     "umin": by_lanes(MINIMUM),
     "uqsub": by_lanes(SUBTRACT_SATURATED),
-    "ushr": shifted(z3.LShR),
-    "shl": shifted(lshift),
-    "sli": shift_left_and_insert,
-    "movi": constant,
+    "ushr": shift_lanes(z3.LShR),
+    "shl": shift_lanes(lshift),
+    "sli": sli,
+    "movi": movi,
     "mov": move,
     "fmov": move,
-    "dup": duplicate,
-    "xtn": narrow,
-    "uxtl": widen,
-    "ext": extract,
-    "tbl": look_up,
-    "uzp1": every_second(0),
-    "uzp2": every_second(1),
+    "dup": dup,
+    "xtn": xtn,
+    "uxtl": uxtl,
+    "ext": ext,
+    "tbl": tbl,
+    "uzp1": unzip(0),
+    "uzp2": unzip(1),
     **dict.fromkeys(("ldr", "ldur", "ldp", "ld1"), load()),
     **dict.fromkeys(("ldrb", "ldurb"), load(1)),
     "ldrh": load(2),
     **dict.fromkeys(("str", "stur", "stp", "st1"), store()),
     **dict.fromkeys(("strb", "sturb"), store(1)),
     "strh": store(2),
-    "st2": store_interleaved,
+    "st2": st2,
     **{f"b.{name}": jump_if(condition) for name, condition in CONDITIONS.items()},
 }

@@ -1,7 +1,8 @@
-"""The instructions of a function of WebAssembly, as `wasm2wat` writes them.
+"""Decodes a function of WebAssembly from the text format, as `wasm2wat` prints it: resolves the
+labels of structured control flow to addresses.
 
-A block has no instruction of its own: a branch leads to where it ends, or where a loop begins. If
-this were wrong, another path would be proved than that which runs.
+`block`, `loop` and `end` are no instructions here. If this were wrong, the proof would be about
+another path than the one that runs.
 """
 
 import re
@@ -10,103 +11,110 @@ from dataclasses import dataclass
 
 import z3
 
-from execution.terms import split
+from execution.terms import bytes_le
 from reading.assembled import Instruction
 from solver.questions import require
 
-# How many operands there are before an instruction, the numbers in it, and where it leads.
-Operands = namedtuple("Operands", "height numbers targets")
-ENDS = ("br", "br_table", "return", "unreachable")
+# The height of the operand stack before an instruction, its immediates, and the targets of a branch.
+Operands = namedtuple("Operands", "height immediates targets")
+NO_FALL_THROUGH = ("br", "br_table", "return", "unreachable")
 
 
 @dataclass(eq=False)
-class Block:
-    """Where a branch leads: to the start of a loop, or to the end of a block."""
+class Label:
+    """The target of a branch: the start of a loop, or the end of a block."""
 
-    height: int
-    target: int = None
+    height: int  # of the operand stack at the target
+    target: int = None  # the address, once it is known
     is_loop: bool = False
-    is_used: bool = False
+    is_targeted: bool = False
 
 
-class Reader:
-    """The instructions of a function. Blocks become branches, and what is not reached is left
-    out."""
+class FunctionDecoder:
+    """Decodes the instructions of a function in order, without unreachable ones."""
 
     def __init__(self, code, function):
         self.code, self.function = code, function
-        self.read_so_far = []
-        whole = Block(len(function.results))
-        self.blocks = [whole]
+        self.decoded = []
+        function_label = Label(len(function.results))
+        self.labels = [function_label]
         self.height = 0
-        self.is_reached = True
-        *content, end = function.content
-        for text in content:
+        self.is_reachable = True
+        *body, end = function.body
+        for text in body:
             self.read(text, *text.split())
-        require(self.blocks == [whole], "a block of a kind that is not known")
+        require(self.labels == [function_label], "an unsupported kind of block")
         self.end_block()
         self.read(end, end)
 
     def address(self):
-        return self.function.address + len(self.read_so_far)
+        """The address of the next instruction."""
+        return self.function.address + len(self.decoded)
 
     def end_block(self):
-        block = self.blocks[-1]
-        self.is_reached |= block.is_used and not block.is_loop
-        self.height, block.target = block.height, block.target or self.address()
+        """Ends the innermost block: branches to its end come here."""
+        label = self.labels[-1]
+        self.is_reachable |= label.is_targeted and not label.is_loop
+        self.height = label.height
+        label.target = label.target or self.address()
 
     def read(self, text, mnemonic, *words):
+        """Decodes a line: the begin or the end of a block, or an instruction."""
         if mnemonic == "end":
             self.end_block()
-            self.blocks.pop()
+            self.labels.pop()
         elif mnemonic in ("block", "loop"):
             require(not words, "a block with a result")
-            is_loop = mnemonic == "loop" and self.is_reached
-            self.blocks.append(Block(self.height, self.address() if is_loop else None, is_loop))
-        elif self.is_reached:
+            is_loop = mnemonic == "loop" and self.is_reachable
+            self.labels.append(Label(self.height, self.address() if is_loop else None, is_loop))
+        elif self.is_reachable:
             self.add(text, mnemonic, words)
 
     def add(self, text, mnemonic, words):
-        numbers = _numbers(mnemonic, words)
+        """Adds an instruction, and tracks the height of the operand stack."""
+        immediates = _parse_immediates(mnemonic, words)
         targets = []
-        takes, gives = self.code.processor.EFFECTS.get(mnemonic, ("", 0))
+        operand_types, result_count = self.code.processor.STACK_EFFECTS.get(mnemonic, ("", 0))
         if mnemonic == "call":
-            called = self.code.object.functions[numbers[0]]
-            takes, gives = called.parameters, len(called.results)
-            targets = [Block(0, called.address)]
+            callee = self.code.image.functions[immediates[0]]
+            operand_types, result_count = callee.parameters, len(callee.results)
+            targets = [Label(0, callee.address)]
         if mnemonic.startswith("br"):
-            targets = [self.blocks[-1 - depth] for depth in numbers]
-        below = self.height - len(takes)
-        for block in targets:
-            # A result lies above what is dropped, so it would be taken from another register.
-            is_right = block is not self.blocks[0] or below == block.height
-            require(is_right, "operands below a result")
-            block.is_used = True
-        self.read_so_far.append((mnemonic, Operands(self.height, numbers, targets), text))
-        self.height = below + gives
-        if mnemonic == "call" and gives:
-            self.read_so_far.append(("result", Operands(below, (), []), "result"))
-        self.is_reached = mnemonic not in ENDS
+            targets = [self.labels[-1 - depth] for depth in immediates]
+        below = self.height - len(operand_types)
+        for label in targets:
+            # A branch would drop operands below the result, which changes the result's height.
+            is_at_height = label is not self.labels[0] or below == label.height
+            require(is_at_height, "operands below a result")
+            label.is_targeted = True
+        self.decoded.append((mnemonic, Operands(self.height, immediates, targets), text))
+        self.height = below + result_count
+        if mnemonic == "call" and result_count:
+            self.decoded.append(("result", Operands(below, (), []), "result"))
+        self.is_reachable = mnemonic not in NO_FALL_THROUGH
 
     def instructions(self):
-        for address, (mnemonic, operands, text) in enumerate(
-            self.read_so_far, self.function.address
-        ):
-            operands = operands._replace(targets=[block.target for block in operands.targets])
+        """The instructions with their addresses. All targets are known now."""
+        for address, (mnemonic, operands, text) in enumerate(self.decoded, self.function.address):
+            operands = operands._replace(targets=[label.target for label in operands.targets])
             yield address, Instruction(address, 1, mnemonic, operands, text)
 
 
-def _numbers(mnemonic, words):
-    """Numbers, of which the first of an access is its offset; or the bytes of a vector."""
+def _parse_immediates(mnemonic, words):
+    """The immediates of an instruction; first the offset of a load or store; or the bytes of a
+    vector."""
     if words[:1] == ("i32x4",):
-        return [part for number in words[1:] for part in split(z3.BitVecVal(int(number, 16), 32))]
-    numbers = [int(text, 0) for text in words if "=" not in text]
+        data = []
+        for number in words[1:]:
+            data += bytes_le(z3.BitVecVal(int(number, 16), 32))
+        return data
+    immediates = [int(text, 0) for text in words if "=" not in text]
     if not re.search(r"\.(load|store)", mnemonic):
-        return numbers
+        return immediates
     named = dict(text.split("=") for text in words if "=" in text)
-    return [int(named.get("offset", 0)), *numbers]
+    return [int(named.get("offset", 0)), *immediates]
 
 
 def instructions(code, section, level):
-    """Those of a function by their addresses."""
-    return dict(Reader(code, section).instructions())
+    """The instructions of a function by their addresses."""
+    return dict(FunctionDecoder(code, section).instructions())

@@ -1,134 +1,173 @@
-"""What the instructions of SSE and AVX do on x86-64, as x86_64.py has it of the others."""
+"""The semantics of the SSE and AVX instructions of x86-64; x86_64.py has the others."""
 
-from operator import add, and_, lshift, or_, sub, xor
+from operator import add, lshift, or_, sub, xor
 
 import z3
 
-from execution.terms import byte, chosen, joined, simple
+from execution.terms import bv8, concat_le, simplify, table_entry
 from semantics.lanes import (
     MINIMUM,
     SUBTRACT_SATURATED,
-    each,
     lanes,
-    saturated,
+    map_lanes,
+    saturate_to_bytes,
     zero_extended,
 )
 from solver.questions import require
 
 
-def with_three_operands(handler):
-    """The old form of an instruction has its target for the first source."""
-    return lambda s, to, *others: handler(s, to, *[to] * (len(others) == 1), *others)
+def legacy_or_vex(handler):
+    """An instruction with two sources. The legacy form has two operands, and its destination is
+    also the first source; the VEX-encoded form has three."""
+
+    def wrapped(state, dest, *sources):
+        first_source = [dest] if len(sources) == 1 else []
+        handler(state, dest, *first_source, *sources)
+
+    return wrapped
 
 
 def by_lanes(size, function):
-    @with_three_operands
-    def handler(s, to, one, other):
-        s.put_vector(to, each(function, size, s.data(one), s.data(other)))
+    """Applies a function to each lane, of `size` bytes, of two sources."""
+
+    @legacy_or_vex
+    def handler(state, dest, src1, src2):
+        state.put_vector(dest, map_lanes(function, size, state.data(src1), state.data(src2)))
 
     return handler
 
 
-def by_halves(function):
-    """Does the same to each 16 bytes of two operands."""
+def per_128_bit_lane(function):
+    """Applies a function to each 128-bit lane of two sources."""
 
-    @with_three_operands
-    def handler(s, to, one, other):
-        a = s.data(one)
-        b = s.data(other)
+    @legacy_or_vex
+    def handler(state, dest, src1, src2):
+        src1_bytes = state.data(src1)
+        src2_bytes = state.data(src2)
         data = []
-        for first in range(0, to.size, 16):
-            data += function(a[first:][:16], b[first:][:16])
-        s.put_vector(to, data)
+        for start in range(0, dest.size, 16):
+            data += function(src1_bytes[start:][:16], src2_bytes[start:][:16])
+        state.put_vector(dest, data)
 
     return handler
 
 
 def shift_lanes(size, function):
-    @with_three_operands
-    def handler(s, to, one, count):
-        require(count.kind == "number" and count.value < 8 * size, "an unsupported shift")
-        s.put_vector(to, each(lambda a: function(a, count.value), size, s.data(one)))
+    """Shifts each lane, of `size` bytes, by an immediate."""
+
+    @legacy_or_vex
+    def handler(state, dest, src, count):
+        is_in_range = count.kind == "immediate" and count.value < 8 * size
+        require(is_in_range, "an unsupported shift")
+        shifted = lambda lane: function(lane, count.value)
+        state.put_vector(dest, map_lanes(shifted, size, state.data(src)))
 
     return handler
 
 
-def shuffled(table, indices):
-    """The entries at the lowest bits of some indices, and 0 for an index whose highest bit is 1."""
-    return [simple(z3.If(z3.Extract(7, 7, i) == 1, byte(0), chosen(table, i))) for i in indices]
+def pshufb(table, indices):
+    """The table's entries at the lowest four bits of each index, or 0 if its highest bit is set."""
+    data = []
+    for index in indices:
+        is_zero = z3.Extract(7, 7, index) == 1
+        data.append(simplify(z3.If(is_zero, bv8(0), table_entry(table, index))))
+    return data
 
 
 def move_vector(is_aligned):
-    def handler(s, to, source):
-        if to.kind == "memory":
-            return s.store(s.address_of(to), s.data(source), is_aligned)
-        if source.kind == "memory":
-            return s.put_vector(to, s.load(s.address_of(source), source.size, is_aligned))
-        s.put_vector(to, s.data(source))
+    """A move between vectors and memory, which may have to be aligned."""
+
+    def handler(state, dest, src):
+        if dest.kind == "memory":
+            return state.store(state.address_of(dest), state.data(src), is_aligned)
+        if src.kind == "memory":
+            return state.put_vector(dest, state.load(state.address_of(src), src.size, is_aligned))
+        state.put_vector(dest, state.data(src))
 
     return handler
 
 
-def put_low(s, to, data):
-    """Writes the lowest bytes of a vector or of another operand. Those above are cleared."""
-    if to.kind == "vector":
-        return s.put_vector(to, data)
-    s.put(to, joined(data + [byte(0)] * (to.size - len(data))))
+def put_low_bytes(state, dest, data):
+    """Writes bytes, zero-extended, to a vector or to another operand."""
+    if dest.kind == "vector":
+        return state.put_vector(dest, data)
+    state.put(dest, concat_le(data + [bv8(0)] * (dest.size - len(data))))
 
 
-def move_low(size):
-    return lambda s, to, source: put_low(s, to, s.data(source, size))
+def move_low_bytes(size):
+    """A move of the lowest `size` bytes, zero-extended."""
+    return lambda state, dest, src: put_low_bytes(state, dest, state.data(src, size))
 
 
 def insert(size):
-    def handler(s, to, *others):
-        *one, source, index = others
-        require(index.value < to.size // size, "an unsupported index")
-        data, first = s.data([*one, to][0]), index.value * size
-        s.put_vector(to, data[:first] + s.data(source, size) + data[first + size :])
+    """Inserts `size` bytes into a vector, at an index."""
+
+    def handler(state, dest, *sources):
+        # The legacy form inserts into its destination, the VEX-encoded form into a source.
+        *vector, src, index = sources
+        require(index.value < dest.size // size, "an unsupported index")
+        data = state.data(vector[0] if vector else dest)
+        start = index.value * size
+        state.put_vector(dest, data[:start] + state.data(src, size) + data[start + size :])
 
     return handler
 
 
 def extract(size):
-    def handler(s, to, one, index):
-        data = s.data(one)
+    """Extracts `size` bytes from a vector, at an index."""
+
+    def handler(state, dest, src, index):
+        data = state.data(src)
         require(index.value < len(data) // size, "an unsupported index")
-        put_low(s, to, data[index.value * size :][:size])
+        put_low_bytes(state, dest, data[index.value * size :][:size])
 
     return handler
 
 
 def broadcast(size):
-    return lambda s, to, source: s.put_vector(to, s.data(source, size) * (to.size // size))
+    """Repeats the lowest bytes of a source."""
+
+    def handler(state, dest, src):
+        state.put_vector(dest, state.data(src, size) * (dest.size // size))
+
+    return handler
 
 
-def _are_zero(parts):
-    return z3.And(*[simple(part) == 0 for part in parts])
+def _are_zero(data):
+    return z3.And(*[simplify(value) == 0 for value in data])
 
 
-def test_vector(s, one, other):
-    a, b = s.data(one), s.data(other)
-    z, c = [_are_zero(map(function, a, b)) for function in (and_, lambda x, y: ~x & y)]
-    s.flags = {"z": z, "c": c, "s": z3.BoolVal(False), "o": z3.BoolVal(False)}
+def ptest(state, src1, src2):
+    """The zero flag for the AND of two vectors, and the carry for the AND with the
+    first one negated."""
+    pairs = list(zip(state.data(src1), state.data(src2)))
+    state.flags = {
+        "zero": _are_zero([a & b for a, b in pairs]),
+        "carry": _are_zero([~a & b for a, b in pairs]),
+        "sign": z3.BoolVal(False),
+        "overflow": z3.BoolVal(False),
+    }
 
 
-def widen(s, to, source):
-    s.put_vector(to, zero_extended(s.data(source, to.size // 2)))
+def pmovzxbw(state, dest, src):
+    """Zero-extends bytes to words."""
+    state.put_vector(dest, zero_extended(state.data(src, dest.size // 2)))
 
 
-def permute(s, to, source, control):
-    data = s.data(source)
-    parts = [data[8 * (control.value >> bit & 3) :][:8] for bit in range(0, 8, 2)]
-    s.put_vector(to, sum(parts, []))
+def vpermq(state, dest, src, control):
+    """Permutes four quadwords by an immediate."""
+    data = state.data(src)
+    quadwords = [data[8 * (control.value >> bit & 3) :][:8] for bit in range(0, 8, 2)]
+    state.put_vector(dest, sum(quadwords, []))
 
 
-def vzeroupper(s):
-    s.vectors = {name: data[:16] + [byte(0)] * 16 for name, data in s.vectors.items()}
-    s.is_clean = True
+def vzeroupper(state):
+    """Clears the upper halves of all vectors."""
+    state.vectors = {name: data[:16] + [bv8(0)] * 16 for name, data in state.vectors.items()}
+    state.is_upper_half_clean = True
 
 
-VECTORS = {
+SSE_HANDLERS = {
     "paddb": by_lanes(1, add),
     "paddw": by_lanes(2, add),
     "psubb": by_lanes(1, sub),
@@ -138,46 +177,46 @@ VECTORS = {
     "pxor": by_lanes(1, xor),
     "psllw": shift_lanes(2, lshift),
     "psrlw": shift_lanes(2, z3.LShR),
-    "punpckldq": by_halves(lambda a, b: a[:4] + b[:4] + a[4:8] + b[4:8]),
-    "punpcklqdq": by_halves(lambda a, b: a[:8] + b[:8]),
-    "pshufb": by_halves(shuffled),
-    "packuswb": by_halves(lambda a, b: saturated(lanes(a + b, 2))),
+    "punpckldq": per_128_bit_lane(lambda a, b: a[:4] + b[:4] + a[4:8] + b[4:8]),
+    "punpcklqdq": per_128_bit_lane(lambda a, b: a[:8] + b[:8]),
+    "pshufb": per_128_bit_lane(pshufb),
+    "packuswb": per_128_bit_lane(lambda a, b: saturate_to_bytes(lanes(a + b, 2))),
     "movdqu": move_vector(False),
     "movdqa": move_vector(True),
     "movups": move_vector(False),
     "movaps": move_vector(True),
     "xorps": by_lanes(1, xor),
-    "movd": move_low(4),
-    "movq": move_low(8),
+    "movd": move_low_bytes(4),
+    "movq": move_low_bytes(8),
     "pinsrw": insert(2),
     "pinsrd": insert(4),
     "pextrw": extract(2),
     "pextrd": extract(4),
     "pextrq": extract(8),
-    "ptest": test_vector,
-    "pmovzxbw": widen,
+    "ptest": ptest,
+    "pmovzxbw": pmovzxbw,
 }
 
 
-def legacy(handler):
-    """The form of SSE: an operand of 16 bytes in memory is aligned, and what lies above in a vector
-    is kept."""
+def legacy_sse(handler):
+    """The legacy SSE form: a memory operand of 16 bytes has to be aligned, and the bits above 128 of
+    the destination are preserved."""
 
-    def of_sse(s, *operands):
-        s.is_legacy = True
-        handler(s, *operands)
-        s.is_legacy = False
+    def legacy(state, *operands):
+        state.is_legacy_sse = True
+        handler(state, *operands)
+        state.is_legacy_sse = False
 
-    return of_sse
+    return legacy
 
 
 VECTOR_HANDLERS = {
-    **{name: legacy(handler) for name, handler in VECTORS.items()},
-    **{f"v{name}": handler for name, handler in VECTORS.items()},
+    **{name: legacy_sse(handler) for name, handler in SSE_HANDLERS.items()},
+    **{f"v{name}": handler for name, handler in SSE_HANDLERS.items()},
     "vpbroadcastd": broadcast(4),
     "vpbroadcastq": broadcast(8),
     "vbroadcasti128": broadcast(16),
-    "vpermq": permute,
+    "vpermq": vpermq,
     "vinserti128": insert(16),
     "vextracti128": extract(16),
     "vzeroupper": vzeroupper,

@@ -1,1 +1,1 @@
-"""Trusted: what is asked of z3, and of a second solver."""
+"""Trusted: the queries to z3, and to a second solver."""

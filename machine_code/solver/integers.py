@@ -1,7 +1,7 @@
-"""Conditions on numbers of bits as conditions on integers, which mean exactly the same.
+"""Translates conditions on bit-vectors (QF_BV) to equivalent conditions on integers (QF_LIA).
 
-If a translation were wrong, what z3 says of it would say nothing of the code, and a wrong access or
-a wrong length could be accepted. test_questions.py compares it with bits on random terms.
+If a translation were wrong, z3's answer would say nothing about the code, and a wrong access or a
+wrong length could be accepted. test_questions.py compares both on random terms.
 """
 
 from operator import eq, ge, gt, le, lt
@@ -21,17 +21,18 @@ RELATIONS = {
     z3.Z3_OP_UGEQ: ge,
     z3.Z3_OP_EQ: eq,
 }
-NARROW = 16  # bits, up to which it is not asked whether a number needs a reduction
+NARROW = 16  # bits: up to this size a sum is always reduced, without a query whether that is needed
 
 
 class Facts:
-    """Facts in integers. `is_unsatisfiable` says whether integer conditions, all together, contradict
-    each other: it decides, too, that a sum is so small that it need not be reduced."""
+    """Facts in integers. `is_unsatisfiable` decides whether integer conditions are unsatisfiable
+    together. It is also asked whether a sum may overflow, since else it need not be reduced modulo
+    the power of two."""
 
     def __init__(self, is_unsatisfiable):
         self.conditions = []
-        self.ranges = {}
-        self.sums = {}
+        self.ranges = {}  # of the constants, by the ids of their terms in z3
+        self.sums = {}  # translations, by the ids of their terms in z3
         self._is_unsatisfiable = is_unsatisfiable
 
     def with_fact(self, fact):
@@ -47,7 +48,7 @@ class Facts:
         return other
 
     def condition(self, term):
-        """The condition in integers, where the facts before hold."""
+        """The translation of a condition, where these facts hold."""
         kind, children = term.decl().kind(), term.children()
         if z3.is_true(term) or z3.is_false(term):
             return term
@@ -58,7 +59,7 @@ class Facts:
         raise ValueError(term)
 
     def _number(self, term):
-        """The integer from 0 up to the power of two that these bits stand for."""
+        """The translation of a bit-vector: its value as an unsigned integer."""
         kind = term.decl().kind()
         children = term.children()
         size = term.size()
@@ -86,18 +87,19 @@ class Facts:
         raise ValueError(term)
 
     def _reduced(self, term, number):
-        """A number modulo the power of two that a term's bits have; itself, if it is that small."""
+        """A number modulo the power of two of a term's size; itself, if it cannot overflow."""
         modulus = 1 << term.size()
         if term.get_id() not in self.sums:
-            is_large = z3.Or(number < 0, number >= modulus)
-            is_small = term.size() > NARROW and self._is_unsatisfiable(
-                [*self.ranges.values(), *self.conditions, is_large]
+            overflows = z3.Or(number < 0, number >= modulus)
+            never_overflows = term.size() > NARROW and self._is_unsatisfiable(
+                [*self.ranges.values(), *self.conditions, overflows]
             )
-            self.sums[term.get_id()] = number if is_small else number % modulus
+            self.sums[term.get_id()] = number if never_overflows else number % modulus
         return self.sums[term.get_id()]
 
     def _congruent(self, term):
-        """An integer that is congruent to the bits of a term, modulo their power of two."""
+        """An integer that is congruent to the value of a term, modulo the power of two of its
+        size."""
         kind, children = term.decl().kind(), term.children()
         if z3.is_bv_value(term):
             return z3.IntVal(term.as_signed_long())
@@ -111,8 +113,8 @@ class Facts:
 
 
 def _quotient(number, divisor):
-    """A number divided by another one and rounded down. Each multiple of the divisor in a sum is
-    divided alone."""
+    """A number divided by a constant and rounded down. The multiples of the divisor in a sum are
+    divided exactly, so that the division of the rest is simpler."""
     whole = z3.IntVal(0)
     rest = z3.IntVal(0)
     for part in number.children() if z3.is_add(number) else [number]:

@@ -1,9 +1,9 @@
-"""Whether a condition follows from facts, by z3.
+"""Queries to z3: whether a goal follows from facts.
 
-If `is_valid` said yes where a condition does not follow, any code could be accepted. A yes is z3's
-"unsat". A result that is "unknown", or takes more of z3's steps than the limit, is a no. Facts may
-be left out, and so may be which constants these are: both only make a proof harder, or find it
-among those that were made already.
+If `is_valid` were true of a goal that does not follow, any code could be accepted. It is true only
+if z3 answers "unsat", and not if it answers "unknown" or reaches its resource limit. A query may
+leave out facts, and rename constants: fewer facts only make a proof harder, and a renamed query may
+have been answered before.
 """
 
 import itertools
@@ -13,41 +13,42 @@ import z3
 
 from solver import integers
 
-# In steps of z3 ("rlimit"), which do not depend on the load of the machine. What integers do not answer quickly they seldom
-# answer at all, and bits do.
-QUICK, LIMIT = 30_000, 40_000_000
-# Each question that was answered by "unsat", as the logic and conditions, for a second solver.
-proved = []
-counts = {"asked": 0}
-# By their names and numbers, and the terms that are kept so that their numbers are not used again.
-_constants = {}
-_names = {}
-_kept = []
+# The limits of z3's resources ("rlimit"), which do not depend on the load of the machine. A query in
+# integers that is not answered quickly seldom is at all, and then bit-vectors are tried.
+INTEGER_RLIMIT, BITVECTOR_RLIMIT = 30_000, 40_000_000
+# The logic and the conditions of each query with the answer "unsat", for the second solver.
+unsat_queries = []
+counts = {"queries": 0}
+_constants = {}  # by their names
+# By the id of a term in z3. The terms are kept, so that z3 does not reuse their ids.
+_free_constants_by_id = {}
+_kept_terms = []
 _is_public = {}  # by the name of a constant; others are secret
 
 
 class Rejected(Exception):
-    """Code is rejected, or what is to be proved of it is not known to hold."""
+    """The code is rejected: a condition is violated, or z3 cannot prove it."""
 
 
 def require(condition, message):
+    """Rejects the code, with a message, unless a condition holds."""
     if not condition:
         raise Rejected(message)
 
 
-def names(term):
-    """The names of the constants in a term, each once, in the order in which they occur."""
-    _kept.append(term)
-    return _names_of(term.as_ast(), term.ctx_ref())
+def free_constants(term):
+    """The names of the free constants in a term, each once, in the order in which they occur."""
+    _kept_terms.append(term)
+    return _free_constants_of(term.as_ast(), term.ctx_ref())
 
 
-def _names_of(part, context):
-    """By z3's functions for C, which are faster on many parts."""
+def _free_constants_of(part, context):
+    """The same for a part of a term, with z3's C functions, which are faster."""
     number, app = z3.Z3_get_ast_id(context, part), z3.Z3_to_app(context, part)
-    if number in _names:
-        return _names[number]
-    parts = [
-        _names_of(z3.Z3_get_app_arg(context, app, index), context)
+    if number in _free_constants_by_id:
+        return _free_constants_by_id[number]
+    names = [
+        _free_constants_of(z3.Z3_get_app_arg(context, app, index), context)
         for index in range(z3.Z3_get_app_num_args(context, app))
     ]
     if z3.Z3_get_decl_kind(context, z3.Z3_get_app_decl(context, app)) == z3.Z3_OP_UNINTERPRETED:
@@ -55,39 +56,41 @@ def _names_of(part, context):
         name = constant.decl().name()
         is_same = _constants.setdefault(name, constant).sort() == constant.sort()
         require(is_same, f"two constants {name}")
-        parts = [[name]]
-    _names[number] = tuple(dict.fromkeys(itertools.chain(*parts)))
-    return _names[number]
+        names = [[name]]
+    _free_constants_by_id[number] = tuple(dict.fromkeys(itertools.chain(*names)))
+    return _free_constants_by_id[number]
 
 
 def _constant(name, bits, is_public):
+    """A free constant with its taint, which must not change."""
     require(_is_public.setdefault(name, is_public) == is_public, f"{name} is public and secret")
     return z3.BitVec(name, bits)
 
 
 def public(name, bits):
     """A constant on which branches and addresses may depend: a length, an address, a number of
-    rounds."""
+    iterations."""
     return _constant(name, bits, True)
 
 
 def secret(name, bits):
-    """A constant of which nothing may be visible in time: a byte of the input, or what may be
-    anything."""
+    """A constant on which no branch and no address may depend: a byte of the input, or an unknown
+    byte of memory."""
     return _constant(name, bits, False)
 
 
 def is_public_name(name):
+    """Whether the constant of this name is public."""
     return _is_public.get(name, False)
 
 
 def is_public(term):
-    """Whether it depends on public constants alone."""
-    return all(map(is_public_name, names(term)))
+    """Whether a term depends on public constants alone: it is not tainted by a secret."""
+    return all(map(is_public_name, free_constants(term)))
 
 
 def conjuncts(term):
-    """Conditions that hold together just if this one does."""
+    """Conditions whose conjunction is equivalent to this one."""
     term = z3.simplify(term)
     if z3.is_true(term):
         return []
@@ -101,132 +104,140 @@ def conjuncts(term):
 
 
 def _conjuncts_of_equation(term, left, right):
-    """The same where a term is the constant on the right."""
+    """The conjuncts of an equation of a term and a number, which is on the right."""
     if z3.is_app_of(left, z3.Z3_OP_ITE):
-        choice, *values = left.children()
-        if all(map(z3.is_bv_value, values)) and values[0].eq(right) != values[1].eq(right):
-            return conjuncts(choice if values[0].eq(right) else z3.Not(choice))
+        condition, then_term, else_term = left.children()
+        are_numbers = z3.is_bv_value(then_term) and z3.is_bv_value(else_term)
+        if are_numbers and then_term.eq(right) != else_term.eq(right):
+            return conjuncts(condition if then_term.eq(right) else z3.Not(condition))
     zeros = _zeros(left) if right.as_long() == 0 else ()
     return [part == 0 for part in zeros] if len(zeros) > 1 else [term]
 
 
 def _zeros(term):
-    """The terms that are all 0 just if this one is."""
+    """The terms that are all 0 if and only if this one is."""
     if z3.is_app_of(term, z3.Z3_OP_BOR) or z3.is_app_of(term, z3.Z3_OP_CONCAT):
         return [part for child in term.children() for part in _zeros(child)]
     return [] if z3.is_bv_value(term) and term.as_long() == 0 else [term]
 
 
-# A condition that is known, with the names of its constants.
-Fact = namedtuple("Fact", "term names is_public")
+# A condition that is assumed, with the names of its free constants.
+Fact = namedtuple("Fact", "term constants is_public")
 
 
 def facts_of(condition):
-    return [Fact(part, {*names(part)}, is_public(part)) for part in conjuncts(condition)]
+    """The conjuncts of a condition as facts."""
+    return [Fact(part, {*free_constants(part)}, is_public(part)) for part in conjuncts(condition)]
 
 
-def relevant(facts, goal, steps=None):
-    """The facts that share constants with a goal, directly or by others, perhaps in so many steps;
-    in none, those that are about its constants alone. Of a public goal, those that are public."""
+def relevant(facts, goal, distance=None):
+    """The facts in a goal's cone of influence: those that share constants with it, directly or
+    through other facts, at most so many if there is a distance. At the distance 0 a fact has no
+    other constants than the goal. For a public goal only public facts are relevant."""
     facts = [fact for fact in facts if fact.is_public] if is_public(goal) else facts
-    seen = set(names(goal))
-    if steps == 0:
-        return [fact.term for fact in facts if fact.names <= seen]
+    seen = set(free_constants(goal))
+    if distance == 0:
+        return [fact.term for fact in facts if fact.constants <= seen]
     before = None
-    while seen != before and steps != 0:
+    while seen != before and distance != 0:
         before = seen
-        steps = steps and steps - 1
-        near = [fact.names for fact in facts if not before.isdisjoint(fact.names)]
-        seen = seen.union(*near)
-    return [fact.term for fact in facts if not seen.isdisjoint(fact.names)]
+        distance = distance and distance - 1
+        adjacent = [fact.constants for fact in facts if not before.isdisjoint(fact.constants)]
+        seen = seen.union(*adjacent)
+    return [fact.term for fact in facts if not seen.isdisjoint(fact.constants)]
 
 
-def _renamed(facts):
-    """The facts with constants that are named in the order in which they occur."""
-    used = map(_constants.get, dict.fromkeys(itertools.chain(*map(names, facts))))
+def _canonical(facts):
+    """The facts with canonical names of constants: numbers in the order in which they occur."""
+    used = map(_constants.get, dict.fromkeys(itertools.chain(*map(free_constants, facts))))
     new = [(old, z3.Const(f"x{number}", old.sort())) for number, old in enumerate(used)]
     return [z3.simplify(z3.substitute(fact, *new)) for fact in facts]
 
 
-def _check(logic, conditions, limit):
-    """The result of a question, and the solver."""
+def _solve(logic, conditions, limit):
+    """The result of a query, and the solver, which has the model."""
     solver = z3.SolverFor(logic)
     solver.set("rlimit", limit)
     solver.add(*conditions)
     result = solver.check()
-    counts["asked"] += 1
+    counts["queries"] += 1
     if result == z3.unsat:
-        proved.append((logic, conditions))
+        unsat_queries.append((logic, conditions))
     return result, solver
 
 
 def is_unsatisfiable_in_integers(conditions):
-    return _check("QF_LIA", conditions, QUICK)[0] == z3.unsat
+    """Whether integer conditions are unsatisfiable together."""
+    return _solve("QF_LIA", conditions, INTEGER_RLIMIT)[0] == z3.unsat
 
 
-def _memoized(question):
-    """A question whose results are kept by the numbers of the facts. So are the facts, so that
-    their numbers are not used again."""
+def _memoized(query):
+    """A query whose results are remembered, by the ids of the facts in z3. The facts are kept, so
+    that z3 does not reuse their ids."""
     results = {}
 
     def memoized(facts, *rest):
         key = tuple(fact.get_id() for fact in facts)
         if key not in results:
-            results[key] = facts, question(facts, *rest)
-        return results[key][1]
+            results[key] = facts, query(facts, *rest)
+        _, result = results[key]
+        return result
 
     return memoized
 
 
 @_memoized
-def _in_integers(facts):
-    """Facts in integers, or None if not all are linear. Most questions are about facts that were
-    translated before."""
+def _as_integer_facts(facts):
+    """The facts translated to integers, or None if not all are linear. Most queries extend a list
+    of facts that was translated before."""
     if not facts:
         return integers.Facts(is_unsatisfiable_in_integers)
-    known = _in_integers(facts[:-1])
+    known = _as_integer_facts(facts[:-1])
     return known and known.with_fact(facts[-1])
 
 
 @_memoized
 def is_unsatisfiable(facts):
-    """Whether facts contradict each other."""
-    return _is_unsatisfiable(_renamed(facts), all(map(is_public, facts)))
+    """Whether conditions are unsatisfiable together."""
+    return _is_unsatisfiable(_canonical(facts), all(map(is_public, facts)))
 
 
 @_memoized
 def _is_unsatisfiable(facts, are_public):
-    """The same of facts with new names, so that what differs by names alone is asked once. Sums of
-    many bits are hard in bits and easy in integers, masks are the other way round."""
-    known = _in_integers(facts) if are_public else None
+    """The same of conditions with canonical names, so that queries that differ in names alone are
+    solved once. Sums of many bits are hard as bit-vectors and easy as integers, masks are the other
+    way round."""
+    known = _as_integer_facts(facts) if are_public else None
     result = z3.unknown
     if known:
-        result, _ = _check("QF_LIA", [*known.ranges.values(), *known.conditions], QUICK)
+        result, _ = _solve("QF_LIA", [*known.ranges.values(), *known.conditions], INTEGER_RLIMIT)
     if result == z3.unknown:
-        result, _ = _check("QF_BV", facts, LIMIT)
+        result, _ = _solve("QF_BV", facts, BITVECTOR_RLIMIT)
     return result == z3.unsat
 
 
-def is_valid(facts, goal, steps=None):
-    """Whether a goal follows from facts; perhaps from those alone that are so many steps from it,
-    or nearer."""
-    limits = (0, steps) if steps else (None,)
+def is_valid(facts, goal, distance=None):
+    """Whether a goal follows from facts: each of its conjuncts from the relevant facts, within a
+    distance, if one is given."""
+    distances = (0, distance) if distance else (None,)
 
-    def follows(part):
+    def follows(conjunct):
         return any(
-            is_unsatisfiable([*relevant(facts, part, limit), z3.Not(part)]) for limit in limits
+            is_unsatisfiable([*relevant(facts, conjunct, limit), z3.Not(conjunct)])
+            for limit in distances
         )
 
     return all(map(follows, conjuncts(goal)))
 
 
-def values(facts, term, limit):
-    """All values that a term has where the facts hold, of which there are at most so many."""
+def all_values(facts, term, limit):
+    """All values that a term has where the facts hold, by enumeration of models. There may be at
+    most so many."""
     known = []
     while not is_valid(facts, z3.Or(*[term == value for value in known])):
         require(len(known) < limit, "a number may have too many values")
         others = [term != value for value in known]
-        result, solver = _check("QF_BV", [*relevant(facts, term == 0), *others], LIMIT)
+        result, solver = _solve("QF_BV", [*relevant(facts, term == 0), *others], BITVECTOR_RLIMIT)
         require(result == z3.sat, "the values of a number are not known")
         known.append(solver.model().eval(term, True).as_long())
     return known

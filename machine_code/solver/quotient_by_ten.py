@@ -1,9 +1,9 @@
-"""The quotient by ten, which compilers make by a product: of its upper 64 bits, all but the lowest
-three are the tenth.
+"""The quotient by ten, which compilers compute by a multiplication with a constant: the upper 64
+bits of the product, shifted right by three.
 
-In bits, no solver sees that in reasonable time. So it is a lemma over the integers, which both
-solvers prove in each run that uses it. If it were wrong, or if what is said of a tenth did not
-follow from it, a wrong digit could be accepted.
+No solver proves that for bit-vectors in reasonable time. So it is a lemma over the integers, which
+both solvers prove in each run that uses it. If it were wrong, or if the facts about a quotient did
+not follow from it, a wrong digit could be accepted.
 """
 
 import functools
@@ -17,28 +17,28 @@ from solver.questions import require
 FACTOR = 0xCCCCCCCCCCCCCCCD
 
 
-# A number, its tenth, the bits below that in the product, and the greatest value that the tenth has.
-Quotient = namedtuple("Quotient", "number tenth more limit")
-# By the number's own number in z3, which is not used again as long as the number is kept.
+# A number, its quotient by ten, the three bits that are shifted out, and the quotient's maximum.
+Quotient = namedtuple("Quotient", "number quotient low_bits maximum")
+# By the number's id in z3, which z3 does not reuse as long as the number is kept.
 _quotients = {}
 
 
 def lemma(factor=FACTOR):
-    """Conditions that contradict each other if and only if an upper half is always 8 tenths and
-    less than 8 more."""
-    x, lower = z3.Ints("x lower")
-    tenth, more = z3.Ints("tenth more")
-    ranges = (x, 1 << 64), (lower, 1 << 64), (more, 8)
+    """The negated lemma, which is unsatisfiable: the upper half of x * factor, shifted right by
+    three, is the quotient of x by ten."""
+    x, lower_half = z3.Ints("x lower_half")
+    quotient, low_bits = z3.Ints("quotient low_bits")
+    ranges = (x, 1 << 64), (lower_half, 1 << 64), (low_bits, 8)
     return [
         *[z3.And(0 <= number, number < limit) for number, limit in ranges],
-        x * factor == (8 * tenth + more) * (1 << 64) + lower,
-        z3.Not(z3.And(10 * tenth <= x, x < 10 * tenth + 10)),
+        x * factor == (8 * quotient + low_bits) * (1 << 64) + lower_half,
+        z3.Not(z3.And(10 * quotient <= x, x < 10 * quotient + 10)),
     ]
 
 
 @functools.cache
 def prove():
-    """Proves the lemma by both solvers."""
+    """Proves the lemma with both solvers."""
     conditions = lemma()
     require(questions.is_unsatisfiable_in_integers(conditions), "the quotient by ten is not proved")
     require(
@@ -46,28 +46,32 @@ def prove():
     )
 
 
-def parts(number):
-    """The tenth of a number of 64 bits and the three bits below it in the product, one constant
-    each for each number; and what is known of them."""
+def quotient_of(number):
+    """The quotient of a number of 64 bits by ten and the three bits that are shifted out, which are
+    constants of their own; and the lemma about them."""
     prove()
-    if number.get_id() not in _quotients:
+    number_id = number.get_id()
+    if number_id not in _quotients:
         constant = questions.public if questions.is_public(number) else questions.secret
-        tenth = constant(f"tenth_{number.get_id()}", 61)
-        more = constant(f"more_{number.get_id()}", 3)
-        _quotients[number.get_id()] = Quotient(number, tenth, more, _greatest(number) // 10)
-    quotient = _quotients[number.get_id()]
-    tenth = z3.ZeroExt(3, quotient.tenth)
-    known = z3.And(
-        z3.ULE(tenth, quotient.limit),
-        z3.ULE(10 * tenth, number),
-        z3.ULT(number - 10 * tenth, 10),
+        _quotients[number_id] = Quotient(
+            number,
+            quotient=constant(f"quotient_{number_id}", 61),
+            low_bits=constant(f"low_bits_{number_id}", 3),
+            maximum=_maximum(number) // 10,
+        )
+    result = _quotients[number_id]
+    quotient = z3.ZeroExt(3, result.quotient)
+    instance = z3.And(
+        z3.ULE(quotient, result.maximum),
+        z3.ULE(10 * quotient, number),
+        z3.ULT(number - 10 * quotient, 10),
     )
-    return quotient.tenth, quotient.more, known
+    return result.quotient, result.low_bits, instance
 
 
-def _greatest(number):
-    """The greatest value of a number, which may be a tenth of another one."""
-    for quotient in _quotients.values():
-        if z3.simplify(z3.ZeroExt(3, quotient.tenth)).eq(number):
-            return quotient.limit
+def _maximum(number):
+    """The greatest value of a number, which may be the quotient of another one."""
+    for known in _quotients.values():
+        if z3.simplify(z3.ZeroExt(3, known.quotient)).eq(number):
+            return known.maximum
     return (1 << 64) - 1

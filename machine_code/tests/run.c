@@ -1,7 +1,7 @@
 /*
- * Runs single instructions for processor.py. Its input is the object's size, the object as it lies in memory,
- * and requests: the addresses of an instruction, of the next one, and where its jump goes, if it is one, and a state.
- * It writes the state afterwards.
+ * Runs single instructions for processor.py. Its input is the size and the bytes of a mapped file, and requests: the
+ * address of an instruction, that of the next one, the target of a jump, or again the next one, and a state. For each
+ * request it writes the state after the instruction.
  */
 #include <stdint.h>
 #include <stdio.h>
@@ -13,14 +13,14 @@
 #define SCRATCH ((unsigned char *)0x8000000)
 enum { SCRATCH_SIZE = 1 << 12 };
 #ifdef __x86_64__
-enum { GENERAL = 16, JUMP_SIZE = 5 };
+enum { REGISTERS = 16, JUMP_SIZE = 5 };
 #else
-enum { GENERAL = 32, JUMP_SIZE = 4 };
-extern unsigned char go[];
+enum { REGISTERS = 32, JUMP_SIZE = 4 };
+extern unsigned char jump_to_code[]; /* in enter; an indirect jump would need a register */
 #endif
 
 struct state {
-  uint64_t registers[GENERAL];
+  uint64_t registers[REGISTERS];
   unsigned char vectors[512];
   uint64_t flags, is_taken;
   unsigned char scratch[SCRATCH_SIZE];
@@ -31,25 +31,26 @@ static struct {
   struct state state;
 } request;
 
+/* Runs an instruction, which a jump to one of the two labels follows. */
 void enter(struct state *state, unsigned char *code);
-extern unsigned char back_next[], back_taken[];
+extern unsigned char not_taken[], taken[];
 
-static void put(unsigned char *code, const unsigned char *bytes) {
+static void patch(unsigned char *code, const unsigned char *bytes) {
   memcpy(code, bytes, JUMP_SIZE);
   __builtin___clear_cache((char *)code, (char *)code + JUMP_SIZE);
 }
 
-static void put_jump(unsigned char *from, const unsigned char *to) {
+static void patch_jump(unsigned char *from, const unsigned char *to) {
 #ifdef __x86_64__
-  int32_t distance = (int32_t)(to - from - JUMP_SIZE);
+  int32_t displacement = (int32_t)(to - from - JUMP_SIZE);
   unsigned char jump[JUMP_SIZE] = {0xE9};
-  memcpy(jump + 1, &distance, 4);
+  memcpy(jump + 1, &displacement, 4);
 #else
   uint32_t code = 0x14000000 | ((uint32_t)((to - from) / 4) & 0x3FFFFFF);
   unsigned char jump[JUMP_SIZE];
   memcpy(jump, &code, 4);
 #endif
-  put(from, jump);
+  patch(from, jump);
 }
 
 static void map(void *start, size_t size, int protection) {
@@ -68,19 +69,19 @@ int main(void) {
   while (fread(&request, sizeof request, 1, stdin) == 1) {
     unsigned char *next = TEXT + request.next;
     unsigned char *target = TEXT + request.target;
-    unsigned char after[JUMP_SIZE], taken[JUMP_SIZE];
-    memcpy(after, next, JUMP_SIZE);
-    memcpy(taken, target, JUMP_SIZE);
-    put_jump(target, back_taken);
-    put_jump(next, back_next);
+    unsigned char next_code[JUMP_SIZE], target_code[JUMP_SIZE];
+    memcpy(next_code, next, JUMP_SIZE);
+    memcpy(target_code, target, JUMP_SIZE);
+    patch_jump(target, taken);
+    patch_jump(next, not_taken);
 #ifndef __x86_64__
-    put_jump(go, TEXT + request.address);
+    patch_jump(jump_to_code, TEXT + request.address);
 #endif
     memcpy(SCRATCH, request.state.scratch, SCRATCH_SIZE);
     enter(&request.state, TEXT + request.address);
     memcpy(request.state.scratch, SCRATCH, SCRATCH_SIZE);
-    put(target, taken);
-    put(next, after);
+    patch(target, target_code);
+    patch(next, next_code);
     if (fwrite(&request.state, sizeof request.state, 1, stdout) != 1 || fflush(stdout))
       return 1;
   }

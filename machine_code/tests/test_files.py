@@ -1,5 +1,5 @@
-"""Files that ordinary tools make of honest builds are read, and what such a build gets wrong is
-rejected, by a message that says what to do."""
+"""Files that ordinary tools make of honest builds are read. Frequent mistakes are rejected, with a
+message that says what to do."""
 
 import pathlib
 
@@ -9,10 +9,10 @@ from build import (
     AARCH64,
     CLANG,
     X86_64,
+    built,
     for_macos,
     for_windows,
     for_windows_on_aarch64,
-    made,
     objects,
     run,
     shared,
@@ -28,15 +28,17 @@ TEXT_RELOCATION = ".data; value: .quad 0; .text; .quad value"
 
 
 def so(*options, **how):
+    """Builds the shared library with options of the linker."""
     return lambda folder: shared(folder, *options, **how)
 
 
 def program(*options, **how):
+    """Builds a program with the static library."""
     return lambda folder: build.program(folder, *options, **how)
 
 
 def with_source(text, *options, script=""):
-    """The library with more of a source, and a script of versions."""
+    """Builds the shared library with an additional source, and with a version script."""
 
     def make(folder):
         pathlib.Path(folder, "more.s").write_text(text.replace("; ", "\n") + "\n")
@@ -48,7 +50,7 @@ def with_source(text, *options, script=""):
 
 
 def after(*command, of=so()):
-    """A file that a command has changed, which takes its name last."""
+    """Builds a file that a command modifies. Its last argument is the file's name."""
 
     def make(folder):
         file = of(folder)
@@ -59,15 +61,16 @@ def after(*command, of=so()):
 
 
 def archive(folder):
-    run("ar", "rc", "made", *objects(X86_64), folder=folder)
-    return pathlib.Path(folder, "made")
+    """Builds an archive of the library's objects."""
+    run("ar", "rc", "libconst_hex.a", *objects(X86_64), folder=folder)
+    return pathlib.Path(folder, "libconst_hex.a")
 
 
 def importer(folder):
-    """A program that takes the library from another file."""
+    """Builds a program that is linked with the shared library."""
     shared(folder, "-Wl,-soname,libconst_hex.so.1").rename(folder / "libconst_hex.so")
     (folder / "main.c").write_bytes(build.PROGRAM)
-    return made(X86_64, "main.c", "libconst_hex.so", folder=folder)
+    return built(X86_64, "main.c", "libconst_hex.so", folder=folder)
 
 
 RUNPATH = "patchelf", "--set-rpath", "/a/path/that/is/longer/than/any/space/that/a/linker/leaves"
@@ -98,11 +101,11 @@ MISTAKES = {
         after("strip", "-x"),
         "built from portable.c, .* or stripped: .* Use neither strip nor strip -x",
     ),
-    "a file of debug information": (
+    "a separate debug file": (
         after("objcopy", "--only-keep-debug"),
-        "a file of debug information: prove the file that runs",
+        "a separate debug file: prove the file that runs",
     ),
-    "code that can be written": (so("-Wl,-N"), "code that can be written: link without -N"),
+    "writable code": (so("-Wl,-N"), "writable and executable segment: link without -N"),
     "text relocations": (with_source(TEXT_RELOCATION, "-Wl,-z,notext"), "compile .* with -fPIC"),
     "IBT": (so("-Wl,-z,ibt"), "link without -z ibt"),
     "BTI": (so("-Wl,-z,force-bti", compiler=AARCH64), "link without .* -z force-bti"),
@@ -128,7 +131,7 @@ MISTAKES = {
         with_source(".globl const_hex_x; const_hex_x = 65536"),
         r"const_hex_x is .* absolute \(SHN_ABS\)",
     ),
-    "a program that takes the library from another file": (
+    "a program with the shared library": (
         importer,
         "it calls const_hex_.* prove the shared library, such as libconst_hex.so",
     ),
@@ -144,11 +147,13 @@ MISTAKES = {
 
 @pytest.mark.parametrize("make", HONEST.values(), ids=HONEST)
 def test_honest_builds_are_read(make, tmp_path):
-    file, contracts = proofs.functions_of(make(tmp_path).read_bytes())
+    file, contracts = proofs.functions_to_prove(make(tmp_path).read_bytes())
     assert {f"const_hex_{name}" for name in FUNCTIONS} <= file.symbols.keys()
     assert len(contracts) == (45 if file.machine == 62 else 37)
     assert all(file.code_at(file.symbols[name]) for name, _ in contracts)
-    assert [file.is_choice(address) for address in file.choices] == [True] * (file.machine == 62)
+    assert [file.is_dispatch_byte(address) for address in file.dispatch_bytes] == [True] * (
+        file.machine == 62
+    )
 
 
 def test_symbols_of_debug_information_have_no_address(tmp_path):
@@ -158,12 +163,12 @@ def test_symbols_of_debug_information_have_no_address(tmp_path):
 
 
 def test_a_program_for_avx2_alone_is_read():
-    """It calls this kernel, and has no dispatcher."""
+    """Such a program calls this kernel directly, and has no dispatcher."""
     text = "".join((build.RUST / f"{name}.s").read_text() for name in ("elf", "x86_64_v3"))
-    assert len(proofs.functions_of(build.linked(text))[1]) == 4
+    assert len(proofs.functions_to_prove(build.linked(text))[1]) == 4
 
 
 @pytest.mark.parametrize("make, message", MISTAKES.values(), ids=MISTAKES)
 def test_mistakes_are_rejected(make, message, tmp_path):
     with pytest.raises(ValueError, match=message):
-        proofs.functions_of(make(tmp_path).read_bytes())
+        proofs.functions_to_prove(make(tmp_path).read_bytes())

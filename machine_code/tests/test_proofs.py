@@ -1,6 +1,5 @@
-"""The machine code is proved in files of each format that linkers for other systems make. With the
-variable CONST_HEX_WHOLE each function of them is proved, which takes half an hour of a
-processor."""
+"""The machine code is proved in files of each format, by linkers for other systems. With the variable
+CONST_HEX_WHOLE each function in them is proved, which takes half an hour of processor time."""
 
 import os
 import pathlib
@@ -13,7 +12,7 @@ import pytest
 from test_files import HONEST
 
 PROVE = pathlib.Path(__file__).parents[1] / "prove"
-# They read constants, call each other, and are called through the dispatcher.
+# These functions read constants, call each other, and are called through the dispatcher.
 CALLS = [f"--call={name}" for name in ("kernel_fill_lower", "fill_lower", "check")]
 
 

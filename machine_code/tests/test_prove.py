@@ -1,4 +1,4 @@
-"""What `prove` reports, and which contracts the functions of a file have."""
+"""The output of `prove`, and the contracts of a file's functions."""
 
 import pathlib
 import sys
@@ -16,8 +16,8 @@ from reading import library
 from solver.questions import Rejected
 
 FOLDER = pathlib.Path(__file__).resolve().parents[1]
-# A kernel that calls a local function for an invalid character, which never returns.
-CALLS_A_LOCAL_ONE = """
+# A kernel that calls a local function, which never returns, for an invalid character.
+CALLS_LOCAL_FUNCTION = """
     .intel_syntax noprefix
     .section .text.{0}, "ax"; .globl {0}; {0}: sub rsp, 24; 1: test rsi, rsi; je 2f; movzx eax, byte ptr [rdi]
     lea ecx, [rax-0x30]; cmp cl, 10; setb r8b; or al, 0x20; sub al, 0x61; cmp al, 6; setb r9b; or r8b, r9b; je 3f
@@ -26,7 +26,7 @@ CALLS_A_LOCAL_ONE = """
     .section .text.{1}, "ax"; {1}: jmp {1}
 """
 # A local function that calls another one, which never returns.
-LOCAL_ONES = """
+LOCAL_FUNCTIONS = """
     .intel_syntax noprefix
     .section .text.{0}, "ax"; {0}: sub rsp, 8; mov rsi, rcx; mov rdx, r8; call {1}; add rsp, 8; ret
     .section .text.{1}, "ax"; {1}: jmp {1}
@@ -36,19 +36,19 @@ LEFT_OUT = "; --call has left out"
 
 @pytest.fixture
 def prove(monkeypatch, capsys):
-    """Runs `prove` where each proof succeeds but that of one function; returns whether it fails, and
-    what it prints."""
+    """Runs `prove` with a stub for the proofs, which succeeds except for one function. Returns
+    whether it fails, and its output."""
     script = types.ModuleType("prove")
     SourceFileLoader("prove", str(FOLDER / "prove")).exec_module(script)
 
     def run(*arguments, wrong=None):
-        def prove(content, symbol, contract, which):
+        def prove(content, symbol, contract, selected):
             if contract.function == wrong:
                 raise Rejected("it is\nwrong " * 1000)
             return 1
 
         monkeypatch.setattr(proofs, "prove", prove)
-        monkeypatch.setattr(proofs.questions, "proved", [])
+        monkeypatch.setattr(proofs.questions, "unsat_queries", [])
         monkeypatch.setattr(sys, "argv", ["prove", *map(str, arguments)])
         return script.main(), capsys.readouterr().out
 
@@ -74,12 +74,14 @@ def test_last_line(arguments, wrong, last, prove, tmp_path):
     assert all(len(line) < 500 for line in output.splitlines())
 
 
-def test_what_is_called_is_proved(tmp_path):
-    """Each function that is called by its contract has it."""
-    file, functions = proofs.functions_of(shared(tmp_path).read_bytes())
+def test_callees_are_proved(tmp_path):
+    """Each function with a summary is among those that are proved."""
+    file, functions = proofs.functions_to_prove(shared(tmp_path).read_bytes())
     contracts = [(symbol, proofs.CONTRACTS[number]) for symbol, number in functions]
     called = {
-        name for symbol, contract in contracts for name in proofs.effects_of(symbol, contract)
+        name
+        for symbol, contract in contracts
+        for name in proofs.summaries_of_callees(symbol, contract)
     }
     assert called & file.symbols.keys() <= {symbol for symbol, _ in functions}
 
@@ -90,8 +92,8 @@ def test_only_proofs_use_hints():
 
 
 def test_contracts_of_functions():
-    """Each function has them, with as many arguments; and those that are not constant-time are
-    known. What a decoder is that a program has changed is no secret."""
+    """Each function of the header has a contract, with the same number of arguments, which is
+    constant-time if the function is; except for a decoder that a program has changed."""
     contracts = [
         each for each in (*FUNCTIONS, *MESSAGES) if not each.is_local and "changed" not in each.name
     ]
@@ -106,22 +108,22 @@ def test_contracts_of_functions():
 @pytest.mark.parametrize(
     "name", sorted({each.symbol for each in (*FUNCTIONS, *MESSAGES) if each.is_local})
 )
-def test_local_function_by_the_name_of_another_file(name):
-    """Where it is not proved, it is not called by its contract."""
-    content = linked(CALLS_A_LOCAL_ONE.format("const_hex_1_0_0_check_v3", name))
-    with pytest.raises(Rejected, match="nothing counts down"):
+def test_local_function_in_a_kernel(name):
+    """A kernel may not call a function by a contract that is proved at a greater depth."""
+    content = linked(CALLS_LOCAL_FUNCTION.format("const_hex_1_0_0_check_v3", name))
+    with pytest.raises(Rejected, match="no loop bound is found"):
         proofs.prove(content, "const_hex_1_0_0_check_v3", Check())
 
 
 def test_local_functions_that_call_each_other():
-    """What is called by its contract calls no other so: each of two would be right if the other one
-    were."""
+    """A local function takes no other one of its depth by its contract: else each of two could be
+    proved by the other's."""
     contract = next(contract for contract in FUNCTIONS if contract.function == "decoder_fail")
-    content = linked(LOCAL_ONES.format(contract.symbol, "const_hex_body_locate_invalid"))
-    with pytest.raises(Rejected, match="nothing counts down"):
+    content = linked(LOCAL_FUNCTIONS.format(contract.symbol, "const_hex_body_locate_invalid"))
+    with pytest.raises(Rejected, match="no loop bound is found"):
         proofs.prove(content, contract.symbol, contract)
 
 
-def test_a_module_that_is_cut():
-    with pytest.raises(ValueError, match="no module"):
-        library.whole(library.MODULE)
+def test_a_truncated_module():
+    with pytest.raises(ValueError, match="not a valid module"):
+        library.read_and_validate(library.WASM_MAGIC)

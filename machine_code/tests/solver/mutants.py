@@ -1,5 +1,6 @@
-"""What makes a file of each row of the tables in the folder mutants. A section's name has what is changed and, after
-a colon, what is wrong; its lines have the change, the name of a contract, if it is not the first one, and the message."""
+"""Builds the mutants of the tables in the folder mutants. The name of a section says which code is mutated and, after
+a colon, how; its lines have the mutation, the name of a contract, if it is not the first one of a function, and a part
+of the message with which the prover rejects the mutant."""
 
 import collections
 import configparser
@@ -7,7 +8,7 @@ import functools
 import pathlib
 
 from build import ASM, RUST, compiler_for, linked, linked_module
-from contracts.dispatch import CHOICES, OR_NULL
+from contracts.dispatch import KERNEL_DISPATCHERS, NULL_ERROR_THUNKS
 from contracts.kernels import KERNELS
 from contracts.library import FUNCTIONS, Version
 from contracts.messages import MESSAGES
@@ -35,10 +36,10 @@ MESSAGE = """
     const_hex_message_write_ended: ret
     .section .rodata.text, "a"; text: .ascii "odd number of digits"; .skip 80
 """
-# A variable of the program, of the same size, lies before the byte of the dispatcher.
+# A variable of the program, of the same size, before the dispatcher's byte.
 VARIABLE = ".bss\n.size choice, 1\nchoice: .zero 1\n"
 INCLUDED = '#include "../../rust/src/asm/dispatch.s"'
-# A function that asks whether all characters are digits, one after the other.
+# A small module: it checks one character after the other.
 MODULE = """(module (memory (export "memory") 1 1) (global (mut i32) (i32.const 4096))
   (global i32 (i32.const 4800)) (export "__data_end" (global 1)) (export "__heap_base" (global 1)) {part}
   (func (export "const_hex_check_raw") (param i32 i32) (result i32) (local i32 i32)
@@ -47,24 +48,27 @@ MODULE = """(module (memory (export "memory") 1 1) (global (mut i32) (i32.const 
       local.get 0 i32.load8_u local.tee 3 {character} i32.const 48 i32.sub i32.const 10 i32.lt_u
       local.get 3 i32.const 32 i32.or i32.const 97 i32.sub i32.const 6 i32.lt_u i32.or i32.eqz br_if 2
       local.get 0 i32.const 1 i32.add local.set 0
-      local.get 1 i32.const 1 i32.sub local.tee 1 {round} br_if 0
+      local.get 1 i32.const 1 i32.sub local.tee 1 {iteration} br_if 0
     end end {end} i32.const 1 return end {invalid} i32.const 0)
   (func (param i32) (result i32) local.get 0 i32.const 1 i32.add)
   (data (i32.const 4096) "{data}"))"""
 
 
 def functions(group, old="", new="", within=None):
+    """A mutant of a function in the committed assembly, or in the module."""
     build, _, call = group.rpartition(" ")
     contracts = FUNCTIONS if build == WASM else COMMITTED[build][1]
     return edited(build, within or call, old, new), call, contracts
 
 
 def programs(group, **changes):
+    """A mutant of a small kernel."""
     level, call = group.split()
     return program(level, call, **changes), call, KERNELS
 
 
 def forms(level, code):
+    """A program with some instructions."""
     contract = Version()
     contract.level = level
     template = FORM_ON_AARCH64 if level == "aarch64" else FORM
@@ -73,22 +77,29 @@ def forms(level, code):
 
 
 def messages(call, code):
+    """A mutant of const_hex_error_message."""
     return linked(MESSAGE.format(code)), call, MESSAGES
 
 
 def dispatchers(group, old, new):
+    """A mutant of a dispatcher."""
     call, name = group.split(", ")
-    choices = [each for each in (*OR_NULL, *CHOICES) if (each.function, each.name) == (call, name)]
+    contracts = [
+        each
+        for each in (*NULL_ERROR_THUNKS, *KERNEL_DISPATCHERS)
+        if (each.function, each.name) == (call, name)
+    ]
     text = text_of("dispatch")
-    if not choices[0].passed:
+    if not contracts[0].callable_arguments:
         of_rust = (RUST / "dispatch.s").read_text()
         text = lines_of((ASM / "dispatch.S").read_text().replace(INCLUDED, of_rust))
     old, new = (lines.replace("; ", "\n") for lines in (old, new))
     assert old in text, old
-    return linked(VARIABLE + text.replace(old, new)), call, choices
+    return linked(VARIABLE + text.replace(old, new)), call, contracts
 
 
 def modules(call, old="", new="", **changes):
+    """A mutant of the small module."""
     text = MODULE
     for before, after in zip(old.split("\n"), new.split("\n")):
         assert before in text, before
@@ -98,12 +109,13 @@ def modules(call, old="", new="", **changes):
 
 
 def rows():
-    """Of each row its name, what makes its file, its contract and its message, if it is wrong."""
-    for make in (functions, programs, forms, messages, dispatchers, modules):
+    """For each mutant its name, a function that builds it, its contract, and the message with which
+    it is rejected; None for correct code."""
+    for build in (functions, programs, forms, messages, dispatchers, modules):
         table = configparser.RawConfigParser()
-        table.read(FOLDER / f"{make.__name__}.ini")
+        table.read(FOLDER / f"{build.__name__}.ini")
         for section in table.sections():
             changes = dict(table[section])
             contract, message = changes.pop("contract", None), changes.pop("message", None)
             group = section.partition(": ")[0]
-            yield section, functools.partial(make, group, **changes), contract, message
+            yield section, functools.partial(build, group, **changes), contract, message

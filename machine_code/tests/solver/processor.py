@@ -1,9 +1,9 @@
-"""Runs single instructions of an object on a processor, each from random states, and compares them
-with their semantics.
+"""Runs single instructions of a file on a processor, from random states, and compares the states
+after them with the semantics.
 
-The object lies in the memory of a program (run.c in the folder above) as `reading` lays it out.
-After the instruction stands a jump back, and so at its target if it is a jump. The registers are
-random; those that an address needs point into a scratch area.
+A program (run.c in the folder above) maps the file, and writes a jump back after the instruction
+and, if that is a jump, at its target. Registers are random, except for those in an address, which
+point into a scratch area.
 """
 
 import collections
@@ -14,176 +14,227 @@ import random
 import struct
 import subprocess
 import tempfile
+from dataclasses import dataclass
 
 import build
 import z3
 from execution.code import Code
 from execution.paths import Branch
-from execution.terms import simple, word
+from execution.terms import bv64, simplify
 from hints.loops import successors
-from node import BYTES, EDGES
+from node import BYTE_TERMS, EDGE_BYTES
 from reading import library
 from solver.questions import require
 
 FOLDER = pathlib.Path(__file__).resolve().parents[1]
 # As in run.c.
-SIZE = 1 << 12
-TEXT = 0x4000000
-SCRATCH = 0x8000000
-MIDDLE = SIZE // 2
-NOT_ALONE = ("ret", "call", "jmp", "nop", "bl", "b", "cpuid", "xgetbv")
-# So many instructions of each form, and states of each.
-SAMPLES, STATES = 2, 20
+SCRATCH_SIZE = 1 << 12
+TEXT_ADDRESS = 0x4000000
+SCRATCH_ADDRESS = 0x8000000
+SCRATCH_MIDDLE = SCRATCH_ADDRESS + SCRATCH_SIZE // 2
+# Instructions that are not run alone: unconditional jumps, and what the CPU decides.
+NOT_STEPPED = ("ret", "call", "jmp", "nop", "bl", "b", "cpuid", "xgetbv")
+# The instructions of each form that are run, and the initial states of each.
+SAMPLES_PER_FORM, STATES_PER_SAMPLE = 2, 20
 # In some states all numbers are near one of these, so that some are equal, and some sums and
-# differences are 0.
-NEAR = [None] * 4 + [0, 0, 1 << 31, 1 << 63]
+# differences are 0. None stands for any numbers.
+NEAR_NUMBERS = [None] * 4 + [0, 0, 1 << 31, 1 << 63]
 
 
-# By the processor: where its flags are, how long a jump is, and what compiles a program for it and
-# runs it.
-Kind = collections.namedtuple("Kind", "flags jump compiler emulator")
-KINDS = {
-    "x86_64": Kind({"c": 0, "z": 6, "s": 7, "o": 11}, 5, build.X86_64, ()),
-    "aarch64": Kind({"s": 31, "z": 30, "c": 29, "o": 28}, 4, build.AARCH64, ("qemu-aarch64",)),
+@dataclass
+class Target:
+    """A processor, and how to build and run a program for it."""
+
+    flag_bits: dict  # the positions in the flags register
+    jump_size: int
+    compiler: str
+    emulator: tuple = ()
+
+
+TARGETS = {
+    "x86_64": Target(
+        {"carry": 0, "zero": 6, "sign": 7, "overflow": 11}, jump_size=5, compiler=build.X86_64
+    ),
+    "aarch64": Target(
+        {"sign": 31, "zero": 30, "carry": 29, "overflow": 28},
+        jump_size=4,
+        compiler=build.AARCH64,
+        emulator=("qemu-aarch64",),
+    ),
 }
 
 
 def _random_bytes(generator, count):
-    """Random bytes; often at the edges, and sometimes all 0."""
+    """Random bytes, edge cases, or zeros."""
     content = generator.randbytes(count)
     kind = generator.randrange(8)
     if kind == 0:
         return bytes(count)
-    return content if kind < 4 else content.translate((EDGES * 24)[:256])
+    return content if kind < 4 else content.translate((EDGE_BYTES * 24)[:256])
 
 
-class Memory:
-    """What a state does whose memory is known: that of the object, and the scratch area."""
+class ConcreteMemory:
+    """A mixin for a state with a concrete memory: the mapped file, and the scratch area."""
 
     def load(self, address, count, aligned=False):
-        address = simple(address).as_long()
+        address = simplify(address).as_long()
         require(not aligned or address % count == 0, "not aligned")
-        memory, start = (self.scratch, SCRATCH) if address >= SCRATCH else (self.object, TEXT)
-        return [BYTES[value] for value in memory[address - start :][:count]]
+        if address >= SCRATCH_ADDRESS:
+            data = self.scratch[address - SCRATCH_ADDRESS :]
+        else:
+            data = self.mapped_file[address - TEXT_ADDRESS :]
+        return [BYTE_TERMS[value] for value in data[:count]]
 
     def store(self, address, data, aligned=False):
-        first = simple(address).as_long() - SCRATCH
-        self.scratch[first : first + len(data)] = [simple(value).as_long() for value in data]
+        start = simplify(address).as_long() - SCRATCH_ADDRESS
+        self.scratch[start : start + len(data)] = [simplify(value).as_long() for value in data]
 
 
 class Processor:
+    """The instructions of a file, which run on a processor and by the semantics."""
+
     def __init__(self, content, level):
         linked = library.read(content)
         self.code = Code(content, min(linked.symbols), {}, level)
-        self.code.constants.base = word(TEXT + linked.first)
-        for start in sorted(linked.starts):
-            self.code.instruction(start)  # which is read with those after it
+        self.code.constants.base = bv64(TEXT_ADDRESS + linked.base_address)
+        for start in sorted(linked.symbol_addresses):
+            self.code.instruction(start)  # which decodes those after it, too
         self.semantics = self.code.processor
         self.name = self.semantics.__name__.rpartition(".")[2]
-        self.kind = KINDS[self.name]
-        self.memory = bytearray(linked.size)
-        for part in linked.parts:
-            self.memory[part.address : part.address + len(part.content)] = part.content
-        self.instructions = [i for i in self.code.instructions.values() if self._is_alone(i)]
+        self.target = TARGETS[self.name]
+        self.mapped_file = bytearray(linked.size)
+        for part in linked.mappings:
+            self.mapped_file[part.address : part.address + len(part.content)] = part.content
+        self.instructions = [
+            instruction
+            for instruction in self.code.instructions.values()
+            if self._can_be_stepped(instruction)
+        ]
 
-    def _is_alone(self, i):
-        """Whether an instruction has semantics, and leads where a jump back has space."""
-        if i.mnemonic not in self.semantics.HANDLERS or i.mnemonic in NOT_ALONE or i.rejected:
+    def _can_be_stepped(self, instruction):
+        """Whether an instruction has semantics, and its target has space for a jump back."""
+        if (
+            instruction.mnemonic not in self.semantics.HANDLERS
+            or instruction.mnemonic in NOT_STEPPED
+            or instruction.rejected
+        ):
             return False
-        target, jump, end = self._target(i), self.kind.jump, i.address + i.size
-        is_far = not i.address - jump < target < end + jump
-        return target == end or is_far and bool(self.code.object.code_at(target))
+        target = self._jump_target(instruction)
+        end = instruction.address + instruction.size
+        jump_size = self.target.jump_size
+        overlaps = instruction.address - jump_size < target < end + jump_size
+        return target == end or not overlaps and bool(self.code.image.code_at(target))
 
-    def _target(self, i):
-        """Where a jump goes, or the end of another instruction."""
-        return max(successors(i), key=lambda to: to != i.address + i.size)
+    def _jump_target(self, instruction):
+        """The target of a jump, or the end of another instruction."""
+        return max(
+            successors(instruction), key=lambda to: to != instruction.address + instruction.size
+        )
 
-    def _start(self, i, generator):
-        """A random state, in which an address lies in the scratch area, aligned for any access."""
-        state = type("Known", (Memory, self.semantics.State), {})()
+    def _initial_state(self, instruction, generator):
+        """A random state, in which addresses lie in the scratch area, aligned for any access."""
+        state = type("ConcreteState", (ConcreteMemory, self.semantics.State), {})()
         state.code = self.code
-        state.object = self.memory
-        state.is_legacy = False
-        state.scratch = bytearray(_random_bytes(generator, SIZE))
-        near = generator.choice(NEAR)
+        state.mapped_file = self.mapped_file
+        state.is_legacy_sse = False
+        state.scratch = bytearray(_random_bytes(generator, SCRATCH_SIZE))
+        near = generator.choice(NEAR_NUMBERS)
         general = {}
-        for name in state.GENERAL:
+        for name in state.GENERAL_REGISTERS:
             number = int.from_bytes(_random_bytes(generator, 8), "little")
             general[name] = number if near is None else near + generator.randrange(-1, 2)
-        general[state.TOP] = SCRATCH + MIDDLE
-        for o in i.operands if i.mnemonic != "lea" else ():
-            if o.kind == "memory" and ("rip", 1) not in o.terms:
-                base, *others = o.terms
-                for name, _ in others:
-                    general[name] = generator.randrange(256) & -32
-                rest = o.offset + sum(general[name] * scale for name, scale in others)
-                if base[0] != state.TOP:
-                    general[base[0]] = SCRATCH + MIDDLE + 64 * generator.randrange(16) - rest
-        state.general = {name: word(value) for name, value in general.items()}
-        state.flags = {name: z3.BoolVal(generator.random() < 0.5) for name in self.kind.flags}
-        state.raw = {n: _random_bytes(generator, state.WIDTH) for n in range(state.VECTORS)}
-        state.vectors = {n: [BYTES[value] for value in data] for n, data in state.raw.items()}
-        state.next = i.address + i.size
+        general[state.SP] = SCRATCH_MIDDLE
+        for operand in instruction.operands if instruction.mnemonic != "lea" else ():
+            if operand.kind == "memory" and ("rip", 1) not in operand.terms:
+                _point_into_scratch(general, operand, state.SP, generator)
+        state.general = {name: bv64(value) for name, value in general.items()}
+        state.flags = {name: z3.BoolVal(generator.random() < 0.5) for name in self.target.flag_bits}
+        state.raw = {
+            number: _random_bytes(generator, state.VECTOR_SIZE)
+            for number in range(state.VECTOR_COUNT)
+        }
+        state.vectors = {
+            number: [BYTE_TERMS[value] for value in data] for number, data in state.raw.items()
+        }
+        state.next = instruction.address + instruction.size
         return state
 
-    def _request(self, i, state):
-        """An instruction and the state before it, as run.c has them."""
-        flags = sum(
-            1 << bit
-            for name, bit in self.kind.flags.items()
-            if z3.is_true(simple(state.flags[name]))
-        )
-        numbers = [i.address, i.address + i.size, self._target(i)]
-        numbers += [state.general[name].as_long() for name in state.GENERAL]
+    def _request(self, instruction, state):
+        """An instruction and the state before it, as run.c reads them."""
+        flags = 0
+        for name, bit in self.target.flag_bits.items():
+            flags |= z3.is_true(simplify(state.flags[name])) << bit
+        numbers = [
+            instruction.address,
+            instruction.address + instruction.size,
+            self._jump_target(instruction),
+        ]
+        numbers += [state.general[name].as_long() for name in state.GENERAL_REGISTERS]
         content = struct.pack(f"<{len(numbers)}Q", *numbers) + b"".join(state.raw.values())
         return content + struct.pack("<QQ", flags, 0) + state.scratch
 
     def _run(self, requests):
-        """What the program writes, which runs on the processor or in its emulator."""
+        """The output of the program, which runs on the processor or in its emulator."""
         with tempfile.TemporaryDirectory() as folder:
             sources = [FOLDER / "run.c", FOLDER / f"run_{self.name}.S"]
-            file = build.made(self.kind.compiler, "-O1", "-static", *sources, folder=folder)
-            content = struct.pack("<Q", len(self.memory)) + self.memory + b"".join(requests)
-            command = [*self.kind.emulator, file]
+            file = build.built(self.target.compiler, "-O1", "-static", *sources, folder=folder)
+            size = struct.pack("<Q", len(self.mapped_file))
+            content = size + self.mapped_file + b"".join(requests)
+            command = [*self.target.emulator, file]
             return subprocess.run(command, input=content, stdout=subprocess.PIPE).stdout
 
-    def _compared(self, i, state, output):
-        """What differs between the semantics and the next state that the processor has left."""
-        to = self.semantics.HANDLERS[i.mnemonic](state, *i.operands)
-        for name in state.GENERAL:
+    def _compare(self, instruction, state, output):
+        """What differs between the semantics and the processor's next state in the output."""
+        result = self.semantics.HANDLERS[instruction.mnemonic](state, *instruction.operands)
+        for name in state.GENERAL_REGISTERS:
             [number] = struct.unpack("<Q", output.read(8))
-            if not simple(state.general[name]).eq(word(number)):
+            if not simplify(state.general[name]).eq(bv64(number)):
                 yield name
         for name, data in state.vectors.items():
-            raw, now = state.raw[name], output.read(state.WIDTH)
-            wanted = [BYTES[value] for value in now]
-            if data != wanted and [*map(simple, data)] != wanted:
+            raw, now = state.raw[name], output.read(state.VECTOR_SIZE)
+            expected = [BYTE_TERMS[value] for value in now]
+            if data != expected and [*map(simplify, data)] != expected:
                 yield f"vector {name}"
-            if state.is_clean and now[16:] not in (raw[16:], bytes(len(raw) - 16)):
-                yield f"what lies above in vector {name}"
-        if state.is_legacy:
-            yield "what the next instruction is"
+            if state.is_upper_half_clean and now[16:] not in (raw[16:], bytes(len(raw) - 16)):
+                yield f"the upper half of vector {name}"
+        if state.is_legacy_sse:
+            yield "a legacy SSE instruction has not ended"
         flags, is_taken = struct.unpack("<QQ", output.read(16))
-        if output.read(SIZE) != state.scratch:
+        if output.read(SCRATCH_SIZE) != state.scratch:
             yield "memory"
         for name, flag in (state.flags or {}).items():
-            bit = bool(flags >> self.kind.flags[name] & 1)
-            if flag is not None and z3.is_true(simple(flag)) != bit:
-                yield f"flag {name}"
-        if is_taken != (isinstance(to, Branch) and z3.is_true(simple(to.condition))):
-            yield "the jump"
+            bit = bool(flags >> self.target.flag_bits[name] & 1)
+            if flag is not None and z3.is_true(simplify(flag)) != bit:
+                yield f"the {name} flag"
+        if is_taken != (isinstance(result, Branch) and z3.is_true(simplify(result.condition))):
+            yield "whether the jump is taken"
 
     def differences(self):
-        """What differs of some instructions of each form: a mnemonic with kinds of operands."""
+        """What differs after some instructions of each form: a mnemonic with kinds of operands."""
         forms = collections.defaultdict(list)
-        for i in self.instructions:
-            kinds = [(o.kind, o.size) for o in i.operands]
-            forms[i.mnemonic, *kinds].append(i)
-        chosen = [those[:: len(those) // SAMPLES or 1][:SAMPLES] for those in forms.values()]
-        runs = [
-            (i, self._start(i, random.Random(f"{i.text} {number}")))
-            for i, number in itertools.product(itertools.chain(*chosen), range(STATES))
-        ]
+        for instruction in self.instructions:
+            kinds = [(operand.kind, operand.size) for operand in instruction.operands]
+            forms[instruction.mnemonic, *kinds].append(instruction)
+        samples = []
+        for instructions in forms.values():
+            step = len(instructions) // SAMPLES_PER_FORM or 1
+            samples += instructions[::step][:SAMPLES_PER_FORM]
+        runs = []
+        for instruction, number in itertools.product(samples, range(STATES_PER_SAMPLE)):
+            generator = random.Random(f"{instruction.text} {number}")
+            runs.append((instruction, self._initial_state(instruction, generator)))
         output = io.BytesIO(self._run(itertools.starmap(self._request, runs)))
-        for i, state in runs:
-            yield from (f"{i.text}: {what}" for what in self._compared(i, state, output))
+        for instruction, state in runs:
+            yield from (
+                f"{instruction.text}: {what}" for what in self._compare(instruction, state, output)
+            )
+
+
+def _point_into_scratch(general, operand, stack_pointer, generator):
+    """Sets the registers of an address."""
+    (base, _), *indices = operand.terms
+    for name, _ in indices:
+        general[name] = generator.randrange(256) & -32
+    rest = operand.offset + sum(general[name] * scale for name, scale in indices)
+    if base != stack_pointer:
+        general[base] = SCRATCH_MIDDLE + 64 * generator.randrange(16) - rest

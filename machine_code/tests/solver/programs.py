@@ -1,28 +1,27 @@
-"""Small kernels, each a loop over single bytes, which are changed to be wrong; and the objects that
-they make."""
+"""Mutation of code: small kernels, each a loop over single bytes, and the committed assembly and
+module."""
 
 import collections
 import functools
 import pathlib
 import re
 
-from contracts.dispatch import CHOICES, OR_NULL
+from contracts.dispatch import KERNEL_DISPATCHERS, NULL_ERROR_THUNKS
 from contracts.kernels import KERNELS
 from contracts.library import FUNCTIONS
 from contracts.messages import MESSAGES
 from execution import proofs
 from reading import library
-from reading.module import SPACE
+from reading.module import FUNCTION_SPACING
 from build import ASM, MODULE, RUST, compiler_for, linked, linked_module, run
 
-# Where it begins, a character in eax, whether it is a digit, what is done in a round, and where it
-# returns.
+# Templates of kernels. A mutant inserts instructions at the names in braces.
 CHECK = """
     {start}
     1: test rsi, rsi; je 2f
     movzx eax, byte ptr [rdi]; {character}
     lea ecx, [rax-0x30]; cmp cl, 10; setb r8b; or al, 0x20; sub al, 0x61; cmp al, 6; setb r9b; or r8b, r9b; je 3f
-    add rdi, 1; add rsi, -1; {round}
+    add rdi, 1; add rsi, -1; {iteration}
     jmp 1b
     2: mov eax, 1; {end}
     ret
@@ -35,7 +34,7 @@ FILL = """
     mov r9d, eax; shr r9d, 4; and eax, 15
     lea r10d, [r9+0x30]; lea r11d, [r9+0x57]; cmp r9d, 10; cmovb r11d, r10d; mov [rdx], r11b
     lea r10d, [rax+0x30]; lea r11d, [rax+0x57]; cmp eax, 10; cmovb r11d, r10d; mov [rdx+1], r11b
-    add rdi, 1; add rdx, 2; add rsi, -1; {round}
+    add rdi, 1; add rdx, 2; add rsi, -1; {iteration}
     jmp 1b
     2: {end}
     ret
@@ -43,7 +42,7 @@ FILL = """
 VALUE = """lea r10d, [r{0}x-0x30]; cmp r10b, 10; setb r8b; or {0}l, 0x20; sub {0}l, 0x57; lea r11d, [r{0}x-10]
     cmp r11b, 6; setb r9b; or r9b, r8b; je 3f; test r8b, r8b; cmovne e{0}x, r10d
     """
-# The byte of two characters in al.
+# Decodes the two characters in eax and ecx to a byte in al.
 BYTE = f"{VALUE.format('a')}{VALUE.format('c')}shl eax, 4; or eax, ecx; "
 LOAD = "movzx eax, byte ptr [rdi+{0}]; movzx ecx, byte ptr [rdi+{0}+1]; "
 READ = f"""
@@ -51,7 +50,7 @@ READ = f"""
     1: test rdx, rdx; je 2f
     {LOAD.format(0)}{{character}}
     {BYTE}{{store}}
-    add rdi, 2; add rsi, 1; add rdx, -1; {{round}}
+    add rdi, 2; add rsi, 1; add rdx, -1; {{iteration}}
     jmp 1b
     2: mov eax, 1; {{end}}
     ret
@@ -62,7 +61,7 @@ ON_AARCH64 = """
     1: cbz x1, 2f
     ldrb w8, [x0]; {character}
     sub w9, w8, #0x30; cmp w9, #10; cset w10, cc; mov w11, #0x20; orr w8, w8, w11; sub w8, w8, #0x61; cmp w8, #6
-    cset w11, cc; orr w10, w10, w11; cbz w10, 3f; add x0, x0, #1; sub x1, x1, #1; {round}
+    cset w11, cc; orr w10, w10, w11; cbz w10, 3f; add x0, x0, #1; sub x1, x1, #1; {iteration}
     b 1b
     2: mov w0, #1; {end}
     ret
@@ -80,13 +79,13 @@ def of_rust(name):
     return [RUST / f"{part}.s" for part in ("elf", name, "end")]
 
 
-# What is committed: the files of each build, and the contracts of its functions.
+# The committed assembly: the files of each build, and the contracts of its functions.
 COMMITTED = {
     "v2": (of_rust("x86_64_v2"), KERNELS),
     "v3": (of_rust("x86_64_v3"), KERNELS),
     "aarch64": (of_rust("aarch64"), KERNELS),
-    "dispatch": (of_rust("dispatch"), CHOICES),
-    "dispatch for AArch64": ([ASM / "dispatch.S"], OR_NULL),
+    "dispatch": (of_rust("dispatch"), KERNEL_DISPATCHERS),
+    "dispatch for AArch64": ([ASM / "dispatch.S"], NULL_ERROR_THUNKS),
     "functions_x86_64": ([ASM / "functions_x86_64.S"], (*FUNCTIONS, *MESSAGES)),
     "functions_aarch64": ([ASM / "functions_aarch64.S"], (*FUNCTIONS, *MESSAGES)),
 }
@@ -94,44 +93,45 @@ WASM = "wasm"
 
 
 def program(level, call, **changes):
-    """The object of a small kernel with what stands at its places."""
+    """A program with a small kernel, with instructions inserted at the named places."""
     lines = collections.defaultdict(str, {"store": "mov [rsi], al"} | changes)
-    body = ((ON_AARCH64 if level == "aarch64" else PROGRAMS[call]) + AFTER).format_map(lines)
-    syntax, end = (".intel_syntax noprefix\n", f"_{level}") if level != "aarch64" else ("", "")
-    name = f"const_hex_1_0_0_{call}{end}"
+    is_aarch64 = level == "aarch64"
+    body = ((ON_AARCH64 if is_aarch64 else PROGRAMS[call]) + AFTER).format_map(lines)
+    syntax = "" if is_aarch64 else ".intel_syntax noprefix\n"
+    name = f"const_hex_1_0_0_{call}" if is_aarch64 else f"const_hex_1_0_0_{call}_{level}"
     text = f'{syntax}.section .text.{name}, "ax"\n.globl {name}\n{name}:\n{body}'
     return linked(text, compiler_for(level))
 
 
 def lines_of(text):
-    """The lines of some text, each without spaces around it."""
+    """The lines of some text, with single spaces between words."""
     return "\n".join(" ".join(line.split()) for line in text.splitlines()) + "\n\n"
 
 
 @functools.cache
 def text_of(build):
-    """The lines of a build."""
+    """The assembly of a build, or the text format of the module."""
     if build != WASM:
         return lines_of("\n".join(path.read_text() for path in COMMITTED[build][0]))
     text = run("wasm2wat", "--no-debug-names", MODULE).decode()
     return re.sub(r"^ +| +$", "", re.sub(r"\(;@?\d+;\)|;; .*$", "", text, flags=re.M), flags=re.M)
 
 
-def parts_of(build, function):
-    """Where functions, constants or macros of a build with such a name begin and end."""
+def spans_of(build, function):
+    """Where functions, constants or macros of a build that match a name begin and end."""
     text = text_of(build)
     if build == WASM:
         bodies = list(re.finditer(r"^\(func .*\n(?:\(local.*\n)?((?:(?!\().*\n)*)", text, re.M))
         address = library.read(pathlib.Path(MODULE).read_bytes()).symbols[f"const_hex_{function}"]
-        return [bodies[address // SPACE - 1].span(1)]
+        return [bodies[address // FUNCTION_SPACING - 1].span(1)]
     name = rf"(const_hex_([\d_]+_|body_|message_|kernel_)?)?{function}(_nonnull)?(_v\d)?"
     starts = re.finditer(rf"^(function|constant|\.macro) (SYMBOL\()?{name}\b.*\n", text, re.M)
     return [(start.end(), text.index("\n\n", start.end())) for start in starts]
 
 
 def pattern(lines):
-    """The pattern of some lines, in which {a} stands for anything without a comma, a space or a
-    bracket."""
+    """The regular expression for some lines, in which {a} stands for a register, an operand or a
+    label."""
     text = re.escape(lines.replace("; ", "\n"))
     for name in "abcd":
         text = text.replace(rf"\{{{name}\}}", rf"(?P<{name}>[^\s,;\[\]+*]+)", 1)
@@ -140,26 +140,27 @@ def pattern(lines):
 
 
 def edited(build, function, old, new):
-    """The committed object or module in which lines of a function, a constant or a macro are
-    others."""
+    """The committed object or module, in which lines of a function, a constant or a macro are
+    replaced."""
     text = text_of(build)
     search = re.compile(pattern(old)).search
-    found = next(filter(None, (search(text, *part) for part in parts_of(build, function))), None)
-    assert found, f"{function} has no {old}"
-    lines = re.sub(r"\{(\w)\}", lambda name: found[name[1]], new.replace("; ", "\n"))
-    text = text[: found.start()] + lines + "\n" * (not old) + text[found.end() :]
+    match = next(filter(None, (search(text, *span) for span in spans_of(build, function))), None)
+    assert match, f"{function} has no {old}"
+    lines = re.sub(r"\{(\w)\}", lambda name: match[name[1]], new.replace("; ", "\n"))
+    text = text[: match.start()] + lines + "\n" * (not old) + text[match.end() :]
     if build == WASM:
         return linked_module(text)
     return linked(text, compiler_for(build))
 
 
 def prove(content, call, contracts=KERNELS, name=None):
-    """Proves the first contract of a call, or that of a name."""
+    """Proves the first contract of a function, or the one with a name."""
     contract = next(
         each for each in contracts if each.function == call and name in (None, each.name)
     )
-    # A module exports a function by the name in the header.
-    end = "_nonnull" if content.startswith(library.MODULE) else ""
+    # A module has no thunks for a NULL error.
+    suffix = "_nonnull" if content.startswith(library.WASM_MAGIC) else ""
+    name_pattern = contract.symbol.removesuffix(suffix)
     symbols = library.read(content).symbols
-    [symbol] = [each for each in symbols if re.fullmatch(contract.symbol.removesuffix(end), each)]
+    [symbol] = [each for each in symbols if re.fullmatch(name_pattern, each)]
     return proofs.prove(content, symbol, contract)

@@ -1,7 +1,7 @@
-"""Wrong code is rejected by the check that is meant, and right code that looks alike is proved.
+"""Mutation tests: each mutant is rejected by the intended check, and similar correct code is proved.
 
-A row of the tables in the folder mutants runs alone by a part of its name:
-`/usr/bin/python3 -m pytest machine_code/tests/solver -k "digit of a table"`.
+To run one mutant of the tables in the folder mutants, give a part of its name:
+`/usr/bin/python3 -m pytest machine_code/tests/solver -k "digit in the table"`.
 """
 
 import contextlib
@@ -17,26 +17,33 @@ from solver.questions import Rejected
 ROWS = [pytest.param(*row, id=name) for name, *row in mutants.rows()]
 
 
-@pytest.mark.parametrize("make, contract, message", ROWS)
-def test_mutant(make, contract, message):
-    is_wrong = pytest.raises((Rejected, ValueError), match=message) if message else None
-    with is_wrong or contextlib.nullcontext():
-        prove(*make(), contract)
+@pytest.mark.parametrize("build, contract, message", ROWS)
+def test_mutant(build, contract, message):
+    is_rejected = pytest.raises((Rejected, ValueError), match=message) if message else None
+    with is_rejected or contextlib.nullcontext():
+        prove(*build(), contract)
 
 
 class WithoutText(CheckRaw):
+    """A contract whose only case is empty text."""
+
     def cases(self, state):
         return [state.branch(N == 0)]
 
 
 class WithoutWaiting(DecoderUpdate):
-    def kinds(self, position, character, kind):
-        return super().kinds(position, character, kind)._replace(waiting=z3.BoolVal(False))
+    """A contract without the case of a digit that waits."""
+
+    def decoder_states(self, decoder):
+        return super().decoder_states(decoder)._replace(waiting=z3.BoolVal(False))
 
 
 @pytest.mark.parametrize(
     "contract, message",
-    [(WithoutText(), "a start is missing"), (WithoutWaiting(), "a state that no start is for")],
+    [
+        (WithoutText(), "do not cover all initial states"),
+        (WithoutWaiting(), "a state that no case covers"),
+    ],
 )
 def test_contract_that_misses_a_state(contract, message):
     content = edited("functions_x86_64", contract.function, "", "")

@@ -1,6 +1,6 @@
-"""What is asked of z3 means what it should: on random terms of 6 bits, integers have the values of
-the bits, conditions that are split mean the same as before, and what follows from facts is true
-of all values."""
+"""Queries to z3 mean what they should: on random terms of 6 bits, the translation to integers has
+the same values, the conjuncts of a condition are equivalent to it, and a goal that follows from
+facts holds for all values."""
 
 import itertools
 import operator
@@ -103,14 +103,14 @@ def test_what_follows_is_true_of_all_values():
 def test_all_values():
     x = questions.public("test_values", 64)
     known = questions.facts_of(z3.And(z3.ULT(x, 9), x & 3 == 1))
-    assert sorted(questions.values(known, x, 3)) == [1, 5]
+    assert sorted(questions.all_values(known, x, 3)) == [1, 5]
     with pytest.raises(questions.Rejected, match="too many values"):
-        questions.values(known, x, 1)
+        questions.all_values(known, x, 1)
 
 
 def test_no_answer_within_the_limit_is_a_no(monkeypatch):
     """2^61 - 1 is a prime, which takes long to see."""
-    monkeypatch.setattr(questions, "LIMIT", 1000)
+    monkeypatch.setattr(questions, "BITVECTOR_RLIMIT", 1000)
     x, y = z3.BitVecs("test_x test_y", 64)
     are_factors = [z3.And(z3.UGT(number, 1), z3.ULT(number, 1 << 32)) for number in (x, y)]
     known = [fact for each in are_factors for fact in questions.facts_of(each)]
@@ -118,16 +118,16 @@ def test_no_answer_within_the_limit_is_a_no(monkeypatch):
 
 
 def test_the_quotient_by_ten():
-    """What is known of a tenth is true of it, and of no other number."""
+    """The facts about a quotient hold for it, and for no other number."""
     number = questions.public("test_number", 64)
-    tenth, more, known = quotient_by_ten.parts(number)
-    assert quotient_by_ten.parts(number)[0].eq(tenth)
+    quotient, low_bits, lemma = quotient_by_ten.quotient_of(number)
+    assert quotient_by_ten.quotient_of(number)[0].eq(quotient)
     for value in [0, 9, 10, (1 << 64) - 1, *[RANDOM.getrandbits(64) for _ in range(200)]]:
         upper = value * quotient_by_ten.FACTOR >> 64
         for by in (0, 1, -1, 1 << 60):
-            values = (number, value), (tenth, (upper >> 3) + by), (more, upper & 7)
+            values = (number, value), (quotient, (upper >> 3) + by), (low_bits, upper & 7)
             values = [(name, z3.BitVecVal(each, name.size())) for name, each in values]
-            assert z3.is_true(z3.simplify(z3.substitute(known, *values))) == (by == 0)
+            assert z3.is_true(z3.simplify(z3.substitute(lemma, *values))) == (by == 0)
 
 
 def test_the_lemma_is_false_of_other_factors():

@@ -1,13 +1,12 @@
-"""The semantics of instructions are compared with the processor, or with QEMU for AArch64: each
-form that occurs in the kernels and in the functions for C, and each other instruction that has
-semantics."""
+"""Differential tests of the semantics with the processor, or with QEMU for AArch64: of each form in
+the kernels and in the functions for C, and of each other instruction that has semantics."""
 
 import pytest
 from build import compiler_for, linked
-from processor import NOT_ALONE, Processor
+from processor import NOT_STEPPED, Processor
 from programs import edited, text_of
 
-# Instructions with semantics that are not in each kernel of today.
+# Instructions with semantics that not every current kernel has.
 MORE = {
     "x86_64_v2": """.intel_syntax noprefix
         inc rax; dec ecx; cmovb rax, rcx; cmovne eax, ecx; paddb xmm0, xmm1; por xmm0, xmm1; pxor xmm0, xmm1;
@@ -41,7 +40,7 @@ MORE = {
 
 
 def processor(name):
-    """What runs the instructions of a kernel and of MORE, or those of the functions for C."""
+    """A processor with the instructions of a kernel and of MORE, or of the functions for C."""
     if name.startswith("functions_"):
         return Processor(edited(name, "version", "", ""), name)
     level = name.removeprefix("x86_64_")
@@ -59,6 +58,6 @@ def test_semantics(names):
         runner = processor(name)
         assert list(runner.differences()) == []
         compared |= {i.mnemonic for i in runner.instructions}
-    missing = runner.semantics.HANDLERS.keys() - compared - {*NOT_ALONE}
-    # by a condition, which all share
+    missing = runner.semantics.HANDLERS.keys() - compared - {*NOT_STEPPED}
+    # The conditional jumps and moves share their conditions.
     assert [name for name in missing if not name.startswith(("j", "set", "cmov", "b."))] == []

@@ -1,10 +1,10 @@
-"""The semantics of WebAssembly are compared with Node: each form that occurs in the module, and
-what branches."""
+"""Differential tests of the semantics of WebAssembly with Node: of each form in the module, and of
+control instructions."""
 
-from node import Node
+from node import ModuleInNode
 
 
 def test_each_form_of_an_instruction():
-    node = Node()
+    node = ModuleInNode()
     assert len(node.names) > 60
     assert list(node.differences()) == []
