@@ -1,3 +1,4 @@
+-- Proofs of open goals: `c` has the facts that are known at a goal.
 use Rattle.std.proofs.Common.{◌≡◌, ◌+◌, ◌-◌, ◌/◌, ◌%◌, [], ◌∷◌, length, decimal, refl, ap, ◌∙◌, arith, append-nil, append_assoc, length-append}
 use Rattle.std.proofs.lemmas.Fmt.{decimal_digit, decimal_nonempty, decimal_step, length-decimal-le}
 use Rattle.std.proofs.lemmas.List.{drop-set, drop_all, length-set}

@@ -1,3 +1,4 @@
+-- Loop invariant and measure: `l` has the live variables.
 use Rattle.std.proofs.Common.{◌≡◌, ◌+◌, ◌≤◌, ◌++◌, length, drop, decimal}
 use Rattle.const_hex_c.proofs.message.prepend_decimal.Given as goal
 

@@ -1,3 +1,4 @@
+-- Proofs of open goals: `c` has the facts that are known at a goal.
 use Rattle.std.proofs.Common.{map, refl}
 use Rattle.std.specs.List.{range_with_len}
 use Rattle.const_hex_arch.specs.{hex_digit}

@@ -1,3 +1,4 @@
+-- Proofs of open goals: `c` has the facts that are known at a goal.
 use Rattle.const_hex_arch.proofs.lemmas.LaneText.{of_lanes}
 use Rattle.const_hex_arch.proofs.arch.lanes16.split_half.Goals as goal
 

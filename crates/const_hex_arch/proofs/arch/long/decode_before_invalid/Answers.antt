@@ -1,3 +1,4 @@
+-- Proofs of open goals: `c` has the facts that are known at a goal, `g` the type parameters and their traits' members.
 use Rattle.std.proofs.Common.{refl, arith}
 use Rattle.const_hex_arch.proofs.lemmas.Steps.{decoded_step, refused_step, spells_rest, refused_rest}
 use Rattle.const_hex_arch.proofs.arch.long.decode_before_invalid.Goals as goal

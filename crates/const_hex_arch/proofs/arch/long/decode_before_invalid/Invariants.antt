@@ -1,3 +1,4 @@
+-- Loop invariant and measure: `l` has the live variables, `g` the type parameters and their traits' members.
 use Rattle.std.proofs.Common.{◌-◌, length}
 use Rattle.const_hex_arch.proofs.lemmas.Steps.{IsDecoded}
 use Rattle.const_hex_arch.proofs.arch.long.decode_before_invalid.Given as goal

@@ -1,3 +1,4 @@
+-- Proofs of open goals: `c` has the facts that are known at a goal, `g` the type parameters and their traits' members.
 use Rattle.std.proofs.Common.{◌-◌, length, arith}
 use Rattle.const_hex_arch.proofs.lemmas.Steps.{decoded_step, decoded_less, spells_rest}
 use Rattle.const_hex_arch.proofs.arch.long.decode_unchecked.Goals as goal

@@ -1,3 +1,4 @@
+-- Proofs of open goals: `c` has the facts that are known at a goal, `g` the type parameters and their traits' members.
 use Rattle.std.proofs.Common.{◌≡◌, ◌-◌, ◌*◌, ◌/◌, ◌++◌, length, take, drop, sym, arith, take_all, length-take, length-drop, length-append}
 use Rattle.const_hex_arch.specs.{Spells}
 use Rattle.const_hex_arch.proofs.lemmas.Steps.{digits_pair, spells_ends}

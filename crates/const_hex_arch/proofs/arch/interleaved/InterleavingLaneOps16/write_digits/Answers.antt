@@ -1,3 +1,4 @@
+-- Proofs of open goals: `c` has the facts that are known at a goal.
 use Rattle.std.proofs.Common.{◌∙◌, ap, length, arith, refl}
 use Rattle.std.proofs.lemmas.Simd.{put_chunk_whole}
 use Rattle.const_hex_arch.proofs.lemmas.LaneText.{high_ok, masked_ok, woven_text}
