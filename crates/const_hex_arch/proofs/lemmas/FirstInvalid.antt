@@ -1,4 +1,7 @@
 -- The first invalid character of a text, and what an output holds after the text was rejected.
+--
+-- `u` is the text, `p` is the index of its first invalid character, and `old` and `new` are the output before and after. `i` or
+-- `k` bytes were decoded before the text was rejected.
 use Rattle.std.proofs.Common.{◌≡◌, ℕ, zero, suc, ◌+◌, ◌-◌, ◌%◌, ◌<◌, ◌≤◌, List, [], ◌∷◌, length, take, drop, slice_index, ◌⊎◌, inl, inr, refl, arith, take-add, length-take, get_or-take, get_or-drop, is_some, ◌*◌, get_or, bit_or, sym, ◌∙◌, drop-drop, subst, eq-zero-or-pos, true, false, Bool}
 use Rattle.std.specs.Bool.{IsTrue}
 use Rattle.std.proofs.lemmas.List.{drop-take}
@@ -137,12 +140,12 @@ digits_accepted true s p a = s refl
 digits_accepted false s p a = absurd (digits_no_bad _ _ a (p refl).first_bad)
 
 -- two bytes, after i pairs, whose values, or NIL, have a bit that no value has
-pub refused_joint : (old u new : List ℕ) (i high low : ℕ) → Spells (take (2 * i) u) (take i new)
+pub rejected_pair : (old u new : List ℕ) (i high low : ℕ) → Spells (take (2 * i) u) (take i new)
     → drop i new ≡ drop i old → 2 * i + 1 < length u
     → length new ≡ length old → high ≡ value_or_nil (hex_value (get_or u (2 * i) 0))
     → low ≡ value_or_nil (hex_value (get_or u (2 * i + 1) 0))
     → 16 ≤ bit_or high low → Partial old u new
-refused_joint old u new i high low s d h l e f large =
+rejected_pair old u new i high low s d h l e f large =
     let within : i ≤ length new =
     omega (arith, Spells-length _ _ s, length-take (2 * i) u, length-take i new) in
     let not_digits : AllDigits (drop (2 * i) u) → ⊥ = λ a.

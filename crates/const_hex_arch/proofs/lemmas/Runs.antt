@@ -1,4 +1,6 @@
--- Runs of steps over pieces, and the space that they leave.
+-- Writes of several pieces to an output, one after another, and the space that they leave.
+--
+-- `s` and `t` are the states of the output before and after, `m` is one in between, and `ps` and `qs` are pieces.
 use Rattle.std.proofs.Common.{◌≡◌, ℕ, ◌+◌, ◌≤◌, List, [], ◌∷◌, ◌++◌, length, refl, sym, subst, arith, inl, Option, append-nil}
 use Rattle.std.specs.List.{FoldsTo, concat}
 use Rattle.std.proofs.lemmas.List.Elements.{All-nil, All-cons, All-append}

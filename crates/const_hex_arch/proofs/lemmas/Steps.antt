@@ -1,4 +1,8 @@
--- Texts that are worked through in steps, and texts of which the first and the last bytes are taken.
+-- Inputs that are processed step by step (`long.rt`, `plain.rt`), and short inputs that are processed as their first bytes and
+-- their last bytes (`short.rt`).
+--
+-- `u` is the input, `old` and `new` are the output before and after, and `r` is what one step writes. `i` bytes are done, `n` are
+-- those of a step, `m` is the length of its text, and `d` is the fact that the first `i` are done. `up` asks for uppercase.
 use Rattle.std.proofs.Common.{◌^◌, ◌≡◌, ℕ, ◌+◌, ◌-◌, ◌*◌, ◌<◌, ◌≤◌, ◌↔◌, List, [], ◌∷◌, ◌++◌, length, take, drop, slice_index, slice_index_or, refl, ap, ◌∙◌, arith, take-add, take-append-drop, drop-drop, length-take, length-append, Option, IsAscii, Bool, false, IsTrue, sym, ◌/◌, ◌%◌, get_or, append-nil, length-drop, replicate, zero, suc}
 use Rattle.std.proofs.lemmas.Bool.{false≢true}
 use Rattle.std.proofs.lemmas.Grind.{common_steps}
@@ -15,10 +19,11 @@ use Rattle.const_hex_arch.proofs.lemmas.FirstInvalid.{none_decoded, Partial-afte
 use Rattle.const_hex_arch.proofs.lemmas.Texts.{Spells-append, Spells-parts, Spells-digits, hex_text-append, length-hex_text, hex_text-nil, hex_text-one}
 use lib.Lanes.{zip2}
 
+-- a list from its first n elements and the others
 pub parts : (n : ℕ) {u front back : List ℕ} → front ≡ take n u → back ≡ drop n u → front ++ back ≡ u
 parts n {u} f b = rw (f, b) (take-append-drop n u)
 
--- ---- digits
+-- ---- texts of digits
 
 -- the first bytes are digits, and then n more
 pub digits_step : (u : List ℕ) (i n end : ℕ) → end ≡ i + n → AllDigits (take i u) → AllDigits (take n (drop i u))
@@ -65,7 +70,7 @@ text_written {S} {step} {space} {up} {bytes} {u} {old} {mid} {new} {front} {back
       ascii = later_ascii (hex_text up front) (hex_text up back) (rw (← whole, hex_text-append) at d.ascii);
     }
 
--- two bytes
+-- a list of two bytes
 pub two_bytes : (u : List ℕ) → length u ≡ 2 → u ≡ slice_index_or u 0 0 ∷ slice_index_or u 1 0 ∷ []
 two_bytes [] h = cc h
 two_bytes (a ∷ []) h = absurd (omega (arith, h))
@@ -107,22 +112,22 @@ decoded_less {u} {old} {new} {i} e d h = record {
   rest = refl;
 }
 
--- a step that wrote nothing
+-- a step that changed nothing
 pub kept_step : (new r : List ℕ) (i n : ℕ) → r ≡ take n (drop i new) → put_mid i n new r ≡ new
 kept_step new r i n e = rw e (ap (λ x. take i new ++ x) (take-append-drop n (drop i new)) ∙ take-append-drop i new)
 
--- a step anywhere in the text that fails, and wrote nothing
-pub refused_step : {u old new r : List ℕ} {i : ℕ} {b : Bool} (j n m k : ℕ) → IsDecoded u old new i
+-- a step anywhere in the text that is rejected, and changed nothing
+pub rejected_step : {u old new r : List ℕ} {i : ℕ} {b : Bool} (j n m k : ℕ) → IsDecoded u old new i
     → length u ≡ 2 * length old → IsTrue b ↔ AllDigits (take m (drop k u)) → r ≡ take n (drop j new) → b ≡ false
     → Partial old u (put_mid j n new r)
-refused_step {u} {old} {new} {r} {i} j n m k d size test e is_false =
+rejected_step {u} {old} {new} {r} {i} j n m k d size test e is_false =
     let rest = none_decoded (drop i new) (drop (2 * i) u) (λ a.
     let all = (digits_parts (2 * i) u).1 (Spells-digits _ _ d.front, a) in
     false≢true (sym is_false ∙ test.1 (All-take IsDigit m (drop k u) (All-drop IsDigit k u all)))) in
     rw (kept_step new r j n e)
     (Partial-after old u new i (2 * i) (omega arith) (omega arith) d.same_length d.within d.front (rw (← d.rest) rest))
 
--- the remainder by another call
+-- ---- the remainder, which another call decodes
 module _ {u old new : List ℕ} {i : ℕ} (r : List ℕ) (d : IsDecoded u old new i) (size : length u ≡ 2 * length old)
     (long : length r ≡ length new - i) where
   whole : put_mid i (length new - i) new r ≡ take i new ++ r
@@ -131,14 +136,14 @@ module _ {u old new : List ℕ} {i : ℕ} (r : List ℕ) (d : IsDecoded u old ne
   pub spells_rest : Spells (take (length u - 2 * i) (drop (2 * i) u)) r → Spells u (put_mid i (length new - i) new r)
   spells_rest s = rw whole (rw take-append-drop at (Spells-append _ _ _ _ d.front (rw take_rest at s)))
 
-  pub refused_rest : Partial (take (length new - i) (drop i new)) (take (length u - 2 * i) (drop (2 * i) u)) r
+  pub rejected_rest : Partial (take (length new - i) (drop i new)) (take (length u - 2 * i) (drop (2 * i) u)) r
       → Partial old u (put_mid i (length new - i) new r)
-  refused_rest p =
+  rejected_rest p =
       let front : length (take i new) ≡ i = omega (arith, length-take i new) in
       let all : length (take i new ++ r) ≡ length old = omega (arith, length-append (take i new) r) in
-      let behind : Partial (drop i old) (drop (2 * i) u) r = rw (take_rest new i, take_rest u (2 * i), d.rest) at p in
+      let remainder : Partial (drop i old) (drop (2 * i) u) r = rw (take_rest new i, take_rest u (2 * i), d.rest) at p in
       rw whole (Partial-after old u (take i new ++ r) i (2 * i) refl (omega arith) all (omega arith)
-      (rw (take_at (take i new) r i front) d.front) (rw (drop_at (take i new) r i front) behind))
+      (rw (take_at (take i new) r i front) d.front) (rw (drop_at (take i new) r i front) remainder))
 
 -- the text of the first k bytes, and of the others
 pub hex_text-parts : (up : Bool) (k : ℕ) (bs : List ℕ) → k ≤ length bs
@@ -151,9 +156,9 @@ hex_text-parts up k bs h =
     rw (← hex_text-append, take-append-drop) in
     rw whole (take_at _ _ _ long, drop_at _ _ _ long)
 
--- ---- digits
+-- ---- texts of digits, as the first n and the last n bytes
 
--- the first n and the last n bytes
+-- they may overlap
 pub digits_pair : (n : ℕ) (u : List ℕ) → n ≤ length u → length u ≤ 2 * n
     → AllDigits (take n u ++ drop (length u - n) u) ↔ AllDigits u
 digits_pair n u h k =
@@ -165,7 +170,7 @@ digits_pair n u h k =
       λ d. pair.1 (All-take IsDigit n u d, All-drop IsDigit start u d),
     )
 
--- these in a step, and digits after them
+-- the same for a step that has them, and other digits after them
 pub digits_ends : (n : ℕ) (u step : List ℕ) → n ≤ length u → length u ≤ 2 * n
     → take (2 * n) step ≡ take n u ++ drop (length u - n) u
     → AllDigits (drop (2 * n) step) → AllDigits step ↔ AllDigits u
@@ -173,7 +178,7 @@ digits_ends n u step h k e rest =
     let all = digits_parts (2 * n) step in
     let pair = digits_pair n u h k in (λ d. pair.0 (rw e at (all.0 d).0), λ d. all.1 (rw e (pair.1 d), rest))
 
--- the first bytes, and digits in the other lanes
+-- the bytes, padded with digits up to the number of lanes
 lanes_filled : (front : List ℕ) (m : ℕ) → ((k : ℕ) → get_or front k 0 < 256)
     → zip2 add8 (front ++ replicate m 0) (replicate (length front) 0 ++ replicate m 48) ≡ front ++ replicate m 48
 lanes_filled [] zero h = refl
@@ -252,7 +257,7 @@ filled_less {up} {u} {new} {i} e d h = record {
 pub filled_whole : {up : Bool} {u new : List ℕ} {i : ℕ} → IsFilled up u new i → length u ≤ i → new ≡ hex_text up u
 filled_whole {up} {u} {new} {i} d h = rw (← take_all (2 * i) new (omega arith), d.front, take_all i u h)
 
--- the text of the last bytes, and then that of the first h
+-- the text of the last bytes is written, and then that of the first h
 pub ends_filled : (up : Bool) (h start m : ℕ) (u old first last : List ℕ) → length old ≡ 2 * length u → h ≤ length u
     → start ≤ h → m ≡ length old - 2 * start → last ≡ hex_text up (drop start u) → first ≡ hex_text up (take h u)
     → put_mid 0 (2 * h) (put_mid (2 * start) m old last) first ≡ hex_text up u
@@ -263,9 +268,9 @@ ends_filled up h start m u old first last size least most e l f =
     let last_long : length last ≡ 2 * length u - 2 * start = omega (arith, ap length l, length-hex_text up (drop start u), length-drop start u) in
     let mid : put_mid (2 * start) m old last ≡ take (2 * start) old ++ last = grind (arith, common_steps, append-nil, last_long) in
     let sum : 2 * start + 2 * (h - start) ≡ 2 * h = omega arith in
-    let behind : drop (2 * h) (put_mid (2 * start) m old last) ≡ drop (2 * (h - start)) last =
+    let remainder : drop (2 * h) (put_mid (2 * start) m old last) ≡ drop (2 * (h - start)) last =
     rw (mid, ← sum, ← drop-drop (2 * (h - start)) (2 * start) (take (2 * start) old ++ last), drop_at _ _ _ begin) refl in
-    rw (behind, f, l, text, rest) (rw (← hex_text-append, take-append-drop) refl)
+    rw (remainder, f, l, text, rest) (rw (← hex_text-append, take-append-drop) refl)
 
 -- the rest of the text
 pub filled_rest : {up : Bool} {u new : List ℕ} {i : ℕ} (r : List ℕ) → IsFilled up u new i

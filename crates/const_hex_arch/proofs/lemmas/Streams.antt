@@ -1,4 +1,7 @@
--- From writes in small pieces to the calls of a sink.
+-- A buffered output turns writes of small pieces into calls of a sink with large pieces.
+--
+-- `s` and `t` are the states before and after, `m` is one in between, and `ps` are pieces. `pending` is the buffered text before,
+-- and `rest` after. `is_refused` says whether a sink has failed.
 use Rattle.std.proofs.Common.{◌≡◌, ℕ, zero, suc, ◌+◌, ◌*◌, ◌/◌, ◌<◌, ◌≤◌, Bool, true, false, not, List, [], ◌∷◌, ◌++◌, length, take, refl, sym, ap, ◌∙◌, arith, inl, inr, length-append, Option, ◌-◌, if◌then◌else◌, le-div_iff_mul-le}
 use Rattle.std.specs.List.{FoldsTo, concat, All}
 use Rattle.std.proofs.lemmas.Bool.{cases_Bool}
@@ -9,7 +12,7 @@ use Rattle.const_hex_arch.specs.{Writes, IsKernelPiece, Gathers, piece_of, Flush
 use Rattle.const_hex_arch.specs.declared.sink.output.SinkOutput.{SinkOutput}
 use Rattle.const_hex_arch.proofs.lemmas.Runs.{run_append, concat-piece_of}
 
--- ---- what a run of small writes to a gathering output passes on
+-- ---- what a buffered output passes on after several small writes
 
 abbrev IsPassedOn : List ℕ → Type 0
 IsPassedOn p = (4033 ≤ length p) × (length p ≤ 4096)
@@ -56,7 +59,7 @@ module _ {O : Type 0} (step : O → List ℕ → O → Type 0) (space : O → Op
         (All-head IsKernelPiece p ps a) h
         (gathered_run m ps t h.bound (All-tail IsKernelPiece p ps a) k)
 
--- ---- what was passed on, and then the pending text, is a cut
+-- ---- what was passed on, and then the pending text, are pieces of the right size
 
 small_piece : (rest : List ℕ) → length (piece_of rest) ≤ 1 × length (piece_of rest) ≤ length rest
 small_piece [] = omega arith
@@ -78,7 +81,7 @@ Cut-of text ps rest w a f = record {
       rw take-append-le (All-take IsLargePiece _ ps (All-weaker IsPassedOn IsLargePiece (λ p h. h.0) ps a));
 }
 
--- so many pieces have so many bytes
+-- the number of pieces bounds the number of bytes from below
 many_bytes : (ps : List (List ℕ)) → All IsPassedOn ps → 4033 * length ps ≤ length (concat ps)
 many_bytes [] a = omega arith
 many_bytes (p ∷ ps) a =

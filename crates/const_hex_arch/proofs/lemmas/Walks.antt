@@ -1,11 +1,11 @@
--- Proofs by hand, which follow the machine's steps, for functions that return an `Option` of a
--- vector. The borrow checker does not cover these yet.
+-- Manual proofs by symbolic execution (walks), for functions that return an `Option` of a vector. The
+-- generated proofs do not cover these yet.
 --
--- Here are first the steps of walks, which other crates cite too, then what is known of vectors of n
--- lanes and of a vector beside a flag, and last the walk of `decode_chunk`, for 16 lanes and for 32.
+-- Here are first the rules of symbolic execution, which other crates cite too, then facts about vectors of n
+-- lanes and about a vector beside a flag, and last the walk of `decode_chunk`, for 16 lanes and for 32.
 -- The `Proof.antt` of each `decode_chunk` names its calls and passes them to it.
 --
--- What breaks the walk: it names the function's locals by their numbers, and takes its steps in
+-- What breaks the walk: it refers to the function's locals by number, and to its statements in
 -- their order. So every edit of the body of `decode_chunk` breaks it. An edit of a function that it
 -- calls does not.
 --

@@ -28,7 +28,7 @@ impl LaneOps<16> for Interleaving {
         requires { length output.old ≡ 32 }
         ensures { output.new ≡ hex_text upper v }
     {
-        let digits = u8x16::from_array(lanes16::digits_row(upper));
+        let digits = u8x16::from_array(lanes16::digit_table(upper));
         let first = digits.swizzle_dyn(v >> u8x16::splat(4));
         let second = digits.swizzle_dyn(v & u8x16::splat(15));
         let (front, back) = first.interleave(second);

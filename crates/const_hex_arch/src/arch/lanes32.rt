@@ -179,8 +179,8 @@ fn concat_lanes(first: u8x32, second: u8x32) -> u8x64
     )
 }
 
-/// One byte for each two lanes, which must be values.
-// Two values, the upper half first, are read as one number of 16 bits, high + 256 * low. Multiplied
+/// One byte for each two lanes, which must be nibbles.
+// Two nibbles, the high one first, are read as one number of 16 bits, high + 256 * low. Multiplied
 // by 4097 = 0x1001, its upper byte is 16 * high + low: 0x040B becomes 0xB40B. The shift leaves
 // 0xB4.
 #[inline(always)]

@@ -51,7 +51,7 @@ fn fill_end<const H: usize>(bytes: &[u8], upper: bool, output: &mut [u8])
     requires output { length output.old ≡ 2 * H }
     ensures { output.new ≡ hex_text upper bytes.now }
 {
-    let text = lanes16::encode_half(Simd::from_slice(&load(bytes)), upper).to_array();
+    let text = lanes16::encode_8_lanes(Simd::from_slice(&load(bytes)), upper).to_array();
     output.copy_from_slice(&text[..2 * H]);
 }
 

@@ -1,6 +1,6 @@
 -- Proofs of open goals: `c` has the facts that are known at a goal, `g` the type parameters and their traits' members.
 use Rattle.std.proofs.Common.{◌-◌, length, refl, arith}
-use Rattle.const_hex_arch.proofs.lemmas.Steps.{decoded_step, decoded_less, refused_step, spells_rest}
+use Rattle.const_hex_arch.proofs.lemmas.Steps.{decoded_step, decoded_less, rejected_step, spells_rest}
 use Rattle.const_hex_arch.proofs.arch.long.decode.Goals as goal
 
 pub loop-output-preserved : goal.loop-output-preserved
@@ -10,7 +10,7 @@ loop-output-preserved g c =
 pub returns-then-not-decode_two_steps-clause-invalid : goal.returns-then-not-decode_two_steps-clause-invalid
 returns-then-not-decode_two_steps-clause-invalid g c =
     let is = c.if-not-decode_two_steps.ensures in
-    refused_step _ _ _ _ c.loop-output.invariant c.requires.size is.digits (is.unchanged refl)
+    rejected_step _ _ _ _ c.loop-output.invariant c.requires.size is.digits (is.unchanged refl)
 
 pub loop-output-2-preserved : goal.loop-output-2-preserved
 loop-output-2-preserved g c =
@@ -20,7 +20,7 @@ loop-output-2-preserved g c =
 pub returns-then-not-decode_step-clause-invalid : goal.returns-then-not-decode_step-clause-invalid
 returns-then-not-decode_step-clause-invalid g c =
     let is = c.if-not-decode_step.ensures in
-    refused_step _ _ _ _ c.loop-output-2.invariant c.requires.size is.digits (is.unchanged refl)
+    rejected_step _ _ _ _ c.loop-output-2.invariant c.requires.size is.digits (is.unchanged refl)
 
 pub returns-clause-spells : goal.returns-clause-spells
 returns-clause-spells g c = λ t.
@@ -31,4 +31,4 @@ returns-clause-spells g c = λ t.
 pub returns-clause-invalid : goal.returns-clause-invalid
 returns-clause-invalid g c = λ f.
     let is = c.decode_step-2.ensures in
-    refused_step _ _ _ _ c.loop-output-2.invariant c.requires.size is.digits (is.unchanged f) f
+    rejected_step _ _ _ _ c.loop-output-2.invariant c.requires.size is.digits (is.unchanged f) f

@@ -8,4 +8,4 @@ returns g c =
     let lanes = c.load.result in
     let all : take 8 lanes ≡ lanes = take_all 8 lanes (omega arith) in
     let first = (hex_text-parts c.args.upper g.row.H lanes (omega arith)).0 in
-    c.copy_from_slice.ensures.after ∙ rw (c.encode_half.ensures, all) (first ∙ rw (← c.requires.bytes, c.load.ensures) refl)
+    c.copy_from_slice.ensures.after ∙ rw (c.encode_8_lanes.ensures, all) (first ∙ rw (← c.requires.bytes, c.load.ensures) refl)
