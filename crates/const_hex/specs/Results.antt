@@ -1,6 +1,6 @@
 -- The results for a text: its prefix, and the bytes or the error.
 use Rattle.std.specs.Prelude.{◌≡◌, ℕ, ◌+◌, ◌-◌, ◌==◌, nat_le, ◌&&◌, ◌||◌, if◌then◌else◌, List, [], ◌∷◌, length, map, slice_index, ◌*◌, ◌%◌, ◌≢◌, ◌<◌, ◌≤◌, Bool, Result, Ok, Err, ◌++◌, ◌↔◌, true, false, String, string_bytes, take, drop, IfOk, IfErr, OnOk, OnErr, IsOk, IsTrue, MatchResult, is_some}
-use Rattle.const_hex_arch.specs.Texts.{FirstBad, hex_value, Spells, Partial, hex_text, full_text}
+use Rattle.const_hex_arch.specs.Texts.{FirstInvalidAt, hex_value, Spells, Partial, hex_text, full_text}
 use Rattle.const_hex.specs.declared.error.FromHexError.{FromHexError}
 use Rattle.const_hex.specs.declared.error.FromHexError.TheVariants.{OddLength, InvalidStringLength, InvalidHexCharacter, NoMemory}
 use Rattle.std.specs.List.{list_all}
@@ -20,7 +20,7 @@ lowered u = map (λ b. if nat_le 65 b && nat_le b 70 then b + 32 else b) u
 -- c is the first byte after the prefix of t that is not a digit, and `index` is its position in t
 abbrev pub NamesFirstInvalid : List ℕ → ℕ → ℕ → Type 0
 NamesFirstInvalid t c index =
-    (p : ℕ) × FirstBad (body_of t) p × (c ≡ slice_index (body_of t) p) × (index ≡ p + (length t - length (body_of t)))
+    (p : ℕ) × FirstInvalidAt (body_of t) p × (c ≡ slice_index (body_of t) p) × (index ≡ p + (length t - length (body_of t)))
 
 -- ---- the results for a text
 

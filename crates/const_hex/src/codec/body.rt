@@ -2,7 +2,7 @@
 //! character, and decoding with a kernel.
 
 ghost use Rattle.std.specs.Prelude.{◌≡◌, ◌+◌, ◌-◌, ◌*◌, ◌%◌, ◌<◌, ◌≤◌, ◌==◌, ◌&&◌, ◌||◌, ◌↔◌, true, false, length, take, drop, slice_index, Err, IfErr, IfOk, IsTrue};
-ghost use Rattle.const_hex_arch.specs.Texts.{AllDigits, IsDigit, FirstBad, Spells, Partial};
+ghost use Rattle.const_hex_arch.specs.Texts.{AllDigits, IsDigit, FirstInvalidAt, Spells, Partial};
 ghost use Rattle.const_hex.specs.Results.{IsEven, IsOdd, NamesFirstInvalid, Reads, body_of};
 ghost use Rattle.const_hex.specs.declared.error.FromHexError.TheVariants.{OddLength, InvalidHexCharacter};
 
@@ -96,7 +96,7 @@ pub(crate) fn invalid_character(byte: u8, index: usize) -> FromHexError
 /// length of the text.
 #[inline(always)]
 pub(crate) fn find_first_invalid<K: Kernel>(text: &[u8]) -> (u8, usize)
-    ensures invalid { (AllDigits text.now → ⊥) → FirstBad text.now result.1 }
+    ensures invalid { (AllDigits text.now → ⊥) → FirstInvalidAt text.now result.1 }
     ensures byte { result.0 ≡ slice_index text.now result.1 }
     ensures within { result.1 ≤ length text.now }
 {
@@ -148,7 +148,7 @@ fn skip_if_digits<K: Kernel>(text: &[u8], start: usize, size: usize) -> usize
 #[inline(always)]
 pub(crate) fn find_first_invalid_from(text: &[u8], start: usize) -> (u8, usize)
     requires { AllDigits (take start text.now) × start ≤ length text.now }
-    ensures invalid { (AllDigits text.now → ⊥) → FirstBad text.now result.1 }
+    ensures invalid { (AllDigits text.now → ⊥) → FirstInvalidAt text.now result.1 }
     ensures byte { result.0 ≡ slice_index text.now result.1 }
     ensures within { result.1 ≤ length text.now }
     ensures all { (result.1 ≡ length text.now) ↔ AllDigits text.now }
