@@ -3,6 +3,7 @@
 ghost use Rattle.std.specs.Prelude.{◌≡◌, Bool, ◌*◌, ◌↔◌, IsTrue, true, false, length, IsAscii};
 ghost use Rattle.const_hex_arch.specs.{HasSpace, IsKernelPiece, Writes, hex_text, AllDigits, Spells, Partial};
 
+mod blocks;
 pub mod by_length;
 pub mod check_first;
 pub mod interleaved;
@@ -12,7 +13,6 @@ pub mod lanes32;
 mod long;
 pub mod plain;
 mod short;
-mod steps;
 
 use crate::arch::lanes32::Lanes32;
 use crate::output::Output;

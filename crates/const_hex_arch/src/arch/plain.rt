@@ -36,7 +36,7 @@ impl<const PAIRS: bool> Kernel for ByteByByte<PAIRS> {
     const PIECE: usize = 1;
 
     #[inline(always)]
-    #[tactic(auto, using(std::proofs::lemmas::List::take_all, crate::proofs::lemmas::Steps::fills))]
+    #[tactic(auto, using(std::proofs::lemmas::List::take_all, crate::proofs::lemmas::Blocks::fills))]
     fn fill(input: &[u8], upper: bool, output: &mut [u8]) {
         // In the Rust that is made of this, LLVM leaves out the tests of indices by this length, which cannot overflow.
         let text = &mut output[..input.len().saturating_mul(2)];

@@ -2,7 +2,7 @@
 use Rattle.std.proofs.Common.{arith}
 use Rattle.std.proofs.lemmas.List.{nil_from_length}
 use Rattle.const_hex_arch.proofs.lemmas.Runs.{none_written}
-use Rattle.const_hex_arch.proofs.lemmas.Steps.{first_ascii, parts, text_written}
+use Rattle.const_hex_arch.proofs.lemmas.Blocks.{first_ascii, parts, text_written}
 use Rattle.const_hex_arch.proofs.lemmas.Texts.{IsAscii-hex_text, hex_text-append, hex_text-nil}
 use Rattle.const_hex_arch.proofs.arch.Kernel.encode.Goals as goal
 

@@ -1,7 +1,7 @@
 -- Proofs of open goals: `c` has the facts that are known at a goal, `g` the type parameters and their traits' members.
 use Rattle.std.proofs.Common.{◌≡◌, ◌∙◌, take, refl, arith, take_all}
-use Rattle.const_hex_arch.proofs.lemmas.Steps.{hex_text-parts}
-use Rattle.const_hex_arch.proofs.arch.short.fill_end.Goals as goal
+use Rattle.const_hex_arch.proofs.lemmas.Blocks.{hex_text-parts}
+use Rattle.const_hex_arch.proofs.arch.short.fill_one_vector.Goals as goal
 
 pub returns : goal.returns
 returns g c =

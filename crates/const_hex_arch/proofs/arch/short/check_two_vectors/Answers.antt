@@ -1,8 +1,8 @@
 -- Proofs of open goals: `c` has the facts that are known at a goal, `g` the type parameters and their traits' members.
 use Rattle.std.proofs.Common.{◌≡◌, ◌-◌, length, take, drop, arith, take_all, length-drop}
-use Rattle.const_hex_arch.proofs.lemmas.Steps.{digits_pair}
+use Rattle.const_hex_arch.proofs.lemmas.Blocks.{digits_pair}
 use Rattle.const_hex_arch.proofs.lemmas.Standard.{through}
-use Rattle.const_hex_arch.proofs.arch.short.check_pair.Goals as goal
+use Rattle.const_hex_arch.proofs.arch.short.check_two_vectors.Goals as goal
 
 pub returns : goal.returns
 returns g c =

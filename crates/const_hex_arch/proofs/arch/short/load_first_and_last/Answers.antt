@@ -5,15 +5,15 @@ use Rattle.std.proofs.lemmas.List.{take_at, drop_at}
 use Rattle.std.proofs.lemmas.List.Elements.{All-replicate}
 use Rattle.std.proofs.lemmas.Simd.{length-replicate}
 use Rattle.const_hex_arch.specs.{IsDigit}
-use Rattle.const_hex_arch.proofs.lemmas.Steps.{ends_filled_up, ends_small}
-use Rattle.const_hex_arch.proofs.arch.short.load_ends.Goals as goal
+use Rattle.const_hex_arch.proofs.lemmas.Blocks.{ends_filled_up, ends_small}
+use Rattle.const_hex_arch.proofs.arch.short.load_first_and_last.Goals as goal
 
 pub returns : goal.returns
 returns g c =
     let count = c.args.count in
     let n = 2 * count in
     let bytes = c.args.bytes.now in
-    let front = c.copy_ends.new.output in
+    let front = c.copy_first_and_last.new.output in
     let zeros = c.copy_from_slice.new.self in
     let same : front ≡ take count bytes ++ drop (length bytes - count) bytes = grind (arith, common_steps) in
     let small : (k : ℕ) → get_or front k 0 < 256 =

@@ -1,8 +1,8 @@
--- Inputs that are processed step by step (`long.rt`, `plain.rt`), and short inputs that are processed as their first bytes and
+-- Inputs that are processed block by block (`long.rt`, `plain.rt`), and short inputs that are processed as their first bytes and
 -- their last bytes (`short.rt`).
 --
--- `u` is the input, `old` and `new` are the output before and after, and `r` is what one step writes. `i` bytes are done, `n` are
--- those of a step, `m` is the length of its text, and `d` is the fact that the first `i` are done. `up` asks for uppercase.
+-- `u` is the input, `old` and `new` are the output before and after, and `r` is what one block writes. `i` bytes are done, `n` are
+-- those of a block, `m` is the length of its text, and `d` is the fact that the first `i` are done. `up` asks for uppercase.
 use Rattle.std.proofs.Common.{◌^◌, ◌≡◌, ℕ, ◌+◌, ◌-◌, ◌*◌, ◌<◌, ◌≤◌, ◌↔◌, List, [], ◌∷◌, ◌++◌, length, take, drop, slice_index, slice_index_or, refl, ap, ◌∙◌, arith, take-add, take-append-drop, drop-drop, length-take, length-append, Option, IsAscii, Bool, false, IsTrue, sym, ◌/◌, ◌%◌, get_or, append-nil, length-drop, replicate, zero, suc}
 use Rattle.std.proofs.lemmas.Bool.{false≢true}
 use Rattle.std.proofs.lemmas.Grind.{common_steps}
@@ -26,9 +26,9 @@ parts n {u} f b = rw (f, b) (take-append-drop n u)
 -- ---- texts of digits
 
 -- the first bytes are digits, and then n more
-pub digits_step : (u : List ℕ) (i n end : ℕ) → end ≡ i + n → AllDigits (take i u) → AllDigits (take n (drop i u))
+pub digits_block : (u : List ℕ) (i n end : ℕ) → end ≡ i + n → AllDigits (take i u) → AllDigits (take n (drop i u))
     → AllDigits (take end u)
-digits_step u i n end q d e = rw (q, take-add i n u) ((digits_append (take i u) (take n (drop i u))).1 (d, e))
+digits_block u i n end q d e = rw (q, take-add i n u) ((digits_append (take i u) (take n (drop i u))).1 (d, e))
 
 -- the first i bytes are digits, and so are all bytes, from those after e, which is not past i
 pub digits_last : (u : List ℕ) (i e : ℕ) → e ≤ i → AllDigits (take i u)
@@ -86,10 +86,10 @@ pub record IsDecoded (u old new : List ℕ) (i : ℕ) : Type 0 where
   pub rest : drop i new ≡ drop i old
 
 -- n bytes more, of m bytes of text
-pub decoded_step : {u old new : List ℕ} {i end : ℕ} (r : List ℕ) (n m : ℕ) → IsDecoded u old new i
+pub decoded_block : {u old new : List ℕ} {i end : ℕ} (r : List ℕ) (n m : ℕ) → IsDecoded u old new i
     → (end ≡ i + n) × (end ≤ length new) × (m ≡ 2 * n) × (length r ≡ n)
     → Spells (take m (drop (2 * i) u)) r → IsDecoded u old (put_mid i n new r) end
-decoded_step {u} {old} {new} {i} {end} r n m d sizes s =
+decoded_block {u} {old} {new} {i} {end} r n m d sizes s =
     let q : 2 * end ≡ 2 * i + m = omega arith in
     let bytes : take end (put_mid i n new r) ≡ take i new ++ r = take-put_mid i n new r end (omega arith) d.within in
     let past : drop end (put_mid i n new r) ≡ drop end new = drop-put_mid i n new r end (omega arith) d.within (omega arith) in
@@ -112,19 +112,19 @@ decoded_less {u} {old} {new} {i} e d h = record {
   rest = refl;
 }
 
--- a step that changed nothing
-pub kept_step : (new r : List ℕ) (i n : ℕ) → r ≡ take n (drop i new) → put_mid i n new r ≡ new
-kept_step new r i n e = rw e (ap (λ x. take i new ++ x) (take-append-drop n (drop i new)) ∙ take-append-drop i new)
+-- a block that changed nothing
+pub unchanged_block : (new r : List ℕ) (i n : ℕ) → r ≡ take n (drop i new) → put_mid i n new r ≡ new
+unchanged_block new r i n e = rw e (ap (λ x. take i new ++ x) (take-append-drop n (drop i new)) ∙ take-append-drop i new)
 
--- a step anywhere in the text that is rejected, and changed nothing
-pub rejected_step : {u old new r : List ℕ} {i : ℕ} {b : Bool} (j n m k : ℕ) → IsDecoded u old new i
+-- a block anywhere in the text that is rejected, and changed nothing
+pub rejected_block : {u old new r : List ℕ} {i : ℕ} {b : Bool} (j n m k : ℕ) → IsDecoded u old new i
     → length u ≡ 2 * length old → IsTrue b ↔ AllDigits (take m (drop k u)) → r ≡ take n (drop j new) → b ≡ false
     → Partial old u (put_mid j n new r)
-rejected_step {u} {old} {new} {r} {i} j n m k d size test e is_false =
+rejected_block {u} {old} {new} {r} {i} j n m k d size test e is_false =
     let rest = none_decoded (drop i new) (drop (2 * i) u) (λ a.
     let all = (digits_parts (2 * i) u).1 (Spells-digits _ _ d.front, a) in
     false≢true (sym is_false ∙ test.1 (All-take IsDigit m (drop k u) (All-drop IsDigit k u all)))) in
-    rw (kept_step new r j n e)
+    rw (unchanged_block new r j n e)
     (Partial-after old u new i (2 * i) (omega arith) (omega arith) d.same_length d.within d.front (rw (← d.rest) rest))
 
 -- ---- the remainder, which another call decodes
@@ -170,12 +170,12 @@ digits_pair n u h k =
       λ d. pair.1 (All-take IsDigit n u d, All-drop IsDigit start u d),
     )
 
--- the same for a step that has them, and other digits after them
-pub digits_ends : (n : ℕ) (u step : List ℕ) → n ≤ length u → length u ≤ 2 * n
-    → take (2 * n) step ≡ take n u ++ drop (length u - n) u
-    → AllDigits (drop (2 * n) step) → AllDigits step ↔ AllDigits u
-digits_ends n u step h k e rest =
-    let all = digits_parts (2 * n) step in
+-- the same for a block that has them, and other digits after them
+pub digits_ends : (n : ℕ) (u block : List ℕ) → n ≤ length u → length u ≤ 2 * n
+    → take (2 * n) block ≡ take n u ++ drop (length u - n) u
+    → AllDigits (drop (2 * n) block) → AllDigits block ↔ AllDigits u
+digits_ends n u block h k e rest =
+    let all = digits_parts (2 * n) block in
     let pair = digits_pair n u h k in (λ d. pair.0 (rw e at (all.0 d).0), λ d. all.1 (rw e (pair.1 d), rest))
 
 -- the bytes, padded with digits up to the number of lanes
@@ -200,17 +200,17 @@ pub ends_small : (n : ℕ) (u : List ℕ) → n ≤ length u → ((k : ℕ) → 
 ends_small n u l h k = grind (arith, common_steps, h k, h (length u - n + (k - n)))
 
 -- what the first d and the last d digits decode to, put into place
-pub spells_ends : (h d n : ℕ) (u step bytes ends : List ℕ) → d ≡ 2 * h → length u ≡ 2 * n → h ≤ n → n ≤ 2 * h
-    → take (2 * d) step ≡ take d u ++ drop (length u - d) u → Spells step bytes → ends ≡ take d bytes → length ends ≡ d
+pub spells_ends : (h d n : ℕ) (u block bytes ends : List ℕ) → d ≡ 2 * h → length u ≡ 2 * n → h ≤ n → n ≤ 2 * h
+    → take (2 * d) block ≡ take d u ++ drop (length u - d) u → Spells block bytes → ends ≡ take d bytes → length ends ≡ d
     → Spells u (take (n - h) (take h ends) ++ drop (length ends - h) ends)
-spells_ends h d n u step bytes ends two long least most e s f k =
+spells_ends h d n u block bytes ends two long least most e s f k =
     let start = length u - d in
     let both = take d u ++ drop start u in
     let front : take start both ≡ take start u = grind (arith, common_steps) in
     let back : drop d both ≡ drop start u = grind (arith, common_steps) in
     let first : take (n - h) ends ≡ take (n - h) (take h ends) = grind (arith, common_steps) in
     let half : length ends - h ≡ h = omega arith in
-    let spelled : Spells both ends = rw (e, ← f) at (Spells-parts step bytes d (2 * d) refl s).0 in
+    let spelled : Spells both ends = rw (e, ← f) at (Spells-parts block bytes d (2 * d) refl s).0 in
     rw half
     (rw take-append-drop at (Spells-append _ _ _ _
     (rw (front, first) at (Spells-parts both ends (n - h) start (omega arith) spelled).0)
@@ -226,10 +226,10 @@ pub none_filled : {up : Bool} {u new : List ℕ} → length new ≡ 2 * length u
 none_filled {up} {u} {new} e = record { within = omega arith; size = e; front = sym (hex_text-nil up) }
 
 -- the text of n bytes more
-pub filled_step : {up : Bool} {u new : List ℕ} {i end : ℕ} (r : List ℕ) (n m : ℕ) → IsFilled up u new i → end ≡ i + n
+pub filled_block : {up : Bool} {u new : List ℕ} {i end : ℕ} (r : List ℕ) (n m : ℕ) → IsFilled up u new i → end ≡ i + n
     → end ≤ length u → m ≡ 2 * n
     → r ≡ hex_text up (take n (drop i u)) → IsFilled up u (put_mid (2 * i) m new r) end
-filled_step {up} {u} {new} {i} {end} r n m d e h f s =
+filled_block {up} {u} {new} {i} {end} r n m d e h f s =
     grind (arith, common_steps, length-hex_text, length-take, length-drop, take-put_mid, put_mid, take-add, hex_text-append)
 
 -- the digits of one byte more
@@ -237,7 +237,7 @@ pub filled_one : {up : Bool} {u new : List ℕ} {i end : ℕ} (r : List ℕ) (m 
     → end ≡ i + 1 → m ≡ 2 → r ≡ hex_digit up (get_or u i 0 / 16) ∷ hex_digit up (get_or u i 0 % 16) ∷ []
     → IsFilled up u (put_mid (2 * i) m new r) end
 filled_one {up} {u} {new} {i} r m d h e f s =
-    filled_step r 1 m d e (omega arith) f (s ∙ sym (hex_text-one up u i h))
+    filled_block r 1 m d e (omega arith) f (s ∙ sym (hex_text-one up u i h))
 
 pub ruleset fills = (none_filled, filled_one, hex_text-nil)
 
@@ -278,5 +278,5 @@ pub filled_rest : {up : Bool} {u new : List ℕ} {i : ℕ} (r : List ℕ) → Is
     → put_mid (2 * i) (length new - 2 * i) new r ≡ hex_text up u
 filled_rest {up} {u} {new} {i} r d s =
     filled_whole
-    (filled_step {end = length u} r (length u - i) (length new - 2 * i) d (omega arith) (omega arith) (omega arith) s)
+    (filled_block {end = length u} r (length u - i) (length new - 2 * i) d (omega arith) (omega arith) (omega arith) s)
     (omega arith)
