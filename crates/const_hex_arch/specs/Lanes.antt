@@ -24,10 +24,10 @@ nibbles_of [] = []
 nibbles_of (x ∷ v) = x / 16 ∷ x % 16 ∷ nibbles_of v
 
 -- one byte for each pair of nibbles, the high one first
-abbrev pub byte_pairs : List ℕ → List ℕ
-byte_pairs [] = []
-byte_pairs (h ∷ []) = []
-byte_pairs (h ∷ l ∷ ns) = (16 * h + l) ∷ byte_pairs ns
+abbrev pub bytes_of_nibbles : List ℕ → List ℕ
+bytes_of_nibbles [] = []
+bytes_of_nibbles (h ∷ []) = []
+bytes_of_nibbles (h ∷ l ∷ ns) = (16 * h + l) ∷ bytes_of_nibbles ns
 
 -- ---- values of digits, in lanes
 

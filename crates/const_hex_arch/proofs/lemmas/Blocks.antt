@@ -11,7 +11,7 @@ use Rattle.std.proofs.lemmas.List.Elements.{All-take, All-drop}
 use Rattle.std.proofs.lemmas.Str.{IsAscii-take}
 use Rattle.std.proofs.lemmas.Slice.{take-put_mid, drop-put_mid}
 use borrow.Rule.Slice.PartMut.{put_mid}
-use Rattle.const_hex_arch.specs.{IsDigit, hex_text, AllDigits, Spells, Partial, HasSpace, less_space, Writes, hex_digit}
+use Rattle.const_hex_arch.specs.{IsDigit, hex_text, AllDigits, Spells, Partial, HasSpace, remaining_space, Writes, hex_digit}
 use Rattle.const_hex_arch.proofs.lemmas.LaneValues.{add8}
 use Rattle.const_hex_arch.proofs.lemmas.Runs.{Writes-append, Writes_space}
 use Rattle.const_hex_arch.proofs.lemmas.Digits.{digits_append, digits_parts}
@@ -58,7 +58,7 @@ later_ascii xs ys h k =
 -- the text of the first n bytes of the rest is written
 pub text_written : {S : Type 0} {step : S → List ℕ → S → Type 0} {space : S → Option ℕ} {up : Bool} {bytes u : List ℕ}
     {old mid new : S} {front back : List ℕ} (n : ℕ)
-    → ((s : S) (p : List ℕ) (t : S) → step s p t → space t ≡ less_space (space s) (length p))
+    → ((s : S) (p : List ℕ) (t : S) → step s p t → space t ≡ remaining_space (space s) (length p))
     → IsWritten step space up bytes old mid u → front ≡ take n u → back ≡ drop n u → Writes step mid (hex_text up front) new
     → IsWritten step space up bytes old new back
 text_written {S} {step} {space} {up} {bytes} {u} {old} {mid} {new} {front} {back} n shrinks d f b w =

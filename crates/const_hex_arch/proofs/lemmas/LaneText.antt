@@ -10,7 +10,7 @@ use lib.Lanes.{zip2, Each1, pick_l, number_l, digits_l}
 use mir.Val.{zeroes}
 use Rattle.std.proofs.lemmas.List.{append-nil, ext_get_or, get_or-map, length-map}
 use Rattle.const_hex_arch.proofs.lemmas.Standard.{holds_below, every_below, every_pair, same_below}
-use Rattle.const_hex_arch.specs.{hex_digit, hex_text, nibbles_of, AllNibbles, byte_pairs}
+use Rattle.const_hex_arch.specs.{hex_digit, hex_text, nibbles_of, AllNibbles, bytes_of_nibbles}
 use Rattle.const_hex_arch.proofs.lemmas.LaneValues.{joined}
 use Rattle.const_hex_arch.proofs.lemmas.Texts.{hex_text-append}
 
@@ -208,7 +208,7 @@ after_two f h l i (suc n) u =
     ap (λ x. bit_or (get_or u i 0 * 16 % 256) (f (get_or u (suc i) 0)) ∷ x) (after_two f h l (suc (suc i)) n u)
 
 pub pairs_are : (f : ℕ → ℕ) → ((l : ℕ) → l < 16 → f l ≡ l) → (n : ℕ) (u : List ℕ) → length u ≡ 2 * n → AllNibbles u
-    → pairs_from f 0 n u ≡ byte_pairs u
+    → pairs_from f 0 n u ≡ bytes_of_nibbles u
 pairs_are f k zero [] e a = refl
 pairs_are f k (suc n) (h ∷ l ∷ u) e a =
     rw (k l (omega arith), joined h l (omega arith) (omega arith), after_two f h l 0 n u, pairs_are f k n u (omega arith) a.1.1) refl

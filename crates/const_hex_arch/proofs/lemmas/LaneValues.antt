@@ -12,7 +12,7 @@ use Rattle.std.proofs.lemmas.List.Elements.{All-head, All-tail, All-nil, All-con
 use lib.Lanes.{zip2, sel_l, top, Each1, number_l, digits_l, fold_l}
 use Rattle.std.proofs.lemmas.Grind.{common_steps}
 use Rattle.std.proofs.lemmas.List.{map-append}
-use Rattle.const_hex_arch.specs.{hex_value, IsDigit, AllDigits, AllNibbles, as_value, IsValueOf, Spells, byte_pairs, IsClear, AllClear, IsClampedValueOf, IsLimitOf}
+use Rattle.const_hex_arch.specs.{hex_value, IsDigit, AllDigits, AllNibbles, as_value, IsValueOf, Spells, bytes_of_nibbles, IsClear, AllClear, IsClampedValueOf, IsLimitOf}
 use Rattle.const_hex_arch.proofs.lemmas.Standard.{every_below, every_pair, holds_below}
 use Rattle.const_hex_arch.proofs.lemmas.Digits.{digits_append}
 use Rattle.const_hex_arch.proofs.lemmas.Texts.{IsPair-of}
@@ -119,7 +119,7 @@ merge_at h l p q =
     eqb→eq _ _ (every_pair (λ h l. eqb (merge (h + 256 * l)) (16 * h + l)) 16 16 tt h l (omega arith) (omega arith))
 
 pub merge_all : (k : ℕ) (ns : List ℕ) → length ns ≡ 2 * k → AllNibbles ns
-    → map merge (digits_l 65536 k (number_l 256 ns)) ≡ byte_pairs ns
+    → map merge (digits_l 65536 k (number_l 256 ns)) ≡ bytes_of_nibbles ns
 merge_all zero [] e a = refl
 merge_all (suc k) (h ∷ l ∷ ns) e a =
     let x = number_l 256 ns in
@@ -133,18 +133,18 @@ merge_all _ _ e a = absurd (omega arith)
 value_is : (n b : ℕ) → as_value n ≡ hex_value b → n ≤ 15 → hex_value b ≡ Some n
 value_is n b e h = sym e ∙ rw (le-leb n 15 h)
 
-Spells-byte_pairs : (k : ℕ) (ns u : List ℕ) → length ns ≡ 2 * k → map as_value ns ≡ map hex_value u → AllNibbles ns
-    → Spells u (byte_pairs ns)
-Spells-byte_pairs zero [] [] l e a = tt
-Spells-byte_pairs (suc k) (h ∷ m ∷ ns) (x ∷ y ∷ u) l e a =
+Spells-bytes_of_nibbles : (k : ℕ) (ns u : List ℕ) → length ns ≡ 2 * k → map as_value ns ≡ map hex_value u → AllNibbles ns
+    → Spells u (bytes_of_nibbles ns)
+Spells-bytes_of_nibbles zero [] [] l e a = tt
+Spells-bytes_of_nibbles (suc k) (h ∷ m ∷ ns) (x ∷ y ∷ u) l e a =
     let pair = IsPair-of x y h m (16 * h + m) (value_is h x (cc) a.0) (value_is m y (cc) a.1.0) refl in
-    (pair, Spells-byte_pairs k ns u (omega arith) (cc) a.1.1)
-Spells-byte_pairs _ _ _ l e a = absurd (omega (arith, ap length e))
+    (pair, Spells-bytes_of_nibbles k ns u (omega arith) (cc) a.1.1)
+Spells-bytes_of_nibbles _ _ _ l e a = absurd (omega (arith, ap length e))
 
 -- the values a and b of the digits of two vectors t and u of n lanes, merged into r
 pub merge_spells : (n : ℕ) (t u a b : List ℕ) → length a ≡ n → length b ≡ n → AllZip IsValueOf t a
     → AllZip IsValueOf u b
-    → (r : List ℕ) → (AllNibbles (a ++ b) → r ≡ byte_pairs (a ++ b)) → AllDigits (t ++ u) → Spells (t ++ u) r
+    → (r : List ℕ) → (AllNibbles (a ++ b) → r ≡ bytes_of_nibbles (a ++ b)) → AllDigits (t ++ u) → Spells (t ++ u) r
 merge_spells n t u a b p q first second r is d =
     let parts = (digits_append t u).0 d in
     let high = values_of_digits t a first parts.0 in
@@ -153,7 +153,7 @@ merge_spells n t u a b p q first second r is d =
     rw (map-append as_value a b, map-append hex_value t u, high, low) in
     let small = small_values (a ++ b) (t ++ u) values d in
     rw (is small)
-    (Spells-byte_pairs n (a ++ b) (t ++ u) (omega (arith, length-append a b)) values small)
+    (Spells-bytes_of_nibbles n (a ++ b) (t ++ u) (omega (arith, length-append a b)) values small)
 
 -- ---- a slice of two vectors
 

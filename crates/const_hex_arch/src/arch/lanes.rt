@@ -4,7 +4,7 @@
 
 ghost use Rattle.std.specs.Prelude.{◌≡◌, ◌*◌, ◌/◌, ◌++◌, ◌≤◌, ◌↔◌, length, map, IsTrue};
 ghost use Rattle.std.specs.List.{AllZip};
-ghost use Rattle.const_hex_arch.specs.{hex_value, hex_text, AllDigits, Spells, AllNibbles, AllClear, byte_pairs, as_value, IsValueOf, IsClampedValueOf, IsLimitOf};
+ghost use Rattle.const_hex_arch.specs.{hex_value, hex_text, AllDigits, Spells, AllNibbles, AllClear, bytes_of_nibbles, as_value, IsValueOf, IsClampedValueOf, IsLimitOf};
 
 use std::simd::prelude::*;
 
@@ -24,7 +24,7 @@ pub trait LaneOps<const N: usize> {
     /// One byte for each two nibbles, the high one first.
     fn merge(first: Simd<u8, N>, second: Simd<u8, N>) -> Simd<u8, N>
         ensures { AllNibbles (first.entry ++ second.entry)
-            → result ≡ byte_pairs (first.entry ++ second.entry) };
+            → result ≡ bytes_of_nibbles (first.entry ++ second.entry) };
 
     /// Whether the bits 7, 6, 4 and 3 of every lane are clear.
     fn are_clear(error_bits: Simd<u8, N>) -> bool

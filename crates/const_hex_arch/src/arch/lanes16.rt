@@ -5,7 +5,7 @@
 
 ghost use Rattle.std.specs.Prelude.{◌≡◌, ◌↔◌, [], ◌∷◌, ◌++◌, length, map, IsTrue, IsNone, IfSome};
 ghost use Rattle.std.specs.List.{AllZip, concat, range_with_len};
-ghost use Rattle.const_hex_arch.specs.{hex_digit, hex_value, hex_text, AllDigits, Spells, AllNibbles, AllClear, byte_pairs, nibbles_of, as_value, IsValueOf, IsLimitOf};
+ghost use Rattle.const_hex_arch.specs.{hex_digit, hex_value, hex_text, AllDigits, Spells, AllNibbles, AllClear, bytes_of_nibbles, nibbles_of, as_value, IsValueOf, IsLimitOf};
 
 use crate::arch::by_length::ByLength;
 use crate::arch::lanes::{self, LaneOps, Multiplying};
@@ -146,7 +146,7 @@ impl LaneOps<16> for Multiplying {
 
     #[inline(always)]
     fn merge(first: u8x16, second: u8x16) -> u8x16
-        ensures { AllNibbles (first ++ second) → result ≡ byte_pairs (first ++ second) }
+        ensures { AllNibbles (first ++ second) → result ≡ bytes_of_nibbles (first ++ second) }
     {
         pack(concat_lanes(first, second))
     }
@@ -236,7 +236,7 @@ pub(crate) fn concat_lanes(first: u8x16, second: u8x16) -> u8x32
 // 0xB4.
 #[inline(always)]
 fn pack(nibbles: u8x32) -> u8x16
-    ensures { AllNibbles nibbles → result ≡ byte_pairs nibbles }
+    ensures { AllNibbles nibbles → result ≡ bytes_of_nibbles nibbles }
 {
     let pairs = u16x16::from_le_bytes(nibbles);
     ((pairs * u16x16::splat(4097)) >> u16x16::splat(8)).cast()

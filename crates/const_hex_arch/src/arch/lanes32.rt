@@ -5,7 +5,7 @@
 
 ghost use Rattle.std.specs.Prelude.{◌≡◌, ◌↔◌, [], ◌∷◌, ◌++◌, length, map, IsTrue, IsNone, IfSome};
 ghost use Rattle.std.specs.List.{AllZip, concat};
-ghost use Rattle.const_hex_arch.specs.{hex_value, hex_text, AllDigits, Spells, AllNibbles, AllClear, byte_pairs, as_value, IsValueOf, IsLimitOf};
+ghost use Rattle.const_hex_arch.specs.{hex_value, hex_text, AllDigits, Spells, AllNibbles, AllClear, bytes_of_nibbles, as_value, IsValueOf, IsLimitOf};
 
 use crate::arch::by_length::ByLength;
 use crate::arch::lanes::{self, LaneOps, Multiplying};
@@ -120,7 +120,7 @@ impl LaneOps<32> for Multiplying {
 
     #[inline(always)]
     fn merge(first: u8x32, second: u8x32) -> u8x32
-        ensures { AllNibbles (first ++ second) → result ≡ byte_pairs (first ++ second) }
+        ensures { AllNibbles (first ++ second) → result ≡ bytes_of_nibbles (first ++ second) }
     {
         pack(concat_lanes(first, second))
     }
@@ -185,7 +185,7 @@ fn concat_lanes(first: u8x32, second: u8x32) -> u8x64
 // 0xB4.
 #[inline(always)]
 fn pack(nibbles: u8x64) -> u8x32
-    ensures { AllNibbles nibbles → result ≡ byte_pairs nibbles }
+    ensures { AllNibbles nibbles → result ≡ bytes_of_nibbles nibbles }
 {
     let pairs = u16x32::from_le_bytes(nibbles);
     ((pairs * u16x32::splat(4097)) >> u16x32::splat(8)).cast()

@@ -2,7 +2,7 @@
 use Rattle.std.proofs.Common.{rules, ap, ◌∙◌, None}
 use Rattle.const_hex_arch.specs.{output_sink, sink_name}
 use Rattle.const_hex_arch.proofs.lemmas.Streams.{Streams-from_writes, Streams-at, StreamsWhole-of}
-use Rattle.const_hex_arch.proofs.stream.BufferedHex.gather.Goals as goal
+use Rattle.const_hex_arch.proofs.stream.BufferedHex.write_buffered.Goals as goal
 
 pub returns : goal.returns
 returns g c =
