@@ -1,4 +1,8 @@
 -- A text that arrives in chunks: the state of a `Decoder` after one more chunk, with or without an error.
+--
+-- `d` is the decoder before the chunk and `e` after it, `t` is the text that it has read, `bs` are the bytes that it
+-- has written, and `r` is the fact that it has (`HasRead`). `old` and `new` are the output before and after, `u` is a
+-- text of digits.
 use Rattle.std.proofs.Common.{◌≡◌, ◌≤◌, ◌*◌, ◌/◌, ℕ, List, ◌++◌, length, take, drop, refl, arith, ◌+◌, ◌-◌, ◌%◌, ◌≢◌, [], ◌∷◌, slice_index, None, Ok, sym, ap, ◌∙◌, length-append, length-drop}
 use Rattle.std.proofs.lemmas.Grind.{common_steps}
 use Rattle.std.proofs.lemmas.List.{take-append-drop, take-append-le, drop-append-le, append_assoc, append-nil, get_or_append_left, get_or-append-add, length-take, take_all, take_at, drop_all, drop_at}

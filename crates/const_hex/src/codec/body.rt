@@ -69,8 +69,8 @@ pub(crate) fn find_invalid_character<K: Kernel>(text: &[u8]) -> FromHexError
 
 /// The first byte after the prefix that is not a digit, and its position in the whole text. If there is
 /// none, a NUL character and the length of the text.
-// Not inlined, so the search is compiled once for each kernel. It takes only the text and strips the prefix again, so that
-// the public decoders keep nothing else for it. It returns a pair, which fits into registers.
+// Not inlined, so the search is compiled once for each kernel. It takes only the text and strips the prefix again, so
+// that the public decoders keep nothing else for it. It returns a pair, which fits into registers.
 #[cold]
 #[inline(never)]
 fn locate_invalid<K: Kernel>(text: &[u8]) -> (char, usize)
@@ -111,8 +111,8 @@ pub(crate) fn find_first_invalid<K: Kernel>(text: &[u8]) -> (u8, usize)
 
 /// An index before which all bytes are digits, found by binary search: the kernel checks the first half of the text,
 /// then the first half of the half that has an invalid byte, and so on, until 1/64 of the text is left.
-// Not inlined: so the tool `machine_code` proves its machine code once, and uses its contract at the call. It has no loop,
-// since the tool cannot prove a call in one.
+// Not inlined: so the tool `machine_code` proves its machine code once, and uses its contract at the call. It has no
+// loop, since the tool cannot prove a call in one.
 #[inline(never)]
 fn skip_halves<K: Kernel>(text: &[u8]) -> usize
     ensures digits { AllDigits (take result text.now) }

@@ -1,8 +1,9 @@
--- Inputs that are processed block by block (`long.rt`, `plain.rt`), and short inputs that are processed as their first bytes and
--- their last bytes (`short.rt`).
+-- Inputs that are processed block by block (`long.rt`, `plain.rt`), and short inputs that are processed as their first
+-- bytes and their last bytes (`short.rt`).
 --
--- `u` is the input, `old` and `new` are the output before and after, and `r` is what one block writes. `i` bytes are done, `n` are
--- those of a block, `m` is the length of its text, and `d` is the fact that the first `i` are done. `up` asks for uppercase.
+-- `u` is the input, `old` and `new` are the output before and after, and `r` is what one block writes. `i` bytes are
+-- done, `n` are those of a block, `m` is the length of its text, and `d` is the fact that the first `i` are done. `up`
+-- asks for uppercase.
 use Rattle.std.proofs.Common.{◌^◌, ◌≡◌, ℕ, ◌+◌, ◌-◌, ◌*◌, ◌<◌, ◌≤◌, ◌↔◌, List, [], ◌∷◌, ◌++◌, length, take, drop, slice_index, slice_index_or, refl, ap, ◌∙◌, arith, take-add, take-append-drop, drop-drop, length-take, length-append, Option, IsAscii, Bool, false, IsTrue, sym, ◌/◌, ◌%◌, get_or, append-nil, length-drop, replicate, zero, suc}
 use Rattle.std.proofs.lemmas.Bool.{false≢true}
 use Rattle.std.proofs.lemmas.Grind.{common_steps}
@@ -159,9 +160,9 @@ hex_text-parts up k bs h =
 -- ---- texts of digits, as the first n and the last n bytes
 
 -- they may overlap
-pub digits_pair : (n : ℕ) (u : List ℕ) → n ≤ length u → length u ≤ 2 * n
+pub digits_first_and_last : (n : ℕ) (u : List ℕ) → n ≤ length u → length u ≤ 2 * n
     → AllDigits (take n u ++ drop (length u - n) u) ↔ AllDigits u
-digits_pair n u h k =
+digits_first_and_last n u h k =
     let start = length u - n in
     let pair = digits_append (take n u) (drop start u) in (
       λ d.
@@ -171,39 +172,39 @@ digits_pair n u h k =
     )
 
 -- the same for a block that has them, and other digits after them
-pub digits_ends : (n : ℕ) (u block : List ℕ) → n ≤ length u → length u ≤ 2 * n
+pub digits_first_and_last_padded : (n : ℕ) (u block : List ℕ) → n ≤ length u → length u ≤ 2 * n
     → take (2 * n) block ≡ take n u ++ drop (length u - n) u
     → AllDigits (drop (2 * n) block) → AllDigits block ↔ AllDigits u
-digits_ends n u block h k e rest =
+digits_first_and_last_padded n u block h k e rest =
     let all = digits_parts (2 * n) block in
-    let pair = digits_pair n u h k in (λ d. pair.0 (rw e at (all.0 d).0), λ d. all.1 (rw e (pair.1 d), rest))
+    let pair = digits_first_and_last n u h k in (λ d. pair.0 (rw e at (all.0 d).0), λ d. all.1 (rw e (pair.1 d), rest))
 
 -- the bytes, padded with digits up to the number of lanes
-lanes_filled : (front : List ℕ) (m : ℕ) → ((k : ℕ) → get_or front k 0 < 256)
+padded_lanes : (front : List ℕ) (m : ℕ) → ((k : ℕ) → get_or front k 0 < 256)
     → zip2 add8 (front ++ replicate m 0) (replicate (length front) 0 ++ replicate m 48) ≡ front ++ replicate m 48
-lanes_filled [] zero h = refl
-lanes_filled [] (suc m) h = cc (lanes_filled [] m h)
-lanes_filled (x ∷ front) m h =
+padded_lanes [] zero h = refl
+padded_lanes [] (suc m) h = cc (padded_lanes [] m h)
+padded_lanes (x ∷ front) m h =
     let small : x < 256 = h 0 in
     let same : (x + 0) % 2 ^ 8 ≡ x = omega arith in
-    cc (same, lanes_filled front m (λ k. h (suc k)))
+    cc (same, padded_lanes front m (λ k. h (suc k)))
 
-pub ends_filled_up : (n N : ℕ) (front zeros : List ℕ) → length front ≡ n → n ≤ N → zeros ≡ take n (replicate N 0)
+pub padded_first_and_last : (n N : ℕ) (front zeros : List ℕ) → length front ≡ n → n ≤ N → zeros ≡ take n (replicate N 0)
     → ((k : ℕ) → get_or front k 0 < 256)
     → zip2 add8 (front ++ drop n (replicate N 0)) (zeros ++ drop n (replicate N 48)) ≡ front ++ replicate (N - n) 48
-ends_filled_up n N front zeros long h e small =
-    rw (e, take-replicate, drop-replicate, drop-replicate, ← long) (lanes_filled front (N - length front) small)
+padded_first_and_last n N front zeros long h e small =
+    rw (e, take-replicate, drop-replicate, drop-replicate, ← long) (padded_lanes front (N - length front) small)
 
 -- the first n and the last n bytes are bytes
-pub ends_small : (n : ℕ) (u : List ℕ) → n ≤ length u → ((k : ℕ) → get_or u k 0 < 256) → (k : ℕ)
+pub first_and_last_are_bytes : (n : ℕ) (u : List ℕ) → n ≤ length u → ((k : ℕ) → get_or u k 0 < 256) → (k : ℕ)
     → get_or (take n u ++ drop (length u - n) u) k 0 < 256
-ends_small n u l h k = grind (arith, common_steps, h k, h (length u - n + (k - n)))
+first_and_last_are_bytes n u l h k = grind (arith, common_steps, h k, h (length u - n + (k - n)))
 
 -- what the first d and the last d digits decode to, put into place
-pub spells_ends : (h d n : ℕ) (u block bytes ends : List ℕ) → d ≡ 2 * h → length u ≡ 2 * n → h ≤ n → n ≤ 2 * h
+pub spells_first_and_last : (h d n : ℕ) (u block bytes ends : List ℕ) → d ≡ 2 * h → length u ≡ 2 * n → h ≤ n → n ≤ 2 * h
     → take (2 * d) block ≡ take d u ++ drop (length u - d) u → Spells block bytes → ends ≡ take d bytes → length ends ≡ d
     → Spells u (take (n - h) (take h ends) ++ drop (length ends - h) ends)
-spells_ends h d n u block bytes ends two long least most e s f k =
+spells_first_and_last h d n u block bytes ends two long least most e s f k =
     let start = length u - d in
     let both = take d u ++ drop start u in
     let front : take start both ≡ take start u = grind (arith, common_steps) in
@@ -258,10 +259,10 @@ pub filled_whole : {up : Bool} {u new : List ℕ} {i : ℕ} → IsFilled up u ne
 filled_whole {up} {u} {new} {i} d h = rw (← take_all (2 * i) new (omega arith), d.front, take_all i u h)
 
 -- the text of the last bytes is written, and then that of the first h
-pub ends_filled : (up : Bool) (h start m : ℕ) (u old first last : List ℕ) → length old ≡ 2 * length u → h ≤ length u
+pub filled_first_and_last : (up : Bool) (h start m : ℕ) (u old first last : List ℕ) → length old ≡ 2 * length u → h ≤ length u
     → start ≤ h → m ≡ length old - 2 * start → last ≡ hex_text up (drop start u) → first ≡ hex_text up (take h u)
     → put_mid 0 (2 * h) (put_mid (2 * start) m old last) first ≡ hex_text up u
-ends_filled up h start m u old first last size least most e l f =
+filled_first_and_last up h start m u old first last size least most e l f =
     let begin : length (take (2 * start) old) ≡ 2 * start = omega (arith, length-take (2 * start) old) in
     let text = (hex_text-parts up (h - start) (drop start u) (omega (arith, length-drop start u))).1 in
     let rest : drop (h - start) (drop start u) ≡ drop h u = grind (arith, common_steps) in

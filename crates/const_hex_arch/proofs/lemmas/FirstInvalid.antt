@@ -1,7 +1,7 @@
 -- The first invalid character of a text, and what an output holds after the text was rejected.
 --
--- `u` is the text, `p` is the index of its first invalid character, and `old` and `new` are the output before and after. `i` or
--- `k` bytes were decoded before the text was rejected.
+-- `u` is the text, `p` is the index of its first invalid character, and `old` and `new` are the output before and
+-- after. `i` or `k` bytes were decoded before the text was rejected.
 use Rattle.std.proofs.Common.{◌≡◌, ℕ, zero, suc, ◌+◌, ◌-◌, ◌%◌, ◌<◌, ◌≤◌, List, [], ◌∷◌, length, take, drop, slice_index, ◌⊎◌, inl, inr, refl, arith, take-add, length-take, get_or-take, get_or-drop, is_some, ◌*◌, get_or, bit_or, sym, ◌∙◌, drop-drop, subst, eq-zero-or-pos, true, false, Bool}
 use Rattle.std.specs.Bool.{IsTrue}
 use Rattle.std.proofs.lemmas.List.{drop-take}

@@ -1,7 +1,7 @@
 -- Table look-ups by a shuffle of a vector, the text of a vector of bytes, and vectors that are interleaved.
 --
--- `v` has the lanes of a vector, and `n` is their number. `t` is the table of a look-up, and `js` are its indices. `f` is the
--- fact that each lane is a byte. Names that end in `_l` are operations on all lanes.
+-- `v` has the lanes of a vector, and `n` is their number. `t` is the table of a look-up, and `js` are its indices. `f`
+-- is the fact that each lane is a byte. Names that end in `_l` are operations on all lanes.
 use Rattle.std.proofs.Common.{◌≡◌, ℕ, ◌*◌, Bool, ltb, T, ◌||◌, List, [], ◌∷◌, ◌++◌, length, replicate, bit_and, sym, subst, ◌∙◌, arith, w8, Fits, length-append, zero, suc, ◌+◌, ◌/◌, ◌%◌, ◌^◌, ◌<◌, true, false, eqb, map, get_or, refl, ap, eqb→eq, bit_or}
 use Rattle.std.specs.List.{AllZip, range_with_len, concat}
 use Rattle.std.proofs.lemmas.Grind.{common_steps}

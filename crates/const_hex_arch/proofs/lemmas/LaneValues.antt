@@ -1,9 +1,10 @@
 -- Digits in vectors of any number of lanes: their values, the bytes that they make, and the tests of lanes. The numbers
 -- are those of lanes16.rt and lanes.rt, which docs/DESIGN.md explains under "Checking and decoding one vector": adding
--- 208 subtracts `0`, 143 (0x8F) is the part of a byte that looks up its limit, and 216 (0xD8) is the mask of the error bits.
+-- 208 subtracts `0`, 143 (0x8F) is the part of a byte that looks up its limit, and 216 (0xD8) is the mask of the error
+-- bits.
 --
--- `v` has the lanes of a vector, `ns` has their values, and `n` is the value of the byte `b`. `h` and `l` are a high and a low
--- nibble. `f` is the fact that each lane is a byte. Names that end in `_l` are operations on all lanes.
+-- `v` has the lanes of a vector, `ns` has their values, and `n` is the value of the byte `b`. `h` and `l` are a high
+-- and a low nibble. `f` is the fact that each lane is a byte. Names that end in `_l` are operations on all lanes.
 use Rattle.std.proofs.Common.{◌≡◌, ℕ, ◌+◌, ◌-◌, ◌%◌, ◌^◌, ◌<◌, ◌≤◌, Bool, true, false, cond, eqb, ltb, T, ◌||◌, List, [], ◌∷◌, map, length, replicate, get_or, bit_and, refl, ap, arith, w8, Fits, Option, Some, None, IsSome, is_none, eqb→eq, zero, suc, ◌*◌, ◌/◌, ◌++◌, take, drop, sym, ◌∙◌, le-leb, length-append, ◌↔◌, ltb→lt, bit_or, subst, IsTrue, is_some}
 use Rattle.std.specs.List.{AllZip}
 use Rattle.std.proofs.lemmas.Bool.{false≢true, agree_below, agree_below_at}

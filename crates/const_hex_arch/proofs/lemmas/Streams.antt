@@ -1,7 +1,7 @@
 -- A buffered output turns writes of small pieces into calls of a sink with large pieces.
 --
--- `s` and `t` are the states before and after, `m` is one in between, and `ps` are pieces. `pending` is the buffered text before,
--- and `rest` after. `is_refused` says whether a sink has failed.
+-- `s` and `t` are the states before and after, `m` is one in between, and `ps` are pieces. `pending` is the buffered
+-- text before, and `rest` after. `is_refused` says whether a sink has failed.
 use Rattle.std.proofs.Common.{◌≡◌, ℕ, zero, suc, ◌+◌, ◌*◌, ◌/◌, ◌<◌, ◌≤◌, Bool, true, false, not, List, [], ◌∷◌, ◌++◌, length, take, refl, sym, ap, ◌∙◌, arith, inl, inr, length-append, Option, ◌-◌, if◌then◌else◌, le-div_iff_mul-le}
 use Rattle.std.specs.List.{FoldsTo, concat, All}
 use Rattle.std.proofs.lemmas.Bool.{cases_Bool}

@@ -1,7 +1,7 @@
 -- What texts decode to, and the text of bytes.
 --
--- `u` and `v` are texts, `bs` are the bytes that `u` decodes to, and `s` is the proof that it does (`Spells`). `c` and `d` are two
--- digits, and `h` and `l` their values. `up` asks for uppercase.
+-- `u` and `v` are texts, `bs` are the bytes that `u` decodes to, and `s` is the proof that it does (`Spells`). `c` and
+-- `d` are two digits, and `h` and `l` their values. `up` asks for uppercase.
 use Rattle.std.proofs.Common.{◌≡◌, ℕ, zero, suc, ◌+◌, ◌*◌, ◌<◌, List, [], ◌∷◌, ◌++◌, length, take, drop, slice_index, Some, refl, arith, ◌≢◌, get_or, set, ◌/◌, ◌%◌, Bool, true, false, length-append, IsAscii}
 use Rattle.std.proofs.lemmas.List.Elements.{All-nil, All-cons}
 use Rattle.std.proofs.lemmas.Grind.{common_steps}

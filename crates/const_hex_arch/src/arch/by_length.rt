@@ -1,7 +1,7 @@
 //! The kernels with lanes: which blocks they take at which length. docs/DESIGN.md has the table.
 //!
-//! Neither a contract nor a test notices which blocks are taken where others give the same result: compare a change with
-//! "Blocks by length" in docs/DESIGN.md.
+//! Neither a contract nor a test notices which blocks are taken where others give the same result: compare a change
+//! with "Blocks by length" in docs/DESIGN.md.
 
 ghost use Rattle.std.specs.Prelude.{false};
 
@@ -9,8 +9,8 @@ use crate::arch::lanes::LaneOps;
 use crate::arch::{Kernel, blocks, long, short};
 use std::marker::PhantomData;
 
-/// A kernel whose blocks have `N` lanes. Inputs that are too short for them take vectors of 16 lanes. `V` has the operations on
-/// vectors.
+/// A kernel whose blocks have `N` lanes. Inputs that are too short for them take vectors of 16 lanes. `V` has the
+/// operations on vectors.
 ///
 /// ```rust
 /// let mut text = [0; 8];
@@ -57,8 +57,8 @@ impl<const N: usize, V: LaneOps<N> + LaneOps<16>> Kernel for ByLength<N, V> {
         }
     }
 
-    /// All whole blocks before an invalid character are decoded, and of a remainder of less than 16 bytes all pairs before it.
-    /// So a caller finds the same bytes there as after const-hex.
+    /// All whole blocks before an invalid character are decoded, and of a remainder of less than 16 bytes all pairs
+    /// before it. So a caller finds the same bytes there as after const-hex.
     #[inline(always)]
     #[tactic(auto, using(crate::proofs::lemmas::FirstInvalid::again))]
     fn decode_checked(input: &[u8], output: &mut [u8]) -> bool {
@@ -68,8 +68,8 @@ impl<const N: usize, V: LaneOps<N> + LaneOps<16>> Kernel for ByLength<N, V> {
     #[inline(always)]
     #[tactic(auto, using(crate::proofs::lemmas::FirstInvalid::none_decoded, std::proofs::lemmas::List::take_all))]
     fn decode_all(input: &[u8], output: &mut [u8]) -> bool {
-        // Cut to the length that the output implies: so a function that is not inlined, such as `read` of const_hex_c, takes no
-        // length of the text.
+        // Cut to the length that the output implies: so a function that is not inlined, such as `read` of const_hex_c,
+        // takes no length of the text.
         let text = &input[..2 * output.len()];
         if output.len() <= 16 {
             short::decode::<V>(text, output)

@@ -30,8 +30,8 @@ pub trait LaneOps<const N: usize> {
     fn are_clear(error_bits: Simd<u8, N>) -> bool
         ensures { IsTrue result ↔ AllClear error_bits.entry };
 
-    /// A block has at least one lane, so that loops end, at most 32, so that inputs of more than 32 bytes have a whole block,
-    /// and an even number, so that it has two halves.
+    /// A block has at least one lane, so that loops end, at most 32, so that inputs of more than 32 bytes have a whole
+    /// block, and an even number, so that it has two halves.
     ghost sizes: { (1 ≤ N) × (N ≤ 32) × (2 * (N / 2) ≡ N) };
 }
 

@@ -102,9 +102,9 @@ pub(crate) fn decode_unchecked<const N: usize, V: LaneOps<N>>(text: &[u8], outpu
     blocks::decode_unchecked_block::<N, V>(&text[2 * start..], &mut output[start..]);
 }
 
-/// Decodes a text with an invalid character as const-hex does, and returns false: block by block until one is invalid, of
-/// which nothing is written. What is too short for a block of N lanes is decoded by at most one of 16, and then by pairs. The
-/// result is true if another process has removed the invalid character from shared memory in between.
+/// Decodes a text with an invalid character as const-hex does, and returns false: block by block until one is invalid,
+/// of which nothing is written. What is too short for a block of N lanes is decoded by at most one of 16, and then by
+/// pairs. The result is true if another process has removed the invalid character from shared memory in between.
 // Not inlined: with this body the public decoders would be too large to be inlined.
 #[cold]
 #[inline(never)]

@@ -88,7 +88,7 @@ pub(crate) fn check<V: LaneOps<16>>(text: &[u8]) -> bool
 
 /// Whether every one of `H` to `2 * H` bytes is a digit: the first `H` and the last `H` are in one vector.
 #[inline(always)]
-#[tactic(auto, using(crate::proofs::lemmas::Standard::through, crate::proofs::lemmas::Blocks::digits_ends))]
+#[tactic(auto, using(crate::proofs::lemmas::Standard::through, crate::proofs::lemmas::Blocks::digits_first_and_last_padded))]
 fn check_overlapping<const H: usize, V: LaneOps<16>>(text: &[u8]) -> bool
     requires half { H ≤ 8 }
     requires least { H ≤ length text.now }
@@ -132,7 +132,7 @@ pub(crate) fn decode<V: LaneOps<16>>(text: &[u8], output: &mut [u8]) -> bool
 
 /// As `decode`, for `H` to `2 * H` bytes: the characters of the first `H` and of the last `H` are in one vector.
 #[inline(always)]
-#[tactic(auto, using(crate::proofs::lemmas::Standard::through, crate::proofs::lemmas::Blocks::digits_ends, std::proofs::lemmas::List::take_all))]
+#[tactic(auto, using(crate::proofs::lemmas::Standard::through, crate::proofs::lemmas::Blocks::digits_first_and_last_padded, std::proofs::lemmas::List::take_all))]
 fn decode_overlapping<const H: usize, V: LaneOps<16>>(text: &[u8], output: &mut [u8]) -> bool
     requires half { H ≤ 4 }
     requires size { length text.now ≡ 2 * length output.old }

@@ -1,4 +1,7 @@
 -- Parsing numbers and short options, and parsing the arguments for a mode.
+--
+-- `o` are the options so far, `t` are the short options of an argument, `xs` are the arguments, and `i` is the index of
+-- one.
 use Rattle.std.proofs.Common.{◌≡◌, ◌∙◌, ap, sym, map, inl, inr, ◌⊎◌, None, ℕ, ◌+◌, ◌<◌, ◌≤◌, ◌==◌, ◌^◌, ◌&&◌, nat_lt, Bool, true, false, if◌then◌else◌, List, [], ◌∷◌, length, get_or, slice_index, take, drop, Result, Ok, Err, refl, arith, is_some, OkIff}
 use Rattle.std.proofs.lemmas.Bool.Decides.{nat_tests}
 use Rattle.std.specs.Str.{IsCharBoundary, IsUtf8, all_ascii_digits}
@@ -10,6 +13,7 @@ use Rattle.hexfilter_core.specs.Options.{AreFor, AsksFor, InvalidNumber, IsPlain
 use Rattle.hexfilter_core.specs.Dumps.{Groups}
 use Rattle.hexfilter_core.specs.Runs.{Decode, Encode, Mode}
 
+-- the result of `parse` as that of `number`
 abbrev pub as_number : {E : Type 0} → Result ℕ E → Result ℕ UsageErrorKind
 as_number (Ok n) = Ok n
 as_number (Err e) = Err InvalidNumber
@@ -45,6 +49,7 @@ letter_unknown o (c ∷ t) utf8 h inside =
     let none : find (c ∷ []) (table o) ≡ Err UnknownOption = grind (arith, nat_tests, high) in
     rw none refl
 
+-- no short option is left
 pub letters_end : (o : Options) (t : List ℕ) → length t ≡ 0 → with_letters o t ≡ Ok o
 unfolding with_letters
 letters_end o [] h = refl
@@ -64,6 +69,7 @@ argument_read bytes xs i o found x a inside x_eq a_eq found_eq =
       found_eq,
     ) refl
 
+-- no argument is left
 pub arguments_end : {X : Type 0} (bytes : X → List ℕ) (xs : List X) (i : ℕ) (o : Options) → length xs ≤ i
     → with_arguments o i (drop i (map bytes xs)) ≡ request o i
 unfolding with_arguments

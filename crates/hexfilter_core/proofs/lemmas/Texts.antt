@@ -1,4 +1,8 @@
--- The text of an input that is scanned in parts.
+-- The text of an input that is scanned in parts, and what was written for it.
+--
+-- `r` are the options of decoding. `x` is the input so far, `u` are the bytes that follow, and `v` is what they add to
+-- the text. `y` and `z` are the output so far and what follows. `k` is a column, `s` a scanner or the state of a run,
+-- and `has` the invariant of it.
 use Rattle.std.proofs.lemmas.Grind.{common_steps}
 use borrow.Rule.Slice.PartMut.{put_mid, post_of}
 use Rattle.std.proofs.Common.{◌≡◌, ◌≢◌, ℕ, ◌+◌, ◌-◌, ◌*◌, ◌/◌, ◌<◌, ◌≤◌, ◌&&◌, min, if◌then◌else◌, Bool, true, false, List, [], ◌∷◌, ◌++◌, Option, None, Some, Ok, suc, zero, length, take, drop, get_or, refl, sym, ap, ◌∙◌, arith, append_assoc, length-append, All, nat_lt}
@@ -13,6 +17,7 @@ use Rattle.hexfilter_core.specs.Stages.{Decoder, HasAdded, HasDecoded, HasMade, 
 use Rattle.hexfilter_core.specs.Dumps.{FromHexError, HasError, InvalidHexCharacter, IsLocation, OddLength, Location, Reading, SpellsBeginning, SpellsPairs, body_of, encoded, column_after, column_after_all, is_whitespace, leaves_out, text_from, text_of, text_of_byte}
 use Rattle.hexfilter_core.specs.Runs.{Decode, Encode, MakesBeginning, Mode, Reads, RunError, Text}
 
+-- the text of two parts of an input
 pub text-append : (r : Reading) (k : ℕ) (x y : List ℕ)
     → text_from r k (x ++ y) ≡ text_from r k x ++ text_from r (column_after_all r k x) y
 unfolding text_from column_after_all
@@ -20,6 +25,7 @@ text-append r k [] y = refl
 text-append r k (b ∷ x) y =
     grind (arith, append_assoc, text-append r (column_after r k b) x y)
 
+-- the column after two parts of an input
 pub column-append : (r : Reading) (k : ℕ) (x y : List ℕ)
     → column_after_all r k (x ++ y) ≡ column_after_all r (column_after_all r k x) y
 unfolding column_after_all
@@ -35,11 +41,13 @@ text-byte r x b =
 
 -- ---- bytes that are not left out
 
+-- a column is at most the size of a group
 pub column_bound : (r : Reading) (k : ℕ) (x : List ℕ) → k ≤ r.groups.size → column_after_all r k x ≤ r.groups.size
 unfolding column_after_all
 column_bound r k [] h = h
 column_bound r k (b ∷ x) h = column_bound r (column_after r k b) x (grind (arith, nat_tests, h))
 
+-- the text of a run of bytes, none of which is left out, is the run
 pub text_of_run : (r : Reading) (k : ℕ) (run : List ℕ) → k ≤ r.groups.size
     → (0 < r.groups.size → k + length run ≤ r.groups.size)
     → All (λ b. (r.ignore_whitespace && is_whitespace b) ≡ false) run
