@@ -85,9 +85,9 @@ static const struct const_hex_error UNSET = {9, 9, 9};
 /* Whether a function returned true and left the error unset, or returned false and wrote the expected one. */
 static inline bool has_outcome(bool result, struct const_hex_error error,
                                struct const_hex_error expected) {
-  struct const_hex_error left = expected.kind == 0 ? UNSET : expected;
-  return result == (expected.kind == 0) && error.kind == left.kind && error.byte == left.byte &&
-         error.index == left.index;
+  struct const_hex_error wanted = expected.kind == 0 ? UNSET : expected;
+  return result == (expected.kind == 0) && error.kind == wanted.kind && error.byte == wanted.byte &&
+         error.index == wanted.index;
 }
 
 /* What each program defines. */

@@ -59,7 +59,7 @@ test('src/const_hex.wasm is what cargo makes', { skip: other }, () => {
 test('the module works by vectors', () => {
     const module = readFileSync(new URL('../src/const_hex.wasm', import.meta.url)).toString('latin1');
     const swizzles = module.split('\xfd\x0e').length - 1;
-    assert(swizzles >= 30, `i8x16.swizzle stands ${swizzles} times in the module`);
+    assert(swizzles >= 30, `i8x16.swizzle occurs ${swizzles} times in the module`);
 });
 
 test('the memory keeps its size, and wipe clears all that calls left', async () => {

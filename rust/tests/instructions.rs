@@ -68,7 +68,7 @@ fn cells() -> Vec<(&'static str, usize, u64)> {
     };
     let mut cells = Vec::new();
     for (call, counts) in COUNTS {
-        cells.extend((0..LENGTHS.len()).map(|at| (call, LENGTHS[at], counts[column][at])));
+        cells.extend((0..LENGTHS.len()).map(|index| (call, LENGTHS[index], counts[column][index])));
     }
     // Printing to a writer that returns an error at once encodes no more than a part of the bytes.
     cells.push(("display", 1 << 20, [25_000, 500_000, 0][column]));
@@ -97,9 +97,9 @@ fn calls() {
             .env("CONST_HEX_CALLS", "1");
     });
     for ((call, bytes, count), found) in cells.into_iter().zip(counted) {
-        let is_kept = found > 0 && found <= count + count / 10;
+        let is_within_limit = found > 0 && found <= count + count / 10;
         assert!(
-            is_kept,
+            is_within_limit,
             "{call} of {bytes} bytes: {found} instructions, {count} and 10 % more are allowed"
         );
     }
