@@ -172,8 +172,8 @@ static void decode_chunks(const struct line *line, size_t cut) {
 /* ---- The tests of each kind of line ---- */
 
 static void read_digits(const struct line *line) {
-  bool is_raw = const_hex_check_raw(line->input, line->length);
-  expect(is_raw == (line->result[0] == 't'), "check_raw", line->length, 0);
+  bool is_accepted = const_hex_check_raw(line->input, line->length);
+  expect(is_accepted == (line->result[0] == 't'), "check_raw", line->length, 0);
 }
 
 static void read_chunks(const struct line *line) {

@@ -83,7 +83,7 @@ impl<const N: usize, V: LaneOps<N> + LaneOps<16>> Kernel for ByLength<N, V> {
     #[inline(always)]
     fn decode_unchecked(input: &[u8], output: &mut [u8]) {
         if output.len() < N {
-            // They are checked once more: short inputs have one body. It returns true.
+            // The digits are checked once more, since no function for short inputs leaves that out. It returns true.
             Self::decode_all(input, output);
         } else {
             long::decode_unchecked::<N, V>(input, output);

@@ -9,7 +9,7 @@ use Rattle.std.specs.Str.Parse.{ParsesUnsigned, digits_value}
 use Rattle.std.proofs.lemmas.List.{drop_all, drop_more, get_or-map, length-map}
 use Rattle.std.proofs.lemmas.Str.{IsCharBoundary-after_ascii}
 use Rattle.std.proofs.lemmas.Str.Parse.{numerals_by_value, parse_plain, tells_all_ascii_digits}
-use Rattle.hexfilter_core.specs.Options.{AreFor, AsksFor, InvalidNumber, IsPlain, Options, Run, UnknownOption, UsageErrorKind, WritesGroups, and_then, arguments_of, at, find, number, request, request_for, table, with_argument, with_arguments, with_letters, with_value}
+use Rattle.hexfilter_core.specs.Options.{AreFor, AsksFor, InvalidNumber, IsPlain, Options, Run, UnknownOption, UsageErrorKind, WritesGroups, and_then, arguments_of, at_argument, find, number, request, request_for, table, with_argument, with_arguments, with_letters, with_value}
 use Rattle.hexfilter_core.specs.Dumps.{Groups}
 use Rattle.hexfilter_core.specs.Runs.{Decode, Encode, Mode}
 
@@ -59,7 +59,7 @@ letters_end o (c ∷ t) h = absurd (omega arith)
 pub argument_read : {X : Type 0} (bytes : X → List ℕ) (xs : List X) (i : ℕ) (o : Options)
     (found : Result Options UsageErrorKind) (x : X) (a : List ℕ)
     → i < length xs → x ≡ get_or xs i x → a ≡ bytes x → found ≡ with_argument o i a
-    → with_arguments o i (drop i (map bytes xs)) ≡ at i found
+    → with_arguments o i (drop i (map bytes xs)) ≡ at_argument i found
     (λ p. with_arguments p (i + 1) (drop (i + 1) (map bytes xs)))
 unfolding with_arguments
 argument_read bytes xs i o found x a inside x_eq a_eq found_eq =

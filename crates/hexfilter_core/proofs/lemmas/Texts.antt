@@ -63,6 +63,7 @@ text_of_run r k (b ∷ x) h fits all =
     (All-tail (λ b. (r.ignore_whitespace && is_whitespace b) ≡ false) b x all) in
     (rw (one.0, rest.0) refl, omega (arith, rest.1, one.1, h))
 
+-- if nothing is left out, there are no groups
 no_groups : (r : Reading) → leaves_out r ≡ false → r.groups.size ≡ 0
 no_groups r h = grind (arith, nat_tests, h)
 
@@ -72,6 +73,7 @@ unfolding text_from
 text_plain r [] h = refl
 text_plain r (b ∷ x) h = grind (arith, nat_tests, h, text_plain r x h)
 
+-- all of the next bytes belong to the text if nothing is left out
 pub plain_added : (r : Reading) (s : Scanner) (x u : List ℕ) → leaves_out r ≡ false → HasScanned r s x
     → HasAdded r s x u u
 plain_added r s x u h has = record {
@@ -104,6 +106,7 @@ high : (ignores : Bool) (b : ℕ) → nat_lt b 33 ≡ false → ((ignores && is_
 high true b h = (grind (arith, nat_tests, h), λ e. grind (arith, nat_tests, h, e))
 high false b h = (refl, λ e. grind (arith, nat_tests, h, e))
 
+-- the same for bytes above the space, within one group
 pub high_added : (r : Reading) (s : Scanner) (column : ℕ) (location : Location) (x u : List ℕ) → HasScanned r s x
     → All (λ b. nat_lt b 33 ≡ false) u
     → (0 < r.groups.size → s.column + length u ≤ r.groups.size) → column ≡ min (s.column + length u) r.groups.size
@@ -193,6 +196,7 @@ fewer_spelled r x y k h =
 
 -- ---- what is written
 
+-- the beginning of what is written, if only checking (c) writes nothing
 take_written : (c : Bool) (bytes : List ℕ) (k : ℕ) → take k (if c then [] else bytes) ≡ (if c then [] else take k bytes)
 take_written c bytes k = grind (arith, take_all)
 
@@ -205,9 +209,9 @@ fewer_made (Decode r) x y k (bytes, spelled, output_eq) =
     (take k bytes, fewer_spelled r x bytes k spelled, ap (take k) output_eq ∙ take_written r.is_check bytes k)
 
 -- what all pairs of digits decode to is a beginning, whatever follows
-pairs_begin : (r : Reading) (x more y : List ℕ) → SpellsPairs (text_of r x) y → SpellsBeginning r (x ++ more) y
-pairs_begin r x more [] h = tt
-pairs_begin r x more (b ∷ y) (digits, spelled) =
+pairs_beginning : (r : Reading) (x more y : List ℕ) → SpellsPairs (text_of r x) y → SpellsBeginning r (x ++ more) y
+pairs_beginning r x more [] h = tt
+pairs_beginning r x more (b ∷ y) (digits, spelled) =
     let t = text_of r x in
     let u = text_from r (column_after_all r 0 x) more in
     let n = 2 * (length (body_of t) / 2) in
@@ -221,31 +225,35 @@ pairs_begin r x more (b ∷ y) (digits, spelled) =
       ← size,
     ) spelled
 
-read_begun : (r : Reading) (x y : List ℕ) → Reads (text_of r x) (Ok y) → SpellsBeginning r x y
-read_begun r x y (even, spelled) =
+-- the bytes of a whole text are a beginning
+read_beginning : (r : Reading) (x y : List ℕ) → Reads (text_of r x) (Ok y) → SpellsBeginning r x y
+read_beginning r x y (even, spelled) =
     let twice = Spells-length (body_of (text_of r x)) y spelled in
     rw (take_all (2 * length y) (body_of (text_of r x)) (omega (arith, twice))) spelled
 
-error_begun : (r : Reading) (in_after : Option (List ℕ)) (x y : List ℕ) (e : FromHexError) (location : Option Location)
+-- the bytes before an error are a beginning
+error_beginning : (r : Reading) (in_after : Option (List ℕ)) (x y : List ℕ) (e : FromHexError) (location : Option Location)
     → HasError r in_after x y e location → SpellsBeginning r x y
-error_begun r in_after x y OddLength location (none, end, odd, pairs) = rw append-nil at (pairs_begin r x [] y pairs)
-error_begun r in_after x y (InvalidHexCharacter c i) location h =
-    rw h.cut (pairs_begin r h.front (c ∷ h.rest) y h.bytes)
-error_begun r in_after x y _ location h = absurd h
+error_beginning r in_after x y OddLength location (none, end, odd, pairs) = rw append-nil at (pairs_beginning r x [] y pairs)
+error_beginning r in_after x y (InvalidHexCharacter c i) location h =
+    rw h.cut (pairs_beginning r h.front (c ∷ h.rest) y h.bytes)
+error_beginning r in_after x y _ location h = absurd h
 
+-- the output so far is a beginning of the output
 pub so_far_made : (m : Mode) (s : Stage) (x y : List ℕ) → HasMade m s x y → MakesBeginning m x y
 so_far_made (Encode prefix upper g) s x y has =
     (_, ap (λ l. encoded prefix upper g l) (sym (append-nil x)) ∙ has.rest [])
 so_far_made (Decode r) s x y has =
     (has.text.bytes, spelled r s.decoder x has.text.bytes has.text.read, has.text.output)
 
-pub reached_begun : (m : Mode) (s : Stage) (in_after : Option (List ℕ)) (n : ℕ) (x y : List ℕ) (o : Option RunError)
+-- so is the output after one more chunk, at the end, or before an error
+pub reached_beginning : (m : Mode) (s : Stage) (in_after : Option (List ℕ)) (n : ℕ) (x y : List ℕ) (o : Option RunError)
     → Reaches m s in_after n x y o → MakesBeginning m x y
-reached_begun (Encode prefix upper g) s in_after zero x y None (more, end) = ([], sym (end refl) ∙ sym (append-nil y))
-reached_begun (Decode r) s in_after zero x y None (more, end) =
-    let (bytes, reads, output_eq) = end refl in (bytes, read_begun r x bytes reads, output_eq)
-reached_begun m s in_after (suc n) x y None (more, end) = so_far_made m s x y (more (omega arith))
-reached_begun (Encode prefix upper g) s in_after n x y (Some (Text e location)) h = absurd h
-reached_begun (Decode r) s in_after n x y (Some (Text e location)) (bytes, fails, output_eq) =
-    (bytes, error_begun r in_after x bytes e location fails, output_eq)
-reached_begun m s in_after n x y (Some e) h = absurd h
+reached_beginning (Encode prefix upper g) s in_after zero x y None (more, end) = ([], sym (end refl) ∙ sym (append-nil y))
+reached_beginning (Decode r) s in_after zero x y None (more, end) =
+    let (bytes, reads, output_eq) = end refl in (bytes, read_beginning r x bytes reads, output_eq)
+reached_beginning m s in_after (suc n) x y None (more, end) = so_far_made m s x y (more (omega arith))
+reached_beginning (Encode prefix upper g) s in_after n x y (Some (Text e location)) h = absurd h
+reached_beginning (Decode r) s in_after n x y (Some (Text e location)) (bytes, fails, output_eq) =
+    (bytes, error_beginning r in_after x bytes e location fails, output_eq)
+reached_beginning m s in_after n x y (Some e) h = absurd h
