@@ -1,4 +1,5 @@
-//! Three functions of `c/const_hex.h` for the WebAssembly module, which `../src/const_hex.js` calls. `error` is not NULL.
+//! Three functions of `c/const_hex.h` for the WebAssembly module, which `../src/const_hex.js` calls. `error` is not
+//! NULL.
 //!
 //! Each calls the crate for slices of the pointers and lengths that it gets. Nothing here allocates, or panics in a
 //! release build.

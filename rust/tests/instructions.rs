@@ -1,5 +1,5 @@
-//! Regression test: no call takes over 10 % more instructions than its recorded count. Only in a release build for Linux:
-//! on x86-64 with valgrind, and on AArch64 with QEMU: `cargo test --release --test instructions`.
+//! Regression test: no call takes over 10 % more instructions than its recorded count. Only in a release build for
+//! Linux: on x86-64 with valgrind, and on AArch64 with QEMU: `cargo test --release --test instructions`.
 #![cfg(all(
     not(debug_assertions),
     any(target_arch = "x86_64", target_arch = "aarch64"),
@@ -15,8 +15,8 @@ use valgrind::black_box;
 
 const LENGTHS: [usize; 6] = [1, 8, 20, 32, 64, 256];
 
-/// The instructions of each call at these lengths: with AVX2, in portable code, and on AArch64. Where this is 0, none are
-/// counted: QEMU prints each instruction, which takes seconds.
+/// The instructions of each call at these lengths: with AVX2, in portable code, and on AArch64. Where this is 0, none
+/// are counted: QEMU prints each instruction, which takes seconds.
 const COUNTS: [(&str, [[u64; 6]; 3]); 5] = [
     (
         "encode",
@@ -72,8 +72,8 @@ fn cells() -> Vec<(&'static str, usize, u64)> {
     }
     // Printing to a writer that returns an error at once encodes no more than a part of the bytes.
     cells.push(("display", 1 << 20, [25_000, 500_000, 0][column]));
-    // The search for an invalid character skips halves of the text: where the last is invalid, `check` takes at most three
-    // times the instructions of valid text.
+    // The search for an invalid character skips halves of the text: where the last is invalid, `check` takes at most
+    // three times the instructions of valid text.
     let valid = [13_600, 393_000, 0][column];
     cells.push(("check", 1 << 15, valid));
     cells.push(("check, the last is invalid", 1 << 15, 3 * valid));

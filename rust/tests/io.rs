@@ -83,8 +83,8 @@ fn short_reads() {
     }
 }
 
-/// A reader repeats how its text ended, also for an empty output, or if the inner reader has more. A position counts from
-/// the start of the text.
+/// A reader repeats how its text ended, also for an empty output, or if the inner reader has more. A position counts
+/// from the start of the text.
 #[test]
 fn ends_of_the_text() {
     let long = "0".repeat(20_000) + "0x";

@@ -106,8 +106,8 @@ front_kept i n u mid new s e t =
     rw (m, take-add (2 * i) (2 * n) u, take-add i n new, e) (Spells-append _ _ _ _ s later)
 
 -- a text that is rejected a second time
-pub again : {old u mid new : List ℕ} → Partial old u mid → Partial mid u new → Partial old u new
-again {old} {u} {mid} {new} p q =
+pub rejected_again : {old u mid new : List ℕ} → Partial old u mid → Partial mid u new → Partial old u new
+rejected_again {old} {u} {mid} {new} p q =
     elim (eq-zero-or-pos (p.done - q.done)) [
       | inl z ↦ record {
         invalid_index = q.invalid_index;

@@ -60,7 +60,7 @@ impl<const N: usize, V: LaneOps<N> + LaneOps<16>> Kernel for ByLength<N, V> {
     /// All whole blocks before an invalid character are decoded, and of a remainder of less than 16 bytes all pairs
     /// before it. So a caller finds the same bytes there as after const-hex.
     #[inline(always)]
-    #[tactic(auto, using(crate::proofs::lemmas::FirstInvalid::again))]
+    #[tactic(auto, using(crate::proofs::lemmas::FirstInvalid::rejected_again))]
     fn decode_checked(input: &[u8], output: &mut [u8]) -> bool {
         Self::decode_all(input, output) || long::decode_before_invalid::<N, V>(input, output)
     }

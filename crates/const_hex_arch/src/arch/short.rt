@@ -145,7 +145,8 @@ fn decode_overlapping<const H: usize, V: LaneOps<16>>(text: &[u8], output: &mut 
     let ends = load_first_and_last(text, 2 * H);
     let are_digits = lanes::are_digits::<16, V>(ends);
     if are_digits {
-        // It merges two vectors into one. This one comes twice, and only the first half of the result is needed.
+        // `decode` merges two vectors into one. Here both are the same, and only the first half of the result is
+        // needed.
         let bytes = lanes::decode::<16, V>(ends, ends).to_array();
         copy_first_and_last(&bytes[..2 * H], H, output);
     }

@@ -2,7 +2,8 @@
 -- it with a second call, which returns it as text, or an error. One walk serves uppercase and lowercase.
 --
 -- `e` is the function, `g` the first call and `h` the second. A list in brackets is the symbolic state: the resources
--- that are held there, in order.
+-- that are held there, in order. `𝓤` is the resource algebra of the separation logic `𝓛`, `𝓜` is the memory model, and
+-- `𝓡` is the running program. Each line that ends in `$` applies a rule to the symbolic state.
 use Rattle.std.proofs.Common.{subst, IsAscii, ◌≢◌}
 use Rattle.std.proofs.result.Result.TheLaws.{the_row_laws as result_laws}
 use base.Fml.{Lft, Share}
@@ -27,11 +28,11 @@ use denote.Text.{str-field, str-laws, str-copy}
 use Rattle.std.specs.Borrow.{Array, full_share}
 use Rattle.std.specs.Io.BufRead.{Rests}
 use Rattle.const_hex.specs.Prelude.{hex_text, InvalidStringLength}
-use Rattle.const_hex.specs.contracts.error.FromHexError as refusal
+use Rattle.const_hex.specs.contracts.error.FromHexError as error
 use Rattle.const_hex.specs.contracts.codec.encoders.encode_to_str as e
 use Rattle.const_hex.specs.contracts.codec.encoders.encode_into as g
 use Rattle.const_hex.specs.contracts.codec.encoders.encoded_text as h
-use Rattle.const_hex.proofs.error.FromHexError.TheLaws as refusal_laws
+use Rattle.const_hex.proofs.error.FromHexError.TheLaws as error_laws
 use Rattle.const_hex.proofs.lemmas.Walks.{flag, flag_lit}
 
 -- what the slice holds at the end, and what the result borrows of it
@@ -194,7 +195,7 @@ module _ {M : Type 1} (𝓤 : Ura M) (𝓛 : Logic 𝓤) (𝓜 : Model 𝓤 𝓛
       -- [the tokens; the result; how the slice ends; the locals]
       move ! (1 ∷ []) $ peeks ! Returned (Is Returned) (shows 𝓛 Returned) r (v' ∷ []) (λ repr'.
       let text_laws = of_field (str-field loan) (str-laws loan) refl (copy_shared (str-field loan) (str-copy loan)) in
-      let typed = (((result_laws (str-field loan).row refusal.the_row text_laws refusal_laws.the_row_laws).lawful
+      let typed = (((result_laws (str-field loan).row error.the_row text_laws error_laws.the_row_laws).lawful
       𝓛).typed r _ repr').0 in
       lands_as ! refl refl typed $
       returns ! (look_at ! 0 refl) $ free_all ! refl $
