@@ -21,7 +21,7 @@
  *     const_hex_decode            text to bytes; the buffer may be larger than needed
  *     const_hex_decode_exact      text to a known number of bytes, such as a hash or a key
  *     const_hex_decoder_update    decodes text that arrives in chunks, from a file or a socket
- *     const_hex_decoder_finish    tells whether the chunks form a complete text
+ *     const_hex_decoder_finish    reports whether the chunks form a complete text
  *     const_hex_check             whether text can be decoded
  *     const_hex_check_raw         whether every character is a hexadecimal digit
  *     const_hex_error_message     turns an error into a readable message

@@ -64,7 +64,7 @@ function(proof name result source machine prover)
 endfunction()
 # z3 proves these functions at once, and CVC4 not at all; for the others z3 takes ten times as long.
 set(BY_Z3 value,is_prefix,prefix_length)
-# These functions take half of the time of CVC4. The others are proved beside them.
+# These functions take half of the time of CVC4. The others are proved in parallel.
 set(SLOW prepend_escaped,const_hex_error_message,const_hex_encode,decode_pairs,decode_digits)
 foreach(machine gcc_x86_64 gcc_x86_32)
   proof(${machine}.z3 "All are" ${PORTABLE} ${machine} z3 -wp-timeout 60 -wp-fct ${BY_Z3})

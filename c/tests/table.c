@@ -1,5 +1,5 @@
 /*
- * The table of test vectors of crates/const_hex_vectors, in buffers beside guard pages. TABLE is its file.
+ * The table of test vectors of crates/const_hex_vectors, in buffers next to guard pages. TABLE is its file.
  */
 #include "common.h"
 #include <ctype.h>

@@ -109,7 +109,7 @@ pub record Decodes {V : Type 0} (items : V → List ℕ) (t : List ℕ) (r : Res
       → MatchResult r (λ v. items v ≡ bs) (λ e. e ≡ NoMemory)
   -- the text of the bytes is the body in lowercase
   pub canonical : IfOk r (λ v. hex_text false (items v) ≡ lowered (body_of t))
-  -- another text gives the same bytes if and only if the two bodies differ only in case
+  -- another text decodes to the same bytes if and only if the two bodies differ only in case
   pub agree : (u bs : List ℕ) → Reads u (Ok bs)
       → IfOk r (λ v. (bs ≡ items v) ↔ (lowered (body_of u) ≡ lowered (body_of t)))
 
@@ -138,7 +138,7 @@ pub record DecodesToArray (n : ℕ) (t : List ℕ) (r : Result (List ℕ) FromHe
   -- what was encoded of n bytes is decoded to the same bytes
   pub round_trip : (prefix up : Bool) (bs : List ℕ) → AreBytes bs → length bs ≡ n → t ≡ full_text prefix up bs
       → r ≡ Ok bs
-  -- another text gives the same bytes if and only if the two bodies differ only in case
+  -- another text decodes to the same bytes if and only if the two bodies differ only in case
   pub agree : (u bs : List ℕ) → ReadsSized u n (Ok bs)
       → IfOk r (λ v. (bs ≡ v) ↔ (lowered (body_of u) ≡ lowered (body_of t)))
   -- this is the only result that meets `ReadsSized`

@@ -30,7 +30,7 @@ module _ {S : Type 0} (step : S → List ℕ → S → Type 0) (space : S → Op
       rw (run_shrinks old h.passed new h.run, remaining_space-add (space old) (length (concat h.passed)) (length rest))
       (rw (remaining_space-add (space old) (length pending), ← length-append (concat h.passed), h.whole, length-append))
 
--- ---- a sink that keeps its pieces
+-- ---- a sink that stores its pieces
 
 -- the sink reports each accepted piece
 pub PieceStep-reports : (s : PieceState) (piece : List ℕ) (t : PieceState) → PieceStep s piece t

@@ -40,7 +40,7 @@ slice_written o = o.count
 abbrev pub slice_name : SliceOutput → GName
 slice_name o = o.slice.ghost_name
 
--- the piece stands in the slice after what was written, and the rest of the slice is unchanged
+-- the piece is in the slice after what was written, and the rest of the slice is unchanged
 pub record Placed (old : List ℕ) (at : ℕ) (piece : List ℕ) (new : List ℕ) (end : ℕ) : Type 0 where
   pub end_at : end ≡ at + length piece
   pub same_length : length new ≡ length old

@@ -27,7 +27,7 @@ pub record SinkStep {S : Type 0} (step : S → List ℕ → S → Type 0) (is_re
   pub accepting : is_refused (output_sink s) ≡ false → step (output_sink s) piece (output_sink t)
   pub after_refusal : is_refused (output_sink s) ≡ true → output_sink t ≡ output_sink s
 
--- ---- a sink that keeps its pieces
+-- ---- a sink that stores its pieces
 
 -- the accepted pieces, the number of the call that is to fail, and whether one has failed
 pub record PieceState : Type 0 where
@@ -39,7 +39,7 @@ pub record PieceState : Type 0 where
 abbrev pub count_of_calls : PieceState → ℕ
 count_of_calls s = length s.pieces + (if s.refused then 1 else 0)
 
--- one call: the piece is accepted and stands last, or the call fails and the pieces are unchanged;
+-- one call: the piece is accepted and becomes the last one, or the call fails and the pieces are unchanged;
 -- the call with the given number fails
 pub record PieceStep (s : PieceState) (piece : List ℕ) (t : PieceState) : Type 0 where
   pub same_number : t.fail_at ≡ s.fail_at

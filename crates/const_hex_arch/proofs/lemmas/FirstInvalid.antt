@@ -96,7 +96,7 @@ drop_further a b i j h e =
     let q : i + (j - i) ≡ j = omega arith in
     rw (← q, ← drop-drop (j - i) i a, ← drop-drop (j - i) i b, e) refl
 
--- the first bytes of an output, of which the first i are written anew, and n more are as before
+-- the first bytes of an output, of which the first i are overwritten, and n more are as before
 front_kept : (i n : ℕ) (u mid new : List ℕ) → Spells (take (2 * i) u) (take i new) → drop i new ≡ drop i mid
     → Spells (take (2 * (i + n)) u) (take (i + n) mid) → Spells (take (2 * (i + n)) u) (take (i + n) new)
 front_kept i n u mid new s e t =

@@ -2,7 +2,7 @@
 -- generated proofs do not cover these yet.
 --
 -- Here are first the rules of symbolic execution, which other crates cite too, then facts about vectors of n
--- lanes and about a vector beside a flag, and last the walk of `decode_chunk`, for 16 lanes and for 32.
+-- lanes and about a vector with a flag, and last the walk of `decode_chunk`, for 16 lanes and for 32.
 -- The `Proof.antt` of each `decode_chunk` names its calls and passes them to it.
 --
 -- `𝓤` is the resource algebra of the separation logic `𝓛`, `𝓜` is the memory model, and `𝓡` is the running program.
@@ -12,7 +12,7 @@
 -- their order. So every edit of the body of `decode_chunk` breaks it. An edit of a function that it
 -- calls does not.
 --
--- How to mend it: after the edit `rt check --generated FOLDER --start decode_chunk` writes its
+-- How to repair it: after the edit `rt check --generated FOLDER --start decode_chunk` writes its
 -- steps and locals to `Code/Mir.antt` in that folder. Replace the old numbers by the new ones, from
 -- the top down, and check after each. The check names the first step that no longer fits. The
 -- toolchain's guide is its `docs/WALKS.md`.
@@ -62,7 +62,7 @@ pub and_true : (b : Bool) → T b → T (b && true)
 and_true true t = tt
 and_true false t = absurd t
 
--- ---- the clauses of `decode_chunk`, from the clauses of the vector beside a flag
+-- ---- the clauses of `decode_chunk`, from the clauses of the vector with a flag
 
 abbrev pub NoneClause : List ℕ → Option (List ℕ) → Type 0
 NoneClause text result = IsNone result ↔ ¬ AllDigits text
@@ -97,7 +97,7 @@ module _ (n : ℕ) where
   pub lanes_Tells : Tells Lanes (Is Lanes) lanes_vals
   lanes_Tells = Simd-Tells u8 (uint_vals w8) (uint_Tells w8) n
 
-  -- a vector beside a flag
+  -- a vector with a flag
   abbrev pub Flagged : RattleType
   Flagged = Tuple (Lanes ∷ bool ∷ [])
 
@@ -198,7 +198,7 @@ module _ (n : ℕ) where
         let y : W.Ghost = ((κs, qs, bounds, a, (pair_vals n a.0, tt)), tt) in
         qed 𝓛 (raw (G.pre z) ∷ []) ∵ enter ! _ _ _ _ _ $
         alloc_all ! (λ l. pass_all ! refl ((Array-Lawful 𝓛 V lawful 2).typed a.0 _ are.0) $
-        -- the call: what its contract ensures for r, the vector beside the flag, whose machine value is v
+        -- the call: what its contract ensures for r, the vector with its flag, whose machine value is v
         calls_at ! (framed 𝓤 𝓛.H 𝓜 𝓣) G met z
         (and_then ! (get ! refl) (no_more !)) (λ v.
         use1 𝓛 (later (some (λ (r : List ℕ × Bool). (‵ ftrue ⊛ ‵ ((Flagged n).own_val r (v ∷ []))) ⊛

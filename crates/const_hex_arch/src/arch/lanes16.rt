@@ -113,7 +113,7 @@ pub fn unhex(v: u8x16) -> u8x16
 }
 
 /// The kernel for vectors of 16 lanes. It encodes 16 bytes, checks 16 characters and decodes 32
-/// characters at a time. The remainder is encoded, checked and decoded together with what stands
+/// characters at a time. The remainder is encoded, checked and decoded together with what is
 /// before it, as one more vector that overlaps the last one.
 ///
 /// ```rust

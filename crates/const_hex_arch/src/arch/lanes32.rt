@@ -86,7 +86,7 @@ pub fn unhex(v: u8x32) -> u8x32
 }
 
 /// The kernel for vectors of 32 lanes. It encodes 32 bytes, checks 32 characters and decodes 64
-/// characters at a time. The remainder is encoded, checked and decoded together with what stands
+/// characters at a time. The remainder is encoded, checked and decoded together with what is
 /// before it, as one more vector that overlaps the last one. Vectors of 16 lanes take up to 32 bytes
 /// to encode or characters to check, and up to 16 bytes to decode. On x86-64 it is made for AVX2: without it, LLVM
 /// makes two vectors of each.

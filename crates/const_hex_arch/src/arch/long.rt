@@ -28,7 +28,7 @@ pub(crate) fn fill<const N: usize, V: LaneOps<N>>(input: &[u8], upper: bool, out
 
 /// Whether every byte is a digit. The text has at least one block. Four blocks share one test while more than four are
 /// left.
-// The first block stands before the loops, so that LLVM keeps its constants in registers there.
+// The first block is checked before the loops, so that LLVM keeps its constants in registers there.
 #[inline(always)]
 pub(crate) fn check<const N: usize, V: LaneOps<N>>(text: &[u8]) -> bool
     requires { N ≤ length text.now }
