@@ -118,7 +118,9 @@ impl<'a, const UPPER: bool, const PREFIX: bool> BufferedHex<'a, UPPER, PREFIX> {
         ensures { StreamsWhole S.step S.is_refused S.reported sink.old
             (full_text PREFIX UPPER (hex_bytes self.now)) (is_ok result) sink.new }
     {
-        let mut output = BufferedOutput::<SinkOutput<'_, S>, BUFFER_SIZE>::new(SinkOutput::new(sink));
+        let mut output = BufferedOutput::<SinkOutput<'_, S>, BUFFER_SIZE>::new(SinkOutput::new(
+            sink,
+        ));
         encode_full::<K, BufferedOutput<SinkOutput<'_, S>, BUFFER_SIZE>>(
             self.bytes,
             PREFIX,

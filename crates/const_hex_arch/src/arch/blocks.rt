@@ -10,7 +10,11 @@ use std::simd::prelude::*;
 
 /// Fills the output with two digits for each byte of a block.
 #[inline(always)]
-pub(crate) fn fill_block<const N: usize, V: LaneOps<N>>(bytes: &[u8], upper: bool, output: &mut [u8])
+pub(crate) fn fill_block<const N: usize, V: LaneOps<N>>(
+    bytes: &[u8],
+    upper: bool,
+    output: &mut [u8],
+)
     requires bytes { length bytes.now ≡ N }
     requires output { length output.old ≡ 2 * N }
     ensures { output.new ≡ hex_text upper bytes.now }

@@ -58,7 +58,11 @@ fn fill_one_vector<const H: usize>(bytes: &[u8], upper: bool, output: &mut [u8])
 /// Fills the output with the text of `N` to `2 * N` bytes: that of the last `N`, and that of the first `N`.
 // In this order: if the last ones came last, LLVM would share their code with `long::fill`, by a jump.
 #[inline(always)]
-pub(crate) fn fill_two_vectors<const N: usize, V: LaneOps<N>>(bytes: &[u8], upper: bool, output: &mut [u8])
+pub(crate) fn fill_two_vectors<const N: usize, V: LaneOps<N>>(
+    bytes: &[u8],
+    upper: bool,
+    output: &mut [u8],
+)
     requires size { length output.old ≡ 2 * length bytes.now }
     requires least { N ≤ length bytes.now }
     requires most { length bytes.now ≤ 2 * N }
@@ -155,7 +159,10 @@ fn decode_overlapping<const H: usize, V: LaneOps<16>>(text: &[u8], output: &mut 
 
 /// As `decode`, for `N / 2` to `N` bytes: a vector has the first `N` characters, and another one the last `N`.
 #[inline(always)]
-pub(crate) fn decode_two_vectors<const N: usize, V: LaneOps<N>>(text: &[u8], output: &mut [u8]) -> bool
+pub(crate) fn decode_two_vectors<const N: usize, V: LaneOps<N>>(
+    text: &[u8],
+    output: &mut [u8],
+) -> bool
     requires size { length text.now ≡ 2 * length output.old }
     requires least { N ≤ 2 * length output.old }
     requires most { length output.old ≤ N }
