@@ -21,7 +21,7 @@
  *     const_hex_decode            text to bytes; the buffer may be larger than needed
  *     const_hex_decode_exact      text to a known number of bytes, such as a hash or a key
  *     const_hex_decoder_update    decodes text that arrives in chunks, from a file or a socket
- *     const_hex_decoder_finish    tells whether the chunks form a complete text
+ *     const_hex_decoder_finish    reports whether the chunks form a complete text
  *     const_hex_check             whether text can be decoded
  *     const_hex_check_raw         whether every character is a hexadecimal digit
  *     const_hex_error_message     turns an error into a readable message
@@ -496,42 +496,42 @@ struct const_hex_decoder {
   size_t state[2];
 };
 
-/*@ // The state of a decoder: how many characters it has read, or SIZE_MAX if they were more; and the first digit of a
-    // byte whose second one it waits for. After an invalid character: its position, and the character.
+/*@ // The state of a decoder: how many characters it has read, or SIZE_MAX if they were more; and the pending
+    // digit, which is the first one of a byte. After an invalid character: its position, and the character.
     logic integer const_hex_position{L}(struct const_hex_decoder *decoder) = decoder->state[0];
     logic integer const_hex_character{L}(struct const_hex_decoder *decoder) = decoder->state[1] % 256;
-    predicate const_hex_waits{L}(struct const_hex_decoder *decoder) = decoder->state[1] / 256 == 1;
+    predicate const_hex_has_pending{L}(struct const_hex_decoder *decoder) = decoder->state[1] / 256 == 1;
     predicate const_hex_has_failed{L}(struct const_hex_decoder *decoder) = decoder->state[1] / 256 > 1;
 
     // What zeros and the two functions leave in a decoder.
     predicate const_hex_is_state{L}(struct const_hex_decoder *decoder) = const_hex_has_failed(decoder) || (
-        (const_hex_waits(decoder) ==> const_hex_is_digit(const_hex_character(decoder))) &&
-        (const_hex_position(decoder) == 0 ==> !const_hex_waits(decoder)) &&
-        (const_hex_position(decoder) == 1 ==> const_hex_waits(decoder)));
+        (const_hex_has_pending(decoder) ==> const_hex_is_digit(const_hex_character(decoder))) &&
+        (const_hex_position(decoder) == 0 ==> !const_hex_has_pending(decoder)) &&
+        (const_hex_position(decoder) == 1 ==> const_hex_has_pending(decoder)));
 
     // Where the digits of a chunk start, and how many digits from before, 0 or 1, belong before them.
     logic integer const_hex_chunk_start{L}(struct const_hex_decoder *decoder, char *text, integer length) =
         const_hex_position(decoder) == 0 ? const_hex_start(text, length) :
         const_hex_position(decoder) == 1 && length >= 1 && const_hex_character(decoder) == '0' &&
             (text[0] == 'x' || text[0] == 'X') ? 1 : 0;
-    logic integer const_hex_chunk_waiting{L}(struct const_hex_decoder *decoder, char *text, integer length) =
+    logic integer const_hex_chunk_pending{L}(struct const_hex_decoder *decoder, char *text, integer length) =
         const_hex_position(decoder) > 0 && const_hex_chunk_start(decoder, text, length) == 0 &&
             decoder->state[1] / 256 == 1 ? 1 : 0;
     logic integer const_hex_chunk_digits{L}(struct const_hex_decoder *decoder, char *text, integer length) =
-        length - const_hex_chunk_start(decoder, text, length) + const_hex_chunk_waiting(decoder, text, length);
+        length - const_hex_chunk_start(decoder, text, length) + const_hex_chunk_pending(decoder, text, length);
 
-    // The first `count` bytes are decoded from a chunk whose digits start at `start`, after one that waited if
-    // `waiting` is 1.
+    // The first `count` bytes are decoded from a chunk whose digits start at `start`, after a pending digit
+    // if `pending` is 1.
     predicate const_hex_chunk_decoded{L}(unsigned char *bytes, integer count, char *text, integer start,
-                                         integer waiting, integer character) =
-        const_hex_decoded(bytes, waiting, count, text, start - waiting) &&
-        (waiting == 1 && count > 0 ==> bytes[0] == 16 * const_hex_value(character) + const_hex_value(text[start]));
+                                         integer pending, integer character) =
+        const_hex_decoded(bytes, pending, count, text, start - pending) &&
+        (pending == 1 && count > 0 ==> bytes[0] == 16 * const_hex_value(character) + const_hex_value(text[start]));
 
     // As const_hex_partial.
     predicate const_hex_chunk_partial{Before, After}(unsigned char *bytes, integer size, char *text, integer start,
-                                                     integer waiting, integer character, integer index) =
-        \exists integer count; 0 <= 2 * count <= index - start + waiting &&
-            const_hex_chunk_decoded{After}(bytes, count, text, start, waiting, character) &&
+                                                     integer pending, integer character, integer index) =
+        \exists integer count; 0 <= 2 * count <= index - start + pending &&
+            const_hex_chunk_decoded{After}(bytes, count, text, start, pending, character) &&
             const_hex_unchanged{Before, After}(bytes, count, size);
 */
 
@@ -599,7 +599,7 @@ struct const_hex_decoder {
             const_hex_position(decoder) == \min(\old(const_hex_position(decoder)) + index, SIZE_MAX) &&
             const_hex_chunk_partial{Pre, Post}((unsigned char *)bytes, bytes_size, text,
                 \old(const_hex_chunk_start(decoder, text, text_length)),
-                \old(const_hex_chunk_waiting(decoder, text, text_length)),
+                \old(const_hex_chunk_pending(decoder, text, text_length)),
                 \old(const_hex_character(decoder)), index);
     behavior valid:
         assumes const_hex_is_state(decoder) && !const_hex_has_failed(decoder);
@@ -609,12 +609,12 @@ struct const_hex_decoder {
         ensures *written == \old(const_hex_chunk_digits(decoder, text, text_length)) / 2;
         ensures const_hex_chunk_decoded((unsigned char *)bytes, *written, text,
             \old(const_hex_chunk_start(decoder, text, text_length)),
-            \old(const_hex_chunk_waiting(decoder, text, text_length)), \old(const_hex_character(decoder)));
+            \old(const_hex_chunk_pending(decoder, text, text_length)), \old(const_hex_character(decoder)));
         ensures const_hex_unchanged{Pre, Post}((unsigned char *)bytes, *written, bytes_size);
         ensures !const_hex_has_failed(decoder);
         ensures const_hex_position(decoder) == \min(\old(const_hex_position(decoder)) + text_length, SIZE_MAX);
-        ensures const_hex_waits(decoder) <==> \old(const_hex_chunk_digits(decoder, text, text_length)) % 2 == 1;
-        ensures const_hex_waits(decoder) ==> const_hex_character(decoder) ==
+        ensures const_hex_has_pending(decoder) <==> \old(const_hex_chunk_digits(decoder, text, text_length)) % 2 == 1;
+        ensures const_hex_has_pending(decoder) ==> const_hex_character(decoder) ==
             (text_length > 0 ? text[text_length - 1] : \old(const_hex_character(decoder)));
         ensures error != \null ==> *error == \old(*error);
     disjoint behaviors;
@@ -646,10 +646,10 @@ bool const_hex_decoder_update(struct const_hex_decoder *decoder, const char *tex
         ensures const_hex_is_error(error, CONST_HEX_INVALID_CHARACTER,
             const_hex_character(decoder), const_hex_position(decoder));
     behavior odd:
-        assumes const_hex_waits(decoder);
+        assumes const_hex_has_pending(decoder);
         ensures \result == \false && const_hex_is_error(error, CONST_HEX_ODD_LENGTH, 0, 0);
     behavior valid:
-        assumes !const_hex_has_failed(decoder) && !const_hex_waits(decoder);
+        assumes !const_hex_has_failed(decoder) && !const_hex_has_pending(decoder);
         ensures \result == \true && (error != \null ==> *error == \old(*error));
     complete behaviors;
     disjoint behaviors;

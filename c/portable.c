@@ -285,8 +285,8 @@ static size_t find_invalid(const char *text, size_t start, size_t length) {
     ensures \result < start + 2 * (to - from) ==> !const_hex_is_digit(text[\result]);
     ensures const_hex_decoded(bytes, from, from + (\result - start) / 2, text, start - 2 * from);
     ensures const_hex_unchanged{Pre, Post}(bytes, from + (\result - start) / 2, to); */
-static size_t read_pairs(const char *text, size_t start, unsigned char *bytes, size_t from,
-                         size_t to) {
+static size_t decode_pairs(const char *text, size_t start, unsigned char *bytes, size_t from,
+                           size_t to) {
   size_t position = start;
   /*@ loop invariant from <= index <= to && position == start + 2 * (index - from);
       loop invariant const_hex_digits(text, start, position);
@@ -315,7 +315,7 @@ bool const_hex_decode(const char *text, size_t text_length, void *bytes, size_t 
   if (count > bytes_size) {
     return fail(error, CONST_HEX_INVALID_LENGTH, 0, 0);
   }
-  size_t end = read_pairs(text, start, (unsigned char *)bytes, 0, count);
+  size_t end = decode_pairs(text, start, (unsigned char *)bytes, 0, count);
   if (end < text_length) {
     return fail(error, CONST_HEX_INVALID_CHARACTER, (unsigned char)text[end], end);
   }
@@ -332,7 +332,7 @@ bool const_hex_decode_exact(const char *text, size_t text_length, void *bytes, s
   if ((text_length - start) / 2 != bytes_length) {
     return fail(error, CONST_HEX_INVALID_LENGTH, 0, 0);
   }
-  size_t end = read_pairs(text, start, (unsigned char *)bytes, 0, bytes_length);
+  size_t end = decode_pairs(text, start, (unsigned char *)bytes, 0, bytes_length);
   if (end < text_length) {
     return fail(error, CONST_HEX_INVALID_CHARACTER, (unsigned char)text[end], end);
   }
@@ -356,46 +356,46 @@ bool const_hex_check_raw(const char *text, size_t text_length) {
 
 /* ---- Decoding text that arrives in chunks ---- */
 
-/* state[1] is 256 * status + character: the digit that waits for the second one of its byte, or the
- * invalid character. */
-enum { EVEN = 0, WAITS = 1, FAILED = 2 };
+/* state[1] is 256 * status + character: the pending first digit of a byte, or the invalid
+ * character. */
+enum { EVEN = 0, PENDING = 1, FAILED = 2 };
 
-/* Decodes a chunk whose digits start at `start` to `count` bytes, after the digit that waits if
+/* Decodes a chunk whose digits start at `start` to `count` bytes, after the pending digit if
  * there is one. Returns the position of the first invalid character, or the length. */
-/*@ requires start <= length && (waits ==> start == 0) && waiting < 256;
-    requires 2 * count <= length - start + waits <= 2 * count + 1;
+/*@ requires start <= length && (pending ==> start == 0) && high_digit < 256;
+    requires 2 * count <= length - start + pending <= 2 * count + 1;
     requires \valid_read(text + (0 .. length - 1)) && \valid(bytes + (0 .. count - 1));
     requires \separated(text + (0 .. length - 1), bytes + (0 .. count - 1));
     assigns bytes[0 .. count - 1];
     ensures within: start <= \result <= length;
     ensures digits: const_hex_digits(text, start, \result);
     ensures invalid: \result < length ==> !const_hex_is_digit(text[\result]);
-    ensures decoded: const_hex_decoded(bytes, waits, (\result - start + waits) / 2, text, start - waits);
-    ensures waits && \result > 0 && const_hex_is_digit(waiting) ==>
-        bytes[0] == 16 * const_hex_value(waiting) + const_hex_value(text[0]);
-    ensures const_hex_unchanged{Pre, Post}(bytes, (\result - start + waits) / 2, count); */
-static size_t read_chunk(const char *text, size_t start, size_t length, unsigned char *bytes,
-                         size_t count, bool waits, unsigned waiting) {
+    ensures decoded: const_hex_decoded(bytes, pending, (\result - start + pending) / 2, text, start - pending);
+    ensures pending && \result > 0 && const_hex_is_digit(high_digit) ==>
+        bytes[0] == 16 * const_hex_value(high_digit) + const_hex_value(text[0]);
+    ensures const_hex_unchanged{Pre, Post}(bytes, (\result - start + pending) / 2, count); */
+static size_t decode_digits(const char *text, size_t start, size_t length, unsigned char *bytes,
+                            size_t count, bool pending, unsigned high_digit) {
   size_t position = start, first = 0;
-  if (waits && length > 0) {
+  if (pending && length > 0) {
     unsigned low = value(text[0]);
     if (PUBLIC(low > 15)) {
-      /*@ assert const_hex_decoded(bytes, waits, (0 - start + waits) / 2, text, start - waits); */
+      /*@ assert const_hex_decoded(bytes, pending, (0 - start + pending) / 2, text, start - pending); */
       return 0;
     }
-    bytes[0] = (unsigned char)(16 * value_of_byte(waiting) + low);
+    bytes[0] = (unsigned char)(16 * value_of_byte(high_digit) + low);
     position = first = 1;
   }
-  position = read_pairs(text, position, bytes, first, count);
+  position = decode_pairs(text, position, bytes, first, count);
   /*@ assert const_hex_digits(text, start, position); */
-  /*@ assert waits && length > 0 && const_hex_is_digit(waiting) ==>
-        bytes[0] == 16 * const_hex_value(waiting) + const_hex_value(text[0]); */
-  /*@ assert const_hex_decoded(bytes, waits, (position - start + waits) / 2, text, start - waits); */
+  /*@ assert pending && length > 0 && const_hex_is_digit(high_digit) ==>
+        bytes[0] == 16 * const_hex_value(high_digit) + const_hex_value(text[0]); */
+  /*@ assert const_hex_decoded(bytes, pending, (position - start + pending) / 2, text, start - pending); */
   /* The first digit of a byte may be left. */
   size_t end = find_invalid(text, position, length);
-  /*@ assert end > position ==> position - start + waits == 2 * count && end == length; */
-  /*@ assert (end - start + waits) / 2 == (position - start + waits) / 2; */
-  /*@ assert const_hex_decoded(bytes, waits, (end - start + waits) / 2, text, start - waits); */
+  /*@ assert end > position ==> position - start + pending == 2 * count && end == length; */
+  /*@ assert (end - start + pending) / 2 == (position - start + pending) / 2; */
+  /*@ assert const_hex_decoded(bytes, pending, (end - start + pending) / 2, text, start - pending); */
   return end;
 }
 
@@ -411,18 +411,18 @@ static size_t chunk_start(const struct const_hex_decoder *decoder, const char *t
   return may_end && is_prefix(decoder->state[1] % 256, text[0]) ? 1 : 0;
 }
 
-/* Whether the digit that waits belongs before a chunk whose digits start at `start`. */
+/* Whether there is a pending digit that belongs before a chunk whose digits start at `start`. */
 /*@ requires \valid_read(decoder);
     assigns \nothing;
-    ensures \result <==> const_hex_position(decoder) > 0 && start == 0 && const_hex_waits(decoder); */
-static bool is_waiting(const struct const_hex_decoder *decoder, size_t start) {
-  return decoder->state[0] > 0 && start == 0 && PUBLIC(decoder->state[1] / 256) == WAITS;
+    ensures \result <==> const_hex_position(decoder) > 0 && start == 0 && const_hex_has_pending(decoder); */
+static bool continues_pair(const struct const_hex_decoder *decoder, size_t start) {
+  return decoder->state[0] > 0 && start == 0 && PUBLIC(decoder->state[1] / 256) == PENDING;
 }
 
 /*@ assigns \nothing;
-    ensures \result == (digits + waits) / 2; */
-static size_t count_pairs(size_t digits, bool waits) {
-  return digits / 2 + (digits % 2 + waits) / 2;
+    ensures \result == (digits + pending) / 2; */
+static size_t count_pairs(size_t digits, bool pending) {
+  return digits / 2 + (digits % 2 + pending) / 2;
 }
 
 /* Advances the decoder by `count` characters, and stores a status and a character. */
@@ -442,27 +442,27 @@ static void advance(struct const_hex_decoder *decoder, size_t count, size_t stat
 /*@ requires \valid(decoder) && \valid_read(text + (0 .. length - 1));
     requires \separated(decoder, text + (0 .. length - 1));
     requires start == const_hex_chunk_start(decoder, text, length);
-    requires waits == const_hex_chunk_waiting(decoder, text, length);
+    requires pending == const_hex_chunk_pending(decoder, text, length);
     requires const_hex_digits(text, start, length);
     assigns decoder->state[0 .. 1];
     ensures going: !const_hex_has_failed(decoder);
     ensures position: const_hex_position(decoder) ==
         \min(\old(const_hex_position(decoder)) + length, SIZE_MAX);
-    ensures waits: const_hex_waits(decoder) <==> (length - start + waits) % 2 == 1;
-    ensures last: const_hex_waits(decoder) ==> const_hex_character(decoder) ==
+    ensures pending: const_hex_has_pending(decoder) <==> (length - start + pending) % 2 == 1;
+    ensures last: const_hex_has_pending(decoder) ==> const_hex_character(decoder) ==
         (length > 0 ? text[length - 1] : \old(const_hex_character(decoder)));
     ensures state: \old(const_hex_is_state(decoder) && !const_hex_has_failed(decoder)) ==>
         const_hex_is_state(decoder); */
 static void advance_past(struct const_hex_decoder *decoder, const char *text, size_t length,
-                         size_t start, bool waits) {
+                         size_t start, bool pending) {
   size_t digits = length - start;
   unsigned char last = (unsigned char)(decoder->state[1] % 256);
-  bool is_odd = digits % 2 != waits;
+  bool is_odd = digits % 2 != pending;
   if (digits > 0) {
     last = (unsigned char)text[length - 1];
   }
   /*@ assert is_odd && length > 0 ==> last == text[length - 1]; */
-  advance(decoder, length, is_odd ? WAITS : EVEN, last);
+  advance(decoder, length, is_odd ? PENDING : EVEN, last);
 }
 
 /* Decodes a chunk's digits to `count` bytes, and advances the decoder past it or to a failure.
@@ -471,12 +471,12 @@ static void advance_past(struct const_hex_decoder *decoder, const char *text, si
     requires \valid(bytes + (0 .. count - 1));
     requires \separated(decoder, text + (0 .. length - 1), bytes + (0 .. count - 1));
     requires start == const_hex_chunk_start(decoder, text, length);
-    requires waits == const_hex_chunk_waiting(decoder, text, length);
-    requires count == (length - start + waits) / 2 && !const_hex_has_failed(decoder);
+    requires pending == const_hex_chunk_pending(decoder, text, length);
+    requires count == (length - start + pending) / 2 && !const_hex_has_failed(decoder);
     assigns decoder->state[0 .. 1], bytes[0 .. count - 1];
     ensures decoded: \old(const_hex_is_state(decoder)) ==> const_hex_chunk_decoded(bytes,
-        (\result - start + waits) / 2, text, start, waits, \old(const_hex_character(decoder)));
-    ensures unchanged: const_hex_unchanged{Pre, Post}(bytes, (\result - start + waits) / 2, count);
+        (\result - start + pending) / 2, text, start, pending, \old(const_hex_character(decoder)));
+    ensures unchanged: const_hex_unchanged{Pre, Post}(bytes, (\result - start + pending) / 2, count);
     ensures state: \old(const_hex_is_state(decoder)) ==> const_hex_is_state(decoder);
     ensures position: const_hex_position(decoder) ==
         \min(\old(const_hex_position(decoder)) + \result, SIZE_MAX);
@@ -485,18 +485,18 @@ static void advance_past(struct const_hex_decoder *decoder, const char *text, si
     ensures failed: \result < length ==> const_hex_has_failed(decoder) &&
         const_hex_character(decoder) == (unsigned char)text[\result];
     ensures going: \result == length ==> !const_hex_has_failed(decoder);
-    ensures waits: \result == length ==>
-        (const_hex_waits(decoder) <==> (length - start + waits) % 2 == 1);
-    ensures last: \result == length && const_hex_waits(decoder) ==> const_hex_character(decoder) ==
+    ensures pending: \result == length ==>
+        (const_hex_has_pending(decoder) <==> (length - start + pending) % 2 == 1);
+    ensures last: \result == length && const_hex_has_pending(decoder) ==> const_hex_character(decoder) ==
         (length > 0 ? text[length - 1] : \old(const_hex_character(decoder))); */
 static size_t decode_chunk(struct const_hex_decoder *decoder, const char *text, size_t length,
-                           size_t start, unsigned char *bytes, size_t count, bool waits) {
-  unsigned waiting = (unsigned)(decoder->state[1] % 256);
-  size_t end = read_chunk(text, start, length, bytes, count, waits, waiting);
+                           size_t start, unsigned char *bytes, size_t count, bool pending) {
+  unsigned high_digit = (unsigned)(decoder->state[1] % 256);
+  size_t end = decode_digits(text, start, length, bytes, count, pending, high_digit);
   if (end < length) {
     advance(decoder, end, FAILED, (unsigned char)text[end]);
   } else {
-    advance_past(decoder, text, length, start, waits);
+    advance_past(decoder, text, length, start, pending);
   }
   return end;
 }
@@ -518,23 +518,23 @@ bool const_hex_decoder_update(struct const_hex_decoder *decoder, const char *tex
                               struct const_hex_error *error) {
   size_t status = PUBLIC(decoder->state[1] / 256);
   size_t start = chunk_start(decoder, text, text_length);
-  bool waits = is_waiting(decoder, start);
-  size_t count = count_pairs(text_length - start, waits);
-  /*@ assert waits == const_hex_chunk_waiting(decoder, text, text_length); */
+  bool pending = continues_pair(decoder, start);
+  size_t count = count_pairs(text_length - start, pending);
+  /*@ assert pending == const_hex_chunk_pending(decoder, text, text_length); */
   *written = 0;
-  if (status > WAITS) {
+  if (status > PENDING) {
     return fail_again(decoder, error);
   }
   if (count > bytes_size) {
     return fail(error, CONST_HEX_INVALID_LENGTH, 0, 0);
   }
   size_t end =
-      decode_chunk(decoder, text, text_length, start, (unsigned char *)bytes, count, waits);
+      decode_chunk(decoder, text, text_length, start, (unsigned char *)bytes, count, pending);
   /*@ assert unchanged: const_hex_unchanged{Pre, Here}(
-        (unsigned char *)bytes, (end - start + waits) / 2, bytes_size); */
+        (unsigned char *)bytes, (end - start + pending) / 2, bytes_size); */
   if (end < text_length) {
     /*@ assert partial: \at(const_hex_is_state(decoder), Pre) ==> const_hex_chunk_partial{Pre, Here}(
-          (unsigned char *)bytes, bytes_size, text, start, waits,
+          (unsigned char *)bytes, bytes_size, text, start, pending,
           \at(const_hex_character(decoder), Pre), end); */
     return fail_again(decoder, error);
   }
@@ -545,10 +545,10 @@ bool const_hex_decoder_update(struct const_hex_decoder *decoder, const char *tex
 bool const_hex_decoder_finish(const struct const_hex_decoder *decoder,
                               struct const_hex_error *error) {
   size_t status = PUBLIC(decoder->state[1] / 256);
-  if (status > WAITS) {
+  if (status > PENDING) {
     return fail_again(decoder, error);
   }
-  if (status == WAITS) {
+  if (status == PENDING) {
     return fail(error, CONST_HEX_ODD_LENGTH, 0, 0);
   }
   return true;

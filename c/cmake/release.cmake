@@ -1,10 +1,10 @@
-# `cpack` makes the archive of a release: what is installed, and these files beside it. The same libraries make the same
+# `cpack` makes the archive of a release: what is installed, and these extra files. The same libraries make the same
 # archive, byte for byte.
 string(TOLOWER const_hex-${PROJECT_VERSION}-${CMAKE_SYSTEM_NAME}-${CMAKE_SYSTEM_PROCESSOR} RELEASE)
 configure_file(archive.md README.md @ONLY)
-set(BESIDE COMPONENT archive EXCLUDE_FROM_ALL)
-install(FILES ${PROJECT_BINARY_DIR}/README.md ../LICENSE-APACHE ../LICENSE-MIT ../NOTICE DESTINATION . ${BESIDE})
-install(DIRECTORY examples DESTINATION . ${BESIDE} PATTERN build EXCLUDE)
+set(EXTRA COMPONENT archive EXCLUDE_FROM_ALL)
+install(FILES ${PROJECT_BINARY_DIR}/README.md ../LICENSE-APACHE ../LICENSE-MIT ../NOTICE DESTINATION . ${EXTRA})
+install(DIRECTORY examples DESTINATION . ${EXTRA} PATTERN build EXCLUDE)
 set(CPACK_GENERATOR External)
 set(CPACK_EXTERNAL_ENABLE_STAGING ON)
 set(CPACK_MONOLITHIC_INSTALL ON)

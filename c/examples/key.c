@@ -1,5 +1,5 @@
 /*
- * Two tasks beside hexadecimal text itself: a key on a line of a configuration file, and a fingerprint with colons.
+ * Two tasks around hexadecimal text: a key on a line of a configuration file, and a fingerprint with colons.
  *
  *     key FILE
  *

@@ -1,5 +1,5 @@
 /*
- * What the test programs share: buffers beside guard pages, and checks that are counted.
+ * What the test programs share: buffers next to guard pages, and checks that are counted.
  */
 #ifndef COMMON_H
 #define COMMON_H
@@ -19,7 +19,7 @@
 /* ---- Memory ---- */
 
 /* The size of an area and of the guard pages at each of its ends, the byte that fills an output before a call, and how
- * many bytes beside the output have it, too. */
+ * many bytes next to the output have it, too. */
 enum { AREA = 33 << 16, GUARD = 1 << 16, CANARY = 0x6E, MARGIN = 64 };
 
 /* Areas between guard pages: for input bytes, for text, and for decoded bytes. */
@@ -50,7 +50,7 @@ static inline char *buffer_start(char *area, size_t size) {
   return at_start ? area : area + AREA - size;
 }
 
-/* The same, in which each byte is the canary, as are those beside it. */
+/* The same, in which each byte is the canary, as are those next to it. */
 static inline char *canary_buffer(char *area, size_t size) {
   memset(buffer_start(area, size + MARGIN), CANARY, size + MARGIN);
   return buffer_start(area, size);
@@ -60,7 +60,7 @@ static inline bool is_canary(const char *bytes, size_t count) {
   return count == 0 || (bytes[0] == CANARY && memcmp(bytes, bytes + 1, count - 1) == 0);
 }
 
-/* Whether the bytes of such a buffer after the first `written`, and those beside it, are unchanged. */
+/* Whether the bytes of such a buffer after the first `written`, and those next to it, are unchanged. */
 static inline bool is_rest_unchanged(char *area, size_t size, size_t written) {
   const char *bytes = buffer_start(area, size);
   return is_canary(bytes + written, size - written) &&
@@ -85,9 +85,9 @@ static const struct const_hex_error UNSET = {9, 9, 9};
 /* Whether a function returned true and left the error unset, or returned false and wrote the expected one. */
 static inline bool has_outcome(bool result, struct const_hex_error error,
                                struct const_hex_error expected) {
-  struct const_hex_error left = expected.kind == 0 ? UNSET : expected;
-  return result == (expected.kind == 0) && error.kind == left.kind && error.byte == left.byte &&
-         error.index == left.index;
+  struct const_hex_error wanted = expected.kind == 0 ? UNSET : expected;
+  return result == (expected.kind == 0) && error.kind == wanted.kind && error.byte == wanted.byte &&
+         error.index == wanted.index;
 }
 
 /* What each program defines. */

@@ -1,14 +1,14 @@
 /*
- * The table of test vectors of crates/const_hex_vectors, in buffers beside guard pages. TABLE is its file.
+ * The table of test vectors of crates/const_hex_vectors, in buffers next to guard pages. TABLE is its file.
  */
 #include "common.h"
 #include <ctype.h>
 
 enum { LINE = 1 << 16, CELL = 1 << 21 };
 
-/* A line of the table: the question, its number if it has one, the input, and the result: bytes or an error. */
+/* A line of the table: the operation, its number if it has one, the input, and the result: bytes or an error. */
 struct line {
-  char *question;
+  char *operation;
   size_t number, length, result_length;
   char input[CELL], result[CELL];
   struct const_hex_error error;
@@ -51,17 +51,17 @@ static struct const_hex_error error_of(const char *cell) {
 static bool read_line(FILE *file, struct line *line) {
   static char text[LINE];
   while (fgets(text, LINE, file) != NULL) {
-    char *question = strtok(text, "\t\n");
+    char *operation = strtok(text, "\t\n");
     char *input = strtok(NULL, "\t\n");
     char *result = strtok(NULL, "\t\n");
-    if (question == NULL || question[0] == '#') {
+    if (operation == NULL || operation[0] == '#') {
       continue;
     }
-    line->question = strtok(question, " ");
+    line->operation = strtok(operation, " ");
     char *number = strtok(NULL, " ");
     line->number = number == NULL ? 0 : strtoul(number, NULL, 10);
     line->error = error_of(result);
-    size_t times = strstr(line->question, "-times") == NULL ? 1 : line->number;
+    size_t times = strstr(line->operation, "-times") == NULL ? 1 : line->number;
     line->length = repeat(line->input, read_cell(input, line->input), times);
     line->result_length = repeat(line->result, read_cell(result, line->result), times);
     return true;
@@ -172,8 +172,8 @@ static void decode_chunks(const struct line *line, size_t cut) {
 /* ---- The tests of each kind of line ---- */
 
 static void read_digits(const struct line *line) {
-  bool is_raw = const_hex_check_raw(line->input, line->length);
-  expect(is_raw == (line->result[0] == 't'), "check_raw", line->length, 0);
+  bool is_accepted = const_hex_check_raw(line->input, line->length);
+  expect(is_accepted == (line->result[0] == 't'), "check_raw", line->length, 0);
 }
 
 static void read_chunks(const struct line *line) {
@@ -261,7 +261,7 @@ static void message(const struct line *line) {
 static const struct {
   const char *name;
   void (*run)(const struct line *line);
-} QUESTIONS[] = {
+} OPERATIONS[] = {
     {"read", read_text},     {"read-times", read_text}, {"read-into", read_into},
     {"digits", read_digits}, {"each-byte", each_byte},  {"read-chunks", read_chunks},
     {"write", write_text},   {"message", message},      {"write-times", write_text},
@@ -270,9 +270,9 @@ static const struct {
 /* Other lines are for what this library does not have: JSON, sinks, the functions of a kernel, and outputs that have to
  * be full. Returns whether the library has a function for the line. */
 static bool run_line(const struct line *line) {
-  for (size_t which = 0; which < sizeof QUESTIONS / sizeof *QUESTIONS; which++) {
-    if (strcmp(line->question, QUESTIONS[which].name) == 0) {
-      QUESTIONS[which].run(line);
+  for (size_t which = 0; which < sizeof OPERATIONS / sizeof *OPERATIONS; which++) {
+    if (strcmp(line->operation, OPERATIONS[which].name) == 0) {
+      OPERATIONS[which].run(line);
       return true;
     }
   }

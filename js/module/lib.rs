@@ -1,4 +1,5 @@
-//! Three functions of `c/const_hex.h` for the WebAssembly module, which `../src/const_hex.js` calls. `error` is not NULL.
+//! Three functions of `c/const_hex.h` for the WebAssembly module, which `../src/const_hex.js` calls. `error` is not
+//! NULL.
 //!
 //! Each calls the crate for slices of the pointers and lengths that it gets. Nothing here allocates, or panics in a
 //! release build.
@@ -33,7 +34,7 @@ pub unsafe extern "C" fn const_hex_encode(
     text_size: usize,
     flags: u32,
 ) -> bool {
-    // SAFETY: the header requires what these do.
+    // SAFETY: the header requires of callers what these functions do.
     let (bytes, text) = unsafe { (slice(bytes, bytes_length), slice_mut(text, text_size)) };
     let is_encoded = encode(bytes, text, flags).is_some();
     match text.first_mut() {
@@ -74,7 +75,7 @@ pub unsafe extern "C" fn const_hex_decoder_update(
     written: &mut usize,
     error: &mut HexError,
 ) -> bool {
-    // SAFETY: the header requires what these do.
+    // SAFETY: the header requires of callers what these functions do.
     let (text, bytes) = unsafe { (slice(text, text_length), slice_mut(bytes, bytes_size)) };
     let count = decoder.decode(text, bytes);
     *written = *count.as_ref().unwrap_or(&0);

@@ -73,7 +73,7 @@ function cellBytes(cell) {
 
 /** Runs the lines of the table, by their first word. Other lines are for what this package does not have, and for long
  * texts, as `longTexts` is. */
-const questions = {
+const operations = {
     write(bytes, digits) {
         for (const [prefix, upper] of [[false, false], [false, true], [true, false], [true, true]]) {
             const text = (prefix ? '0x' : '') + (upper ? digits.toUpperCase() : digits);
@@ -102,23 +102,23 @@ async function tableOfTestVectors() {
     const count = { write: 0, read: 0, 'read-into': 0, 'read-chunks': 0, message: 0 };
     for (const line of table.split('\n')) {
         const [kind, input, result] = line.split('\t');
-        const [question, number] = kind.split(' ');
-        if (!(question in questions)) continue;
+        const [operation, number] = kind.split(' ');
+        if (!(operation in operations)) continue;
         const [bytes, output] = [input, result].map(cellBytes);
-        const expected = question.startsWith('read') && !result.startsWith('!') ? digitsOf(output) : stringOf(output);
-        const isText = question !== 'write' && digitsOf(utf8(stringOf(bytes))) === digitsOf(bytes);
+        const expected = operation.startsWith('read') && !result.startsWith('!') ? digitsOf(output) : stringOf(output);
+        const isText = operation !== 'write' && digitsOf(utf8(stringOf(bytes))) === digitsOf(bytes);
         const forms = isText ? [bytes, stringOf(bytes)] : [bytes];
-        for (const form of forms) questions[question](form, expected, number && Number(number));
-        count[question] += 1;
+        for (const form of forms) operations[operation](form, expected, number && Number(number));
+        count[operation] += 1;
     }
-    for (const [question, lines] of Object.entries(count)) equal(lines > 20, true, question);
+    for (const [operation, lines] of Object.entries(count)) equal(lines > 20, true, operation);
 }
 
 function longTexts() {
     for (const length of [CHUNK / 2 - 1, CHUNK / 2, CHUNK / 2 + 1, CHUNK, 2 ** 17 - 1, 2 ** 17 + 1]) {
         const bytes = bytesOf(length);
         const digits = digitsOf(bytes);
-        questions.write(bytes, digits);
+        operations.write(bytes, digits);
         for (const form of [digits, utf8(`0x${digits}`)]) {
             compare(form, digits);
             for (const cuts of [[1], [3, 4], [CHUNK + 1], [1, CHUNK + 1], [7, CHUNK + 8]]) {

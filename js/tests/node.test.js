@@ -59,7 +59,7 @@ test('src/const_hex.wasm is what cargo makes', { skip: other }, () => {
 test('the module works by vectors', () => {
     const module = readFileSync(new URL('../src/const_hex.wasm', import.meta.url)).toString('latin1');
     const swizzles = module.split('\xfd\x0e').length - 1;
-    assert(swizzles >= 30, `i8x16.swizzle stands ${swizzles} times in the module`);
+    assert(swizzles >= 30, `i8x16.swizzle occurs ${swizzles} times in the module`);
 });
 
 test('the memory keeps its size, and wipe clears all that calls left', async () => {
@@ -108,9 +108,9 @@ test('a shared buffer that grows meanwhile', async () => {
         Buffer.from(buffer).write(text);
         const loaded = await loadOver((exports) => ({
             ...exports,
-            const_hex_decoder_update: (...given) => {
+            const_hex_decoder_update: (...values) => {
                 if (buffer.byteLength === text.length) buffer.grow(2 ** 16 + 1);
-                return exports.const_hex_decoder_update(...given);
+                return exports.const_hex_decoder_update(...values);
             },
         }));
         assert.equal(resultOf(() => read(loaded, buffer)), expected);
@@ -124,9 +124,9 @@ test('a shared buffer that grows meanwhile', async () => {
     ]) {
         const buffer = new SharedArrayBuffer(4, { maxByteLength: 2 ** 17 });
         Buffer.from(buffer).write('6b69');
-        arrays.set = function (...given) {
+        arrays.set = function (...values) {
             buffer.grow(2 ** 17);
-            return Reflect.apply(set, this, given);
+            return Reflect.apply(set, this, values);
         };
         try {
             assert.equal(resultOf(() => call(new Uint8Array(buffer))), expected);
@@ -191,7 +191,7 @@ test('no copy of a key is left once it is cleared', { skip: noLinux }, async () 
     }
 });
 
-/** Returns how often each pattern stands in the memory of a process. */
+/** Returns how often each pattern occurs in the memory of a process. */
 function countIn(pid, patterns) {
     const file = openSync(`/proc/${pid}/mem`);
     const counts = patterns.map(() => 0);

@@ -86,8 +86,8 @@ for (const [browser, ...options] of [
         await once(server, 'listening');
         const page = `http://127.0.0.1:${server.address().port}/`;
         const env = { ...process.env, HOME: profile, MOZ_DISABLE_CONTENT_SANDBOX: '1' };
-        const given = options.map((option) => option.replace('FOLDER', profile));
-        const running = spawn('timeout', ['300', browser, ...given, page], { stdio: 'ignore', env });
+        const values = options.map((option) => option.replace('FOLDER', profile));
+        const running = spawn('timeout', ['300', browser, ...values, page], { stdio: 'ignore', env });
         const exit = once(running, 'exit');
         try {
             assert.deepEqual(await Promise.race([serve(server), exit]), {});

@@ -1,5 +1,5 @@
-//! Regression test: no call takes over 10 % more instructions than its recorded count. Only in a release build for Linux:
-//! on x86-64 with valgrind, and on AArch64 with QEMU: `cargo test --release --test instructions`.
+//! Regression test: no call takes over 10 % more instructions than its recorded count. Only in a release build for
+//! Linux: on x86-64 with valgrind, and on AArch64 with QEMU: `cargo test --release --test instructions`.
 #![cfg(all(
     not(debug_assertions),
     any(target_arch = "x86_64", target_arch = "aarch64"),
@@ -15,8 +15,8 @@ use valgrind::black_box;
 
 const LENGTHS: [usize; 6] = [1, 8, 20, 32, 64, 256];
 
-/// The instructions of each call at these lengths: with AVX2, in portable code, and on AArch64. Where this is 0, none are
-/// counted: QEMU prints each instruction, which takes seconds.
+/// The instructions of each call at these lengths: with AVX2, in portable code, and on AArch64. Where this is 0, none
+/// are counted: QEMU prints each instruction, which takes seconds.
 const COUNTS: [(&str, [[u64; 6]; 3]); 5] = [
     (
         "encode",
@@ -68,7 +68,7 @@ fn cells() -> Vec<(&'static str, usize, u64)> {
     };
     let mut cells = Vec::new();
     for (call, counts) in COUNTS {
-        cells.extend((0..LENGTHS.len()).map(|at| (call, LENGTHS[at], counts[column][at])));
+        cells.extend((0..LENGTHS.len()).map(|index| (call, LENGTHS[index], counts[column][index])));
     }
     // Printing to a writer that returns an error at once encodes no more than a part of the bytes.
     cells.push(("display", 1 << 20, [25_000, 500_000, 0][column]));
@@ -97,9 +97,9 @@ fn calls() {
             .env("CONST_HEX_CALLS", "1");
     });
     for ((call, bytes, count), found) in cells.into_iter().zip(counted) {
-        let is_kept = found > 0 && found <= count + count / 10;
+        let is_within_limit = found > 0 && found <= count + count / 10;
         assert!(
-            is_kept,
+            is_within_limit,
             "{call} of {bytes} bytes: {found} instructions, {count} and 10 % more are allowed"
         );
     }

@@ -15,20 +15,20 @@ fn bytes_and_text(count: usize) -> (Vec<u8>, String) {
     (bytes, text)
 }
 
-/// Reads or writes at most `most` bytes at a time. Each call whose number is in `errors` fails.
+/// Reads or writes at most `max_count` bytes at a time. Each call whose number is in `errors` fails.
 struct Faulty<T> {
     inner: T,
-    most: usize,
+    max_count: usize,
     errors: Vec<(usize, ErrorKind)>,
     calls: usize,
     flushes: usize,
 }
 
 impl<T> Faulty<T> {
-    fn new(inner: T, most: usize, errors: &[(usize, ErrorKind)]) -> Faulty<T> {
+    fn new(inner: T, max_count: usize, errors: &[(usize, ErrorKind)]) -> Faulty<T> {
         Faulty {
             inner,
-            most,
+            max_count,
             errors: errors.to_vec(),
             calls: 0,
             flushes: 0,
@@ -47,15 +47,15 @@ impl<T> Faulty<T> {
 impl<T: Read> Read for Faulty<T> {
     fn read(&mut self, output: &mut [u8]) -> io::Result<usize> {
         self.count()?;
-        let most = self.most.min(output.len());
-        self.inner.read(&mut output[..most])
+        let max_count = self.max_count.min(output.len());
+        self.inner.read(&mut output[..max_count])
     }
 }
 
 impl<T: Write> Write for Faulty<T> {
     fn write(&mut self, bytes: &[u8]) -> io::Result<usize> {
         self.count()?;
-        self.inner.write(&bytes[..self.most.min(bytes.len())])
+        self.inner.write(&bytes[..self.max_count.min(bytes.len())])
     }
 
     fn flush(&mut self) -> io::Result<()> {
@@ -68,9 +68,9 @@ impl<T: Write> Write for Faulty<T> {
 fn short_reads() {
     let (bytes, text) = bytes_and_text(10_000);
     let text = format!("0X{text}");
-    for most in [1, 2, 3, 7, 4096, 100_000] {
+    for max_count in [1, 2, 3, 7, 4096, 100_000] {
         for length in [1, 2, 5, 8192, 50_000] {
-            let mut reader = DecodeReader::new(Faulty::new(text.as_bytes(), most, &[]));
+            let mut reader = DecodeReader::new(Faulty::new(text.as_bytes(), max_count, &[]));
             let (mut found, mut output) = (Vec::new(), vec![0; length]);
             assert_eq!(reader.read(&mut []).unwrap(), 0);
             let mut count = 1;
@@ -78,13 +78,13 @@ fn short_reads() {
                 count = reader.read(&mut output).unwrap();
                 found.extend_from_slice(&output[..count]);
             }
-            assert!(found == bytes, "{most} at a time, into {length}");
+            assert!(found == bytes, "{max_count} at a time, into {length}");
         }
     }
 }
 
-/// A reader repeats how its text ended, also for an empty output, or if the inner reader has more. A position counts from
-/// the start of the text.
+/// A reader repeats how its text ended, also for an empty output, or if the inner reader has more. A position counts
+/// from the start of the text.
 #[test]
 fn ends_of_the_text() {
     let long = "0".repeat(20_000) + "0x";
@@ -134,7 +134,7 @@ fn short_writes() {
     let kinds = [ErrorKind::Interrupted, ErrorKind::WouldBlock];
     let errors = (0..=9).flat_map(|call| kinds.map(|kind| [(call, kind), (call + 1, kind)]));
     for errors in errors {
-        for (most, length) in [
+        for (max_count, length) in [
             (1, 255),
             (3, 1),
             (7, 10_000),
@@ -142,7 +142,7 @@ fn short_writes() {
             (4096, 257),
             (100_000, 2),
         ] {
-            let mut writer = EncodeWriter::new(Faulty::new(Vec::new(), most, &errors));
+            let mut writer = EncodeWriter::new(Faulty::new(Vec::new(), max_count, &errors));
             for mut rest in bytes.chunks(length) {
                 while !rest.is_empty() {
                     rest = &rest[writer.write(rest).unwrap_or(0)..];
@@ -152,7 +152,7 @@ fn short_writes() {
             let found = writer.finish().unwrap().inner;
             assert!(
                 found == text.as_bytes(),
-                "{most} at a time, of {length}: {errors:?}"
+                "{max_count} at a time, of {length}: {errors:?}"
             );
         }
     }

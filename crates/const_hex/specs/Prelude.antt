@@ -1,7 +1,7 @@
 -- The names that most clauses and proofs cite, passed on from one place. Declares nothing.
 pub use Rattle.const_hex_arch.specs.Outputs.{HasSpace}
 pub use Rattle.const_hex_arch.specs.Sinks.{Offers, Streams, ReportsCut, reported_after, Cut}
-pub use Rattle.const_hex_arch.specs.Texts.{AllDigits, FirstBad, IsDigit, value_or_nil, hex_value, Spells, hex_digit, Partial, full_text, text_length, prefix_of}
+pub use Rattle.const_hex_arch.specs.Texts.{AllDigits, FirstInvalidAt, IsDigit, value_or_nil, hex_value, Spells, hex_digit, Partial, full_text, text_length, prefix_of}
 unfoldable pub use Rattle.const_hex_arch.specs.Texts.{hex_text}
 pub use Rattle.const_hex.specs.Buffers.{blank_text, buffer_text}
 pub use Rattle.const_hex.specs.Decoding.{saturated, position_of, HasRead, NamesInvalidSaturated, error_of, pending_digit, zero_decoder, ChecksChunk, DecodesChunk, ReadsOn, ChecksOn}

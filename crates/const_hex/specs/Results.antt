@@ -1,6 +1,6 @@
 -- The results for a text: its prefix, and the bytes or the error.
 use Rattle.std.specs.Prelude.{◌≡◌, ℕ, ◌+◌, ◌-◌, ◌==◌, nat_le, ◌&&◌, ◌||◌, if◌then◌else◌, List, [], ◌∷◌, length, map, slice_index, ◌*◌, ◌%◌, ◌≢◌, ◌<◌, ◌≤◌, Bool, Result, Ok, Err, ◌++◌, ◌↔◌, true, false, String, string_bytes, take, drop, IfOk, IfErr, OnOk, OnErr, IsOk, IsTrue, MatchResult, is_some}
-use Rattle.const_hex_arch.specs.Texts.{FirstBad, hex_value, Spells, Partial, hex_text, full_text}
+use Rattle.const_hex_arch.specs.Texts.{FirstInvalidAt, hex_value, Spells, Partial, hex_text, full_text}
 use Rattle.const_hex.specs.declared.error.FromHexError.{FromHexError}
 use Rattle.const_hex.specs.declared.error.FromHexError.TheVariants.{OddLength, InvalidStringLength, InvalidHexCharacter, NoMemory}
 use Rattle.std.specs.List.{list_all}
@@ -20,7 +20,7 @@ lowered u = map (λ b. if nat_le 65 b && nat_le b 70 then b + 32 else b) u
 -- c is the first byte after the prefix of t that is not a digit, and `index` is its position in t
 abbrev pub NamesFirstInvalid : List ℕ → ℕ → ℕ → Type 0
 NamesFirstInvalid t c index =
-    (p : ℕ) × FirstBad (body_of t) p × (c ≡ slice_index (body_of t) p) × (index ≡ p + (length t - length (body_of t)))
+    (p : ℕ) × FirstInvalidAt (body_of t) p × (c ≡ slice_index (body_of t) p) × (index ≡ p + (length t - length (body_of t)))
 
 -- ---- the results for a text
 
@@ -109,7 +109,7 @@ pub record Decodes {V : Type 0} (items : V → List ℕ) (t : List ℕ) (r : Res
       → MatchResult r (λ v. items v ≡ bs) (λ e. e ≡ NoMemory)
   -- the text of the bytes is the body in lowercase
   pub canonical : IfOk r (λ v. hex_text false (items v) ≡ lowered (body_of t))
-  -- another text gives the same bytes if and only if the two bodies differ only in case
+  -- another text decodes to the same bytes if and only if the two bodies differ only in case
   pub agree : (u bs : List ℕ) → Reads u (Ok bs)
       → IfOk r (λ v. (bs ≡ items v) ↔ (lowered (body_of u) ≡ lowered (body_of t)))
 
@@ -138,7 +138,7 @@ pub record DecodesToArray (n : ℕ) (t : List ℕ) (r : Result (List ℕ) FromHe
   -- what was encoded of n bytes is decoded to the same bytes
   pub round_trip : (prefix up : Bool) (bs : List ℕ) → AreBytes bs → length bs ≡ n → t ≡ full_text prefix up bs
       → r ≡ Ok bs
-  -- another text gives the same bytes if and only if the two bodies differ only in case
+  -- another text decodes to the same bytes if and only if the two bodies differ only in case
   pub agree : (u bs : List ℕ) → ReadsSized u n (Ok bs)
       → IfOk r (λ v. (bs ≡ v) ↔ (lowered (body_of u) ≡ lowered (body_of t)))
   -- this is the only result that meets `ReadsSized`

@@ -2,7 +2,7 @@
 use Rattle.std.proofs.Common.{inl, inr, sym, ◌∙◌, arith, ◌≡◌, ℕ, suc, ◌*◌, ◌%◌, ◌<◌, ◌≢◌, Bool, List, [], ◌∷◌, length, map, ℤ, Result, Ok, Err, refl}
 use Rattle.std.proofs.lemmas.Bool.{cases_eq}
 use Rattle.std.proofs.lemmas.Bool.Decides.{nat_tests}
-use Rattle.const_hex_arch.proofs.lemmas.FirstInvalid.{Spells-some, digits_or_bad}
+use Rattle.const_hex_arch.proofs.lemmas.FirstInvalid.{Spells-some, digits_or_invalid}
 use Rattle.const_hex_arch.proofs.lemmas.Texts.{Spells-length, Spells-bytes}
 use Rattle.const_hex.specs.Results.{body_of, Reads, ReadsSized, AreBytes, IsEven}
 use Rattle.const_hex.specs.Types.{signed_of, byte_of, is_no_memory, AnyCount, IsCount, IsRejected, IsFaithful, ReadsOwned, ReadsAs, ReadsSigned, ReadsThrough}
@@ -22,7 +22,7 @@ Reads-some t =
       | inl odd ↦ (Err OddLength, odd)
       | inr not_odd ↦
           let even : IsEven (length t) = omega arith in
-          elim (digits_or_bad (body_of t)) [
+          elim (digits_or_invalid (body_of t)) [
             | inl a ↦ let (bs, s) = Spells-some (body_of t) (body-parity t ∙ even) a in (Ok bs, (even, s))
             | inr (p, invalid) ↦ (Err (InvalidHexCharacter _ _), (even, (p, invalid, refl, refl)))
           ]

@@ -1,10 +1,10 @@
+pub mod Blocks
 pub mod Digits
 pub mod FirstInvalid
 pub mod LaneText
 pub mod LaneValues
 pub mod Runs
 pub mod Standard
-pub mod Steps
 pub mod Streams
 pub mod Texts
 pub mod Walks

@@ -1,12 +1,12 @@
--- The parts of a step over lanes, and the values of digits in lanes.
+-- Vectors of bytes: the values of digits in their lanes, and the operations that check and decode them.
 use Rattle.std.specs.Prelude.{◌≡◌, ℕ, ◌+◌, ◌*◌, ◌/◌, ◌%◌, ◌≤◌, List, [], ◌∷◌, ◌-◌, ◌↔◌, nat_le, nat_lt, if◌then◌else◌, Option, Some, None}
 use Rattle.std.specs.Int.{bit_at}
 use Rattle.std.specs.List.{AllByRecursion}
 use Rattle.const_hex_arch.specs.Texts.{hex_value, IsDigit}
 
--- ---- what the parts of a step do with lanes
+-- ---- the operations on lanes
 
--- every lane is a value
+-- every lane is a nibble: a value below 16
 abbrev pub AllNibbles : List ℕ → Type 0
 AllNibbles = AllByRecursion (λ n. n ≤ 15)
 
@@ -18,16 +18,16 @@ IsClear z = bit_at z 7 + bit_at z 6 + bit_at z 4 + bit_at z 3 ≡ 0
 abbrev pub AllClear : List ℕ → Type 0
 AllClear = AllByRecursion IsClear
 
--- the halves of all bytes, the upper one first
-abbrev pub halves_of : List ℕ → List ℕ
-halves_of [] = []
-halves_of (x ∷ v) = x / 16 ∷ x % 16 ∷ halves_of v
+-- the nibbles of each byte, the high one first
+abbrev pub nibbles_of : List ℕ → List ℕ
+nibbles_of [] = []
+nibbles_of (x ∷ v) = x / 16 ∷ x % 16 ∷ nibbles_of v
 
--- one byte for each pair of values, the higher half first
-abbrev pub byte_pairs : List ℕ → List ℕ
-byte_pairs [] = []
-byte_pairs (h ∷ []) = []
-byte_pairs (h ∷ l ∷ ns) = (16 * h + l) ∷ byte_pairs ns
+-- one byte for each pair of nibbles, the high one first
+abbrev pub bytes_of_nibbles : List ℕ → List ℕ
+bytes_of_nibbles [] = []
+bytes_of_nibbles (h ∷ []) = []
+bytes_of_nibbles (h ∷ l ∷ ns) = (16 * h + l) ∷ bytes_of_nibbles ns
 
 -- ---- values of digits, in lanes
 
@@ -41,9 +41,9 @@ IsValueOf b n = IsDigit b → hex_value b ≡ Some n
 
 -- if the byte is a digit, n is its value; the byte less 48, less n, has no error bit if and only if the
 -- byte is a digit
-abbrev pub IsPartOf : ℕ → ℕ → Type 0
-IsPartOf b n = IsValueOf b n × (IsClear (((b + 208) % 256 + (256 - n)) % 256) ↔ IsDigit b)
+abbrev pub IsClampedValueOf : ℕ → ℕ → Type 0
+IsClampedValueOf b n = IsValueOf b n × (IsClear (((b + 208) % 256 + (256 - n)) % 256) ↔ IsDigit b)
 
--- the byte less 48, but at most t, is such a part
+-- t is a limit for the byte: the byte less 48, clamped to t, is such a value
 abbrev pub IsLimitOf : ℕ → ℕ → Type 0
-IsLimitOf b t = IsPartOf b (if nat_lt ((b + 208) % 256) t then (b + 208) % 256 else t)
+IsLimitOf b t = IsClampedValueOf b (if nat_lt ((b + 208) % 256) t then (b + 208) % 256 else t)

@@ -10,16 +10,16 @@ use Rattle.const_hex_arch.specs.declared.output.slice.SliceOutput.{SliceOutput}
 abbrev pub HasSpace : Option ℕ → ℕ → Type 0
 HasSpace space n = n ≤ unwrap_or space n
 
--- the space that is left after n bytes
-abbrev pub less_space : Option ℕ → ℕ → Option ℕ
-less_space (Some space) n = Some (space - n)
-less_space None n = None
+-- the space that remains after n bytes
+abbrev pub remaining_space : Option ℕ → ℕ → Option ℕ
+remaining_space (Some space) n = Some (space - n)
+remaining_space None n = None
 
 -- the length of a kernel's piece: 1 to 64 bytes
 abbrev pub IsKernelPiece : List ℕ → Type 0
 IsKernelPiece piece = (1 ≤ length piece) × (length piece ≤ 64)
 
--- an output takes steps for some pieces of 1 to 64 bytes, which together are the text
+-- an output takes a step for each of some pieces of 1 to 64 bytes, which together are the text
 pub record Writes {S : Type 0} (step : S → List ℕ → S → Type 0) (old : S) (text : List ℕ) (new : S) : Type 0 where
   pub pieces : List (List ℕ)
   pub run : FoldsTo step old pieces new
@@ -32,15 +32,15 @@ pub record Writes {S : Type 0} (step : S → List ℕ → S → Type 0) (old : S
 abbrev pub slice_bytes : SliceOutput → List ℕ
 slice_bytes o = o.slice.now
 
--- how much of it is written
+-- how many bytes of it are written
 abbrev pub slice_written : SliceOutput → ℕ
 slice_written o = o.count
 
--- which loan of a slice an output has
+-- the identity of the borrow of an output's slice
 abbrev pub slice_name : SliceOutput → GName
 slice_name o = o.slice.ghost_name
 
--- the piece stands in the slice after what was written, and the rest of the slice is unchanged
+-- the piece is in the slice after what was written, and the rest of the slice is unchanged
 pub record Placed (old : List ℕ) (at : ℕ) (piece : List ℕ) (new : List ℕ) (end : ℕ) : Type 0 where
   pub end_at : end ≡ at + length piece
   pub same_length : length new ≡ length old
@@ -51,7 +51,7 @@ pub record SliceStep (s : SliceOutput) (piece : List ℕ) (t : SliceOutput) : Ty
   pub same_slice : slice_name t ≡ slice_name s
   pub placed : Placed (slice_bytes s) (slice_written s) piece (slice_bytes t) (slice_written t)
 
--- ---- a write to an output that gathers
+-- ---- a write to a buffered output
 
 -- the pending text as a piece, if there is any
 abbrev pub piece_of : List ℕ → List (List ℕ)
@@ -70,10 +70,10 @@ abbrev pub PassesPiece : ℕ → List ℕ → List ℕ → List (List ℕ) → T
 PassesPiece n pending piece passed =
     (passed ≡ piece_of pending ++ piece ∷ []) ⊎ ((passed ≡ piece_of pending) × (length piece ≡ n))
 
--- a write of the piece to an output that gathers n bytes, from the pending text `pending` to the
+-- a write of the piece to an output with a buffer of n bytes, from the pending text `pending` to the
 -- pending text `rest`: some pieces are passed on; followed by `rest`, they are `pending` and then the
 -- piece; at most n bytes are pending, and they fit into the output
-pub record Gathers {O : Type 0} (step : O → List ℕ → O → Type 0) (space : O → Option ℕ) (n : ℕ) (old : O)
+pub record Buffers {O : Type 0} (step : O → List ℕ → O → Type 0) (space : O → Option ℕ) (n : ℕ) (old : O)
     (pending piece : List ℕ) (new : O)
     (rest : List ℕ) : Type 0 where
   pub passed : List (List ℕ)

@@ -16,7 +16,7 @@ reported_after None more = None
 abbrev pub output_sink : {S : Type 0} → SinkOutput S → S
 output_sink o = o.sink.now
 
--- which loan of a sink an output has
+-- the identity of the borrow of an output's sink
 abbrev pub sink_name : {S : Type 0} → SinkOutput S → GName
 sink_name o = o.sink.ghost_name
 
@@ -27,25 +27,25 @@ pub record SinkStep {S : Type 0} (step : S → List ℕ → S → Type 0) (is_re
   pub accepting : is_refused (output_sink s) ≡ false → step (output_sink s) piece (output_sink t)
   pub after_refusal : is_refused (output_sink s) ≡ true → output_sink t ≡ output_sink s
 
--- ---- a sink that keeps its pieces
+-- ---- a sink that stores its pieces
 
 -- the accepted pieces, the number of the call that is to fail, and whether one has failed
 pub record PieceState : Type 0 where
   pub pieces : List (List ℕ)
-  pub refuse_at : ℕ
+  pub fail_at : ℕ
   pub refused : Bool
 
 -- how many calls there were: one for each accepted piece, and the one that failed
 abbrev pub count_of_calls : PieceState → ℕ
 count_of_calls s = length s.pieces + (if s.refused then 1 else 0)
 
--- one call: the piece is accepted and stands last, or the call fails and the pieces are unchanged;
+-- one call: the piece is accepted and becomes the last one, or the call fails and the pieces are unchanged;
 -- the call with the given number fails
 pub record PieceStep (s : PieceState) (piece : List ℕ) (t : PieceState) : Type 0 where
-  pub same_number : t.refuse_at ≡ s.refuse_at
+  pub same_number : t.fail_at ≡ s.fail_at
   pub accepted : t.refused ≡ false → t.pieces ≡ s.pieces ++ piece ∷ []
   pub kept : t.refused ≡ true → t.pieces ≡ s.pieces
-  pub due : length s.pieces + 1 ≡ s.refuse_at → t.refused ≡ true
+  pub due : length s.pieces + 1 ≡ s.fail_at → t.refused ≡ true
 
 -- ---- a text that is passed to a sink in large pieces
 
@@ -53,11 +53,11 @@ pub record PieceStep (s : PieceState) (piece : List ℕ) (t : PieceState) : Type
 abbrev pub hex_bytes : {upper prefix : ℕ} → BufferedHex upper prefix → List ℕ
 hex_bytes h = h.bytes.now
 
--- the size of every piece
-abbrev pub IsCallPiece : List ℕ → Type 0
-IsCallPiece piece = (1 ≤ length piece) × (length piece ≤ 4096)
+-- a piece that a sink receives has 1 to 4096 bytes
+abbrev pub IsSinkPiece : List ℕ → Type 0
+IsSinkPiece piece = (1 ≤ length piece) × (length piece ≤ 4096)
 
--- the size of every piece but the last
+-- each piece but the last has at least 4033 bytes
 abbrev pub IsLargePiece : List ℕ → Type 0
 IsLargePiece piece = 4033 ≤ length piece
 
@@ -68,7 +68,7 @@ all_but_last pieces = take (length pieces - 1) pieces
 -- the pieces together are the text; each has 1 to 4096 bytes, and each but the last at least 4033
 pub record Cut (text : List ℕ) (pieces : List (List ℕ)) : Type 0 where
   pub whole : concat pieces ≡ text
-  pub sizes : All IsCallPiece pieces
+  pub sizes : All IsSinkPiece pieces
   pub large : All IsLargePiece (all_but_last pieces)
 
 -- a sink takes a step for each piece, in order, and has not failed before any of them

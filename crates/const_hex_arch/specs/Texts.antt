@@ -62,8 +62,8 @@ Spells (c ∷ d ∷ u) (b ∷ bs) = IsPair c d b × Spells u bs
 abbrev pub AllDigits : List ℕ → Type 0
 AllDigits u = All IsDigit u
 
--- the first byte that is not a digit stands at p
-pub record FirstBad (u : List ℕ) (p : ℕ) : Type 0 where
+-- the first byte that is not a digit has the index p
+pub record FirstInvalidAt (u : List ℕ) (p : ℕ) : Type 0 where
   pub within : p < length u
   pub before : AllDigits (take p u)
   pub here : IsNone (hex_value (slice_index u p))
@@ -71,10 +71,10 @@ pub record FirstBad (u : List ℕ) (p : ℕ) : Type 0 where
 -- what a rejected text u leaves in an output: its beginning holds the bytes that digits of u decode
 -- to, no more than the pairs before the first invalid character, and the rest is unchanged
 pub record Partial (old u new : List ℕ) : Type 0 where
-  pub bad : ℕ
+  pub invalid_index : ℕ
   pub done : ℕ
-  pub first_bad : FirstBad u bad
-  pub not_past : done ≤ bad / 2
+  pub first_invalid : FirstInvalidAt u invalid_index
+  pub not_past : done ≤ invalid_index / 2
   pub same_length : length new ≡ length old
   pub front : Spells (take (2 * done) u) (take done new)
   pub rest : drop done new ≡ drop done old

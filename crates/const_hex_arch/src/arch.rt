@@ -3,6 +3,7 @@
 ghost use Rattle.std.specs.Prelude.{◌≡◌, Bool, ◌*◌, ◌↔◌, IsTrue, true, false, length, IsAscii};
 ghost use Rattle.const_hex_arch.specs.{HasSpace, IsKernelPiece, Writes, hex_text, AllDigits, Spells, Partial};
 
+mod blocks;
 pub mod by_length;
 pub mod check_first;
 pub mod interleaved;
@@ -12,21 +13,20 @@ pub mod lanes32;
 mod long;
 pub mod plain;
 mod short;
-mod steps;
 
 use crate::arch::lanes32::Lanes32;
 use crate::output::Output;
 
-/// The kernel of every call that does not name one. It is named here and nowhere else. On x86-64 it is made for builds with
-/// AVX2, and slower than `Lanes16` without it.
+/// The kernel of every call that does not name one. It is named here and nowhere else. On x86-64 it is made for builds
+/// with AVX2, and slower than `Lanes16` without it.
 ///
 /// ```rust
 /// assert!(rt; FixedKernel::check(b"6b697769"));
 /// ```
 pub type FixedKernel = Lanes32;
 
-/// Writes a piece of text, by one call, or, if `byte_by_byte` is true, its two bytes by a call each: so do kernels without
-/// vectors in const-hex, and an output sees each call.
+/// Writes a piece of text, by one call, or, if `byte_by_byte` is true, its two bytes by a call each: so do kernels
+/// without vectors in const-hex, and an output sees each call.
 #[inline(always)]
 fn write_piece<O: Output>(piece: &[u8], byte_by_byte: bool, output: &mut O)
     requires ascii { IsAscii piece.now }
@@ -64,9 +64,9 @@ pub trait Kernel {
     /// their output unchanged.
     const USE_CHECK_FN: bool;
 
-    /// How many bytes of text [`encode`](Kernel::encode) passes to its output at once: 1 if the kernel works byte by byte,
-    /// and otherwise an even number up to 64. Other numbers are rounded down to one of these, and 0 counts as 1. A kernel
-    /// with an `encode` of its own may write other pieces.
+    /// How many bytes of text [`encode`](Kernel::encode) passes to its output at once: 1 if the kernel works byte by
+    /// byte, and otherwise an even number up to 64. Other numbers are rounded down to one of these, and 0 counts as 1.
+    /// A kernel with an `encode` of its own may write other pieces.
     const PIECE: usize;
 
     /// Fills the output with two digits for each byte, in order. The output must have exactly the
@@ -81,8 +81,9 @@ pub trait Kernel {
         requires { length output.old ≡ 2 * length input.now }
         ensures { output.new ≡ hex_text upper input.now };
 
-    /// Writes two digits for each byte, in order, in pieces of 1 to 64 bytes: unless a kernel has an `encode` of its own,
-    /// of [`PIECE`](Kernel::PIECE) bytes, of which the last may be shorter. The output must have space for the text.
+    /// Writes two digits for each byte, in order, in pieces of 1 to 64 bytes: unless a kernel has an `encode` of its
+    /// own, of [`PIECE`](Kernel::PIECE) bytes, of which the last may be shorter. The output must have space for the
+    /// text.
     ///
     /// ```rust
     /// let mut text = [0; 8];

@@ -1,7 +1,7 @@
 //! Outputs, to which text is written.
 
 ghost use Rattle.std.specs.Prelude.{◌≡◌, ℕ, ◌<◌, List, [], ◌∷◌, length, Option, IsAscii};
-ghost use Rattle.const_hex_arch.specs.{HasSpace, less_space};
+ghost use Rattle.const_hex_arch.specs.{HasSpace, remaining_space};
 
 pub mod buffered;
 pub mod slice;
@@ -64,5 +64,5 @@ pub trait Output {
 
     /// A write takes its length from the remaining space.
     ghost shrinks: { (s : Self) (piece : List ℕ) (t : Self) → step s piece t
-        → space t ≡ less_space (space s) (length piece) };
+        → space t ≡ remaining_space (space s) (length piece) };
 }

@@ -9,7 +9,7 @@ pub mod pieces;
 use std::error::Error;
 use std::fmt;
 
-/// A sink refused a piece. All values are equal.
+/// A sink rejected a piece. All values are equal.
 ///
 /// ```rust
 /// let mut sink = PieceSink::new(rt.alloc(), 1);
@@ -28,9 +28,9 @@ impl fmt::Display for SinkError {
 
 impl Error for SinkError {}
 
-/// Receives text piece by piece, one call per piece. Any call may be refused.
+/// Receives text piece by piece, one call per piece. Any call may fail.
 ///
-/// Each type says by its `step` what a call does. A sink that has refused may not be called again.
+/// Each type says by its `step` what a call does. After a failed call a sink may not be called again.
 ///
 /// ```rust
 /// fn offer<S: Sink>(sink: &mut S, piece: &str) {
@@ -40,16 +40,16 @@ impl Error for SinkError {}
 /// }
 /// ```
 pub trait Sink {
-    /// What a call does: the state before, the piece that is offered, and the state after.
+    /// What a call does: the state before, the piece that is passed, and the state after.
     ghost step: { Self → List ℕ → Self → Type 0 };
 
-    /// Whether it has refused a piece.
+    /// Whether it has rejected a piece.
     ghost is_refused: { Self → Bool };
 
     /// The pieces that it accepted, in order, if its contract reports them.
     ghost reported: { Self → Option (List (List ℕ)) };
 
-    /// Whether it has refused a piece.
+    /// Whether it has rejected a piece.
     ///
     /// ```rust
     /// assert!(rt; !PieceSink::new(rt.alloc(), 1).refused());
@@ -57,8 +57,8 @@ pub trait Sink {
     fn refused(&self) -> bool
         ensures { result ≡ is_refused self.now };
 
-    /// Offers a piece. Returns `Ok` if the sink accepts it, and an error if it refuses. The sink
-    /// must not have refused before.
+    /// Writes a piece. Returns `Ok` if the sink accepts it, and an error if it rejects it. The sink
+    /// must not have rejected a piece before.
     ///
     /// ```rust
     /// assert!(rt; PieceSink::new(rt.alloc(), 0).write_str("one").is_ok());
@@ -68,12 +68,12 @@ pub trait Sink {
         ensures step { step self.old s.now self.new }
         ensures flag { is_ok result ≡ not (is_refused self.new) };
 
-    /// An accepted piece is the last of `reported`. A refused piece adds nothing to it.
+    /// An accepted piece is the last of `reported`. A rejected piece adds nothing to it.
     ghost reports: { (s : Self) (piece : List ℕ) (t : Self) → step s piece t
         → reported t ≡ reported_after (reported s) (if is_refused t then [] else piece ∷ []) };
 }
 
-/// An error if the sink has refused.
+/// Returns an error if the sink has rejected a piece.
 #[inline]
 pub(crate) fn fail_if_refused<S: Sink>(sink: &S) -> Result<(), SinkError>
     ensures { is_ok result ≡ not (S.is_refused sink.now) }

@@ -9,15 +9,15 @@ use crate::sink::output::SinkOutput;
 use crate::sink::{Sink, SinkError, fail_if_refused};
 use crate::text::{ascii_text, encode_full, fill_text, text_length};
 
-/// How many bytes are gathered for one call of a sink. A text of at most this length is written in
+/// How many bytes are buffered for one call of a sink. A text of at most this length is written in
 /// one call.
-const GATHERED: usize = 4096;
+const BUFFER_SIZE: usize = 4096;
 
 /// The size of the buffer for a short text. A smaller buffer is cleared faster.
-const SHORT: usize = 256;
+const SMALL_BUFFER_SIZE: usize = 256;
 
 /// The size of the buffer for a text of medium length.
-const MIDDLE: usize = 1024;
+const MEDIUM_BUFFER_SIZE: usize = 1024;
 
 /// Bytes that are written as text, in uppercase or lowercase, with or without `0x` before it.
 ///
@@ -51,8 +51,8 @@ impl<'a, const UPPER: bool, const PREFIX: bool> BufferedHex<'a, UPPER, PREFIX> {
         BufferedHex { bytes }
     }
 
-    /// Writes the text by the fixed kernel to a sink that has not refused. Returns `Ok` if the sink
-    /// accepted all of it, and an error if it refused a piece.
+    /// Writes the text by the fixed kernel to a sink that has not failed. Returns `Ok` if the sink
+    /// accepted all of it, and an error if it rejected a piece.
     ///
     /// ```rust
     /// let mut sink = PieceSink::new(rt.alloc(), 1);
@@ -81,14 +81,14 @@ impl<'a, const UPPER: bool, const PREFIX: bool> BufferedHex<'a, UPPER, PREFIX> {
             (full_text PREFIX UPPER (hex_bytes self.now)) (is_ok result) sink.new }
     {
         let size = text_length(PREFIX, self.bytes.len());
-        if size <= SHORT {
-            self.write_whole::<K, S, SHORT>(sink)
-        } else if size <= MIDDLE {
-            self.write_whole::<K, S, MIDDLE>(sink)
-        } else if size <= GATHERED {
-            self.write_whole::<K, S, GATHERED>(sink)
+        if size <= SMALL_BUFFER_SIZE {
+            self.write_whole::<K, S, SMALL_BUFFER_SIZE>(sink)
+        } else if size <= MEDIUM_BUFFER_SIZE {
+            self.write_whole::<K, S, MEDIUM_BUFFER_SIZE>(sink)
+        } else if size <= BUFFER_SIZE {
+            self.write_whole::<K, S, BUFFER_SIZE>(sink)
         } else {
-            self.gather::<K, S>(sink)
+            self.write_buffered::<K, S>(sink)
         }
     }
 
@@ -110,16 +110,18 @@ impl<'a, const UPPER: bool, const PREFIX: bool> BufferedHex<'a, UPPER, PREFIX> {
         sink.write_str(ascii_text(text))
     }
 
-    /// As `write_with`, with up to 4096 bytes gathered for each call.
+    /// As `write_with`, with up to 4096 bytes buffered for each call.
     // Not inlined: the machine code for long texts is faster on its own.
     #[inline(never)]
-    fn gather<K: Kernel, S: Sink>(&self, sink: &mut S) -> Result<(), SinkError>
+    fn write_buffered<K: Kernel, S: Sink>(&self, sink: &mut S) -> Result<(), SinkError>
         requires { S.is_refused sink.old ≡ false }
         ensures { StreamsWhole S.step S.is_refused S.reported sink.old
             (full_text PREFIX UPPER (hex_bytes self.now)) (is_ok result) sink.new }
     {
-        let mut output = BufferedOutput::<SinkOutput<'_, S>, GATHERED>::new(SinkOutput::new(sink));
-        encode_full::<K, BufferedOutput<SinkOutput<'_, S>, GATHERED>>(
+        let mut output = BufferedOutput::<SinkOutput<'_, S>, BUFFER_SIZE>::new(SinkOutput::new(
+            sink,
+        ));
+        encode_full::<K, BufferedOutput<SinkOutput<'_, S>, BUFFER_SIZE>>(
             self.bytes,
             PREFIX,
             UPPER,

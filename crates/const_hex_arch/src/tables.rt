@@ -138,12 +138,12 @@ pub fn is_digit(byte: u8) -> bool
 pub(crate) fn digits_at<const PAIRS: bool>(upper: bool, b: u8) -> [u8; 2]
     ensures { result ≡ hex_digit upper (b / 16) ∷ hex_digit upper (b % 16) ∷ [] }
 {
-    let at = 2 * b as usize;
+    let index = 2 * b as usize;
     if !PAIRS {
         [digit_at(upper, b / 16), digit_at(upper, b % 16)]
     } else if upper {
-        [PAIRS_UPPER[at], PAIRS_UPPER[at + 1]]
+        [PAIRS_UPPER[index], PAIRS_UPPER[index + 1]]
     } else {
-        [PAIRS_LOWER[at], PAIRS_LOWER[at + 1]]
+        [PAIRS_LOWER[index], PAIRS_LOWER[index + 1]]
     }
 }

@@ -5,7 +5,7 @@ ghost use Rattle.const_hex.specs.Messages.{message_text};
 ghost use Rattle.const_hex.specs.declared.error.FromHexError.TheVariants.{InvalidHexCharacter};
 ghost use Rattle.const_hex_c.specs.Errors.{struct_of};
 
-use crate::message::{LONGEST, prepend_character};
+use crate::message::{MAX_MESSAGE, prepend_character};
 use const_hex::FromHexError;
 
 /// The kind of a text with an odd number of bytes.
@@ -48,7 +48,7 @@ impl From<FromHexError> for HexError {
 impl HexError {
     /// Its message, in `space`, if it stands for an invalid character. Otherwise the result is empty.
     #[inline(always)]
-    pub(crate) fn character_message<'a>(&self, space: &'a mut [u8; LONGEST]) -> &'a [u8]
+    pub(crate) fn character_message<'a>(&self, space: &'a mut [u8; MAX_MESSAGE]) -> &'a [u8]
         ensures { result.now ≡ if (self.now.kind == 3) && nat_lt self.now.byte 256
             then message_text (InvalidHexCharacter self.now.byte self.now.index) else [] }
     {
@@ -57,7 +57,7 @@ impl HexError {
                 let start = prepend_character(byte, self.index, space);
                 &space[start..]
             }
-            _ => &space[LONGEST..],
+            _ => &space[MAX_MESSAGE..],
         }
     }
 }

@@ -36,7 +36,7 @@ pub(crate) fn has_nul(flags: u32) -> bool
     flags / 4 % 2 == 0
 }
 
-/// The length of the text of so many bytes, if it fits into a `usize`. This holds for every number, also
+/// The length of the text of `bytes_length` bytes, if it fits into a `usize`. This holds for every number, also
 /// for a length that no slice has, since a caller in C may pass it.
 #[inline(always)]
 pub(crate) fn length_of(flags: u32, bytes_length: usize) -> Option<usize>
@@ -47,11 +47,11 @@ pub(crate) fn length_of(flags: u32, bytes_length: usize) -> Option<usize>
     bytes_length.checked_mul(2)?.checked_add(prefix)
 }
 
-/// The size of what is written beside the digits: the prefix and the NUL.
+/// The size of the prefix and the NUL, if they are written.
 // Not by `length_of`: a sum with the NUL that saturates would cost `const_hex_encoded_size` four
 // instructions more.
 #[inline(always)]
-pub(crate) fn size_beside(flags: u32) -> usize
+pub(crate) fn size_of_extras(flags: u32) -> usize
     ensures { result ≡ size_of flags 0 }
 {
     (if has_prefix(flags) { 2 } else { 0 }) + if has_nul(flags) { 1 } else { 0 }
@@ -61,7 +61,7 @@ pub(crate) fn size_beside(flags: u32) -> usize
 /// NUL do not fit, or if a flag is not known; the buffer is then unchanged.
 #[inline(always)]
 #[tactic(auto, using(crate::proofs::lemmas::Ends::after_nul))]
-pub(crate) fn end_text(text: &mut [u8], end: usize, flags: u32) -> bool
+pub(crate) fn terminate(text: &mut [u8], end: usize, flags: u32) -> bool
     ensures fits { IsTrue result
         ↔ AreFlags flags × (end + (if has_nul flags then 1 else 0) ≤ length text.old) }
     ensures ended { IsTrue result → drop end text.new ≡ after_text flags end text.old }

@@ -27,9 +27,9 @@ mod message;
 
 pub use crate::error::HexError;
 use crate::error::{INVALID_LENGTH, NO_MEMORY, ODD_LENGTH};
-use crate::flags::{are_flags, clear, end_text, has_prefix, is_upper, length_of, size_beside};
+use crate::flags::{are_flags, clear, has_prefix, is_upper, length_of, size_of_extras, terminate};
 use crate::kernel::Linked;
-use crate::message::{LONGEST, write_ended};
+use crate::message::{MAX_MESSAGE, write_ended};
 use const_hex::{Decoder, Kernel};
 
 /// Returns the size of the buffer that [`const_hex_encode`] needs: the text, and a NUL unless the flags
@@ -44,11 +44,11 @@ pub extern "C" fn const_hex_encoded_size(bytes_length: usize, flags: u32) -> usi
     ensures size { AreFlags flags → result ≡ min (size_of flags bytes_length) usize.MAX }
     ensures unknown { 8 ≤ flags → result ≡ usize.MAX }
 {
-    let beside = size_beside(flags);
-    if !are_flags(flags) || bytes_length > (usize::MAX - beside) / 2 {
+    let extras = size_of_extras(flags);
+    if !are_flags(flags) || bytes_length > (usize::MAX - extras) / 2 {
         return usize::MAX;
     }
-    2 * bytes_length + beside
+    2 * bytes_length + extras
 }
 
 /// Writes the text of the bytes and a NUL, in lowercase and without a prefix. The flags ask for
@@ -71,7 +71,7 @@ pub extern "C" fn const_hex_encode(bytes: &[u8], text: &mut [u8], flags: u32) ->
     ensures emptied { result ≡ false → text.new ≡ emptied flags text.old }
 {
     match length_of(flags, bytes.len()) {
-        Some(length) if end_text(text, length, flags) => {
+        Some(length) if terminate(text, length, flags) => {
             let (prefix, upper) = (has_prefix(flags), is_upper(flags));
             const_hex::fill_text::<Linked>(bytes, prefix, upper, &mut text[..length]);
             true
@@ -316,7 +316,7 @@ pub extern "C" fn const_hex_error_message(error: &HexError, message: &mut [u8]) 
         INVALID_LENGTH => write_ended(b"invalid string length", message),
         NO_MEMORY => write_ended(b"out of memory", message),
         _ => {
-            let mut space = [0; LONGEST];
+            let mut space = [0; MAX_MESSAGE];
             write_ended(error.character_message(&mut space), message)
         }
     }

@@ -6,13 +6,12 @@ ghost use Rattle.const_hex.specs.declared.error.FromHexError.TheVariants.{Invali
 
 use const_hex::digit_at;
 
-/// The length of the longest message: 19 bytes, at most 6 that show the character, 14 bytes, and at
-/// most 20 digits.
-pub(crate) const LONGEST: usize = 59;
+/// The length of the longest message: 19 bytes, at most 6 for the character, 14 bytes, and at most 20 digits.
+pub(crate) const MAX_MESSAGE: usize = 59;
 
 /// Puts the text before what starts at `start`, and returns where it starts.
 #[inline(always)]
-fn prepend(text: &[u8], start: usize, space: &mut [u8; LONGEST]) -> usize
+fn prepend(text: &[u8], start: usize, space: &mut [u8; MAX_MESSAGE]) -> usize
     requires { (length text.now ≤ start) × (start ≤ 59) }
     ensures start { result + length text.now ≡ start }
     ensures text { drop result space.new ≡ text.now ++ drop start space.old }
@@ -24,25 +23,26 @@ fn prepend(text: &[u8], start: usize, space: &mut [u8; LONGEST]) -> usize
 
 /// Puts the decimal digits of the number at the end, and returns where they start.
 #[inline(always)]
-fn prepend_decimal(number: usize, space: &mut [u8; LONGEST]) -> usize
+fn prepend_decimal(number: usize, space: &mut [u8; MAX_MESSAGE]) -> usize
     ensures start { (39 ≤ result) × (result ≤ 59) }
     ensures digits { drop result space.new ≡ decimal number }
 {
-    let mut start = LONGEST;
-    let mut left = number;
-    'digits: while left >= 10 {
+    let mut start = MAX_MESSAGE;
+    let mut quotient = number;
+    'digits: while quotient >= 10 {
         start -= 1;
-        space[start] = b'0' + (left % 10) as u8;
-        left /= 10;
+        space[start] = b'0' + (quotient % 10) as u8;
+        quotient /= 10;
     }
     start -= 1;
-    space[start] = b'0' + left as u8;
+    space[start] = b'0' + quotient as u8;
     start
 }
 
-/// Puts what shows the character before what starts at `start`, and returns where it starts.
+/// Puts the character, as an escape sequence if it needs one, before what starts at `start`, and returns where it
+/// starts.
 #[inline(always)]
-fn prepend_shown(byte: u8, start: usize, space: &mut [u8; LONGEST]) -> usize
+fn prepend_escaped(byte: u8, start: usize, space: &mut [u8; MAX_MESSAGE]) -> usize
     requires { (6 ≤ start) × (start ≤ 59) }
     ensures start { (start ≤ result + 6) × (result ≤ start) }
     ensures text { drop result space.new ≡ shown byte ++ drop start space.old }
@@ -69,13 +69,13 @@ fn prepend_shown(byte: u8, start: usize, space: &mut [u8; LONGEST]) -> usize
 
 /// Puts the message of an invalid character at the end, and returns where it starts.
 #[inline(always)]
-pub(crate) fn prepend_character(byte: u8, index: usize, space: &mut [u8; LONGEST]) -> usize
+pub(crate) fn prepend_character(byte: u8, index: usize, space: &mut [u8; MAX_MESSAGE]) -> usize
     ensures start { result ≤ 59 }
     ensures text { drop result space.new ≡ message_text (InvalidHexCharacter byte index) }
 {
     let start = prepend_decimal(index, space);
     let start = prepend(b"' at position ", start, space);
-    let start = prepend_shown(byte, start, space);
+    let start = prepend_escaped(byte, start, space);
     prepend(b"invalid character '", start, space)
 }
 

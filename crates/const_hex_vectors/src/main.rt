@@ -72,7 +72,7 @@ fn encode<K: Kernel>(rt: &impl Print) {
 /// The calls that return something else than the line's result, and what they return.
 fn compare(alloc: Global, line: &str) -> AllocResult<String> {
     let mut columns = line.split('\t');
-    let (question, number, times) = parse_question(columns.next().unwrap_or(""));
+    let (operation, number, times) = parse_operation(columns.next().unwrap_or(""));
     let input = unescape(alloc, parse_cell(columns.next()))?;
     let input = input.repeat(alloc, times)?;
     let result = parse_cell(columns.next()).repeat(alloc, times)?;
@@ -82,22 +82,22 @@ fn compare(alloc: Global, line: &str) -> AllocResult<String> {
         result: &result,
         failures: String::new(alloc),
     };
-    run_question(&mut line, question, number)?;
+    run_operation(&mut line, operation, number)?;
     Ok(line.failures)
 }
 
-/// The question, its number, and how many times both columns are repeated.
-fn parse_question(column: &str) -> (&str, usize, usize) {
-    let (question, number) = column.split_once(' ').unwrap_or((column, ""));
+/// The operation, its number, and how many times both columns are repeated.
+fn parse_operation(column: &str) -> (&str, usize, usize) {
+    let (operation, number) = column.split_once(' ').unwrap_or((column, ""));
     let number = number.parse().unwrap_or(0);
-    match question.split_once("-times") {
-        Some((question, _)) => (question, 0, number),
-        None => (question, number, 1),
+    match operation.split_once("-times") {
+        Some((operation, _)) => (operation, 0, number),
+        None => (operation, number, 1),
     }
 }
 
-fn run_question(line: &mut Line<'_>, question: &str, number: usize) -> AllocResult<()> {
-    match question {
+fn run_operation(line: &mut Line<'_>, operation: &str, number: usize) -> AllocResult<()> {
+    match operation {
         "write" => encoding::write(line),
         "write-into" => encoding::write_into(line, number),
         "read" => decoding::read(line),
@@ -115,6 +115,6 @@ fn run_question(line: &mut Line<'_>, question: &str, number: usize) -> AllocResu
         "values-of-block" => Ok(lanes::values(line)),
         "write-block" => Ok(lanes::text(line)),
         "read-block" => lanes::bytes(line),
-        _ => Ok(line.expect_eq("unknown question", question, "")),
+        _ => Ok(line.expect_eq("unknown operation", operation, "")),
     }
 }

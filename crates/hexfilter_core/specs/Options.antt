@@ -106,15 +106,15 @@ request o count =
     if is_some o.value then Err (record { kind = MissingValue; index = count - 1 })
     else if o.help then Ok Help else if o.version then Ok Version else Ok (Run m o.file)
 
--- f of the options, or the error of the argument i
-abbrev pub at : ℕ → Result Options UsageErrorKind → (Options → Result Request UsageError) → Result Request UsageError
-at i (Ok o) f = f o
-at i (Err e) f = Err (record { kind = e; index = i })
+-- f of the options that the argument i leads to, or its error
+abbrev pub at_argument : ℕ → Result Options UsageErrorKind → (Options → Result Request UsageError) → Result Request UsageError
+at_argument i (Ok o) f = f o
+at_argument i (Err e) f = Err (record { kind = e; index = i })
 
 -- the arguments from the number i on
 unfoldable pub with_arguments : Options → ℕ → List (List ℕ) → Result Request UsageError
 with_arguments o i [] = request o i
-with_arguments o i (a ∷ rest) = at i (with_argument o i a) (λ p. with_arguments p (i + 1) rest)
+with_arguments o i (a ∷ rest) = at_argument i (with_argument o i a) (λ p. with_arguments p (i + 1) rest)
 
 -- no option is set
 abbrev pub start : Options

@@ -29,7 +29,7 @@ fn read_as<T: FromHex<Error = const_hex_proved::FromHexError> + AsRef<[u8]>>(
     value: &Value,
 ) {
     let found: Result<T, serde_json::Error> = deserialize(value);
-    match (&*line.question, &line.result, found) {
+    match (&*line.operation, &line.result, found) {
         ("json-message", Ok(_), Err(error)) => {
             assert!(error.to_string().ends_with(&line.string()), "{}", line.text)
         }

@@ -7,7 +7,7 @@ use const_hex_proved::FromHexError::{self, *};
 pub struct Line {
     pub text: String,
     /// What the line tests.
-    pub question: String,
+    pub operation: String,
     /// The length of the output, if the line has one.
     pub number: Option<usize>,
     /// The bytes or the text that are passed.
@@ -23,16 +23,16 @@ impl Line {
             return None;
         }
         let cells: Vec<&str> = text.split('\t').collect();
-        let (question, number) = cells[0].split_once(' ').unwrap_or((cells[0], ""));
+        let (operation, number) = cells[0].split_once(' ').unwrap_or((cells[0], ""));
         let number = number.parse().ok();
-        let times = if question.ends_with("-times") {
+        let times = if operation.ends_with("-times") {
             number.unwrap()
         } else {
             1
         };
         Some(Line {
             text: text.to_string(),
-            question: question.to_string(),
+            operation: operation.to_string(),
             number,
             input: bytes_of(cells[1]).repeat(times),
             result: match error_of(cells[2]) {

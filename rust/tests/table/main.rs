@@ -20,7 +20,7 @@ fn each_line() {
 }
 
 fn run(line: &Line) {
-    match (&*line.question, line.number) {
+    match (&*line.operation, line.number) {
         ("write", None) => {
             encoding::write(line);
             #[cfg(feature = "serde")]
@@ -41,6 +41,6 @@ fn run(line: &Line) {
         // What this crate does not have: kernels and sinks.
         ("fronts" | "pieces" | "calls", _) => {}
         ("values-of-block" | "write-block" | "read-block", None) => {}
-        _ => panic!("a question that is not known: {}", line.text),
+        _ => panic!("an operation that is not known: {}", line.text),
     }
 }

@@ -1,4 +1,6 @@
--- The characters that an iterator has left.
+-- The characters that the iterator `BytesToHexChars` has left.
+--
+-- `low` is the second character of a byte whose first was returned, and `u` are the bytes of which none was.
 use mir.Val.{bool_byte}
 use Rattle.std.proofs.Common.{◌≡◌, ℕ, ◌+◌, ◌*◌, ◌/◌, ◌%◌, Bool, List, [], ◌∷◌, length, Option, None, refl, arith, is_some}
 use Rattle.std.proofs.lemmas.List.{nil_from_length}

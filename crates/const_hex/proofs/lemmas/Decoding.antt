@@ -1,11 +1,15 @@
 -- A text that arrives in chunks: the state of a `Decoder` after one more chunk, with or without an error.
+--
+-- `d` is the decoder before the chunk and `e` after it, `t` is the text that it has read, `bs` are the bytes that it
+-- has written, and `r` is the fact that it has (`HasRead`). `old` and `new` are the output before and after, `u` is a
+-- text of digits.
 use Rattle.std.proofs.Common.{◌≡◌, ◌≤◌, ◌*◌, ◌/◌, ℕ, List, ◌++◌, length, take, drop, refl, arith, ◌+◌, ◌-◌, ◌%◌, ◌≢◌, [], ◌∷◌, slice_index, None, Ok, sym, ap, ◌∙◌, length-append, length-drop}
 use Rattle.std.proofs.lemmas.Grind.{common_steps}
 use Rattle.std.proofs.lemmas.List.{take-append-drop, take-append-le, drop-append-le, append_assoc, append-nil, get_or_append_left, get_or-append-add, length-take, take_all, take_at, drop_all, drop_at}
 use Rattle.std.proofs.lemmas.List.Elements.{All-drop, All-take}
-use Rattle.const_hex.specs.Prelude.{Partial, IsOdd, Reads, body_of, HasRead, NamesInvalidSaturated, saturated, error_of, position_of, pending_digit, body-parity, Decoder, IsDigit, AllDigits, FirstBad, Spells}
+use Rattle.const_hex.specs.Prelude.{Partial, IsOdd, Reads, body_of, HasRead, NamesInvalidSaturated, saturated, error_of, position_of, pending_digit, body-parity, Decoder, IsDigit, AllDigits, FirstInvalidAt, Spells}
 use Rattle.const_hex_arch.proofs.lemmas.Digits.{digits_append}
-use Rattle.const_hex_arch.proofs.lemmas.FirstInvalid.{FirstBad-after, Spells-some, Partial-after, none_decoded}
+use Rattle.const_hex_arch.proofs.lemmas.FirstInvalid.{FirstInvalidAt-after, Spells-some, Partial-after, none_decoded}
 use Rattle.const_hex_arch.proofs.lemmas.Texts.{Spells-append, Spells-digits, Spells-length}
 
 -- ---- what an output holds after an error, if only its front was to be filled
@@ -16,13 +20,13 @@ pub partial_pairs : (old u new : List ℕ) (n : ℕ) → n ≤ length old → le
 partial_pairs old u new n within sized p =
     let front = take n old in
     let other = drop n old in
-    let bad = p.first_bad.within in
+    let inside = p.first_invalid.within in
     let in_new : p.done ≤ length new = grind (arith, common_steps) in
     let in_old : p.done ≤ length front = grind (arith, common_steps) in
     record {
-      bad = p.bad;
+      invalid_index = p.invalid_index;
       done = p.done;
-      first_bad = p.first_bad;
+      first_invalid = p.first_invalid;
       not_past = p.not_past;
       same_length = grind (arith, common_steps);
       front = rw (take-append-le p.done new other in_new) p.front;
@@ -35,15 +39,15 @@ partial_pairs old u new n within sized p =
 -- a text with an invalid character has it also if more text follows
 pub Partial-longer : (old u new v : List ℕ) → Partial old u new → Partial old (u ++ v) new
 Partial-longer old u new v p =
-    let inside = p.first_bad.within in
+    let inside = p.first_invalid.within in
     let early : 2 * p.done ≤ length u = omega (arith, p.not_past) in
     record {
-      bad = p.bad;
+      invalid_index = p.invalid_index;
       done = p.done;
-      first_bad = record {
+      first_invalid = record {
         within = omega (arith, length-append u v);
-        before = rw (take-append-le p.bad u v (omega arith)) p.first_bad.before;
-        here = rw (get_or_append_left u v 0 p.bad inside) p.first_bad.here;
+        before = rw (take-append-le p.invalid_index u v (omega arith)) p.first_invalid.before;
+        here = rw (get_or_append_left u v 0 p.invalid_index inside) p.first_invalid.here;
       };
       not_past = p.not_past;
       same_length = p.same_length;
@@ -134,7 +138,7 @@ module _ (d : Decoder) (chunk w digits : List ℕ)
 
   -- the first invalid character is in the chunk, at the position that `fail` computes: only the skipped bytes of the
   -- chunk come before the digits
-  pub first_invalid_in_chunk : (p : ℕ) → length digits ≤ length chunk → FirstBad digits p
+  pub first_invalid_in_chunk : (p : ℕ) → length digits ≤ length chunk → FirstInvalidAt digits p
       → NamesInvalidSaturated (t ++ chunk) (slice_index digits p)
       (saturated (position_of d + (length chunk - length digits) + p))
   first_invalid_in_chunk p shorter f =
@@ -143,8 +147,8 @@ module _ (d : Decoder) (chunk w digits : List ℕ)
       let fine = (digits_append r.pairs w).1 (Spells-digits _ _ r.decoded, fine r.pending_valid) in
       let before = r.position in
       let parts = ap length body ∙ length-append v digits in
-      let named : FirstBad (v ++ digits) (length v + p) =
-      FirstBad-after (length v) (v ++ digits) p (rw (take_at v digits (length v) refl) fine)
+      let named : FirstInvalidAt (v ++ digits) (length v + p) =
+      FirstInvalidAt-after (length v) (v ++ digits) p (rw (take_at v digits (length v) refl) fine)
       (omega (arith, length-append v digits))
       (rw (drop_at v digits (length v) refl) f) in (
         length v + p + (length (t ++ chunk) - length (body_of (t ++ chunk))),

@@ -1,4 +1,7 @@
 -- Texts that are written to a formatter in pieces.
+--
+-- `s` and `t` are the states of a sink over the formatter, before and after, and `m` is one in between. `ps` are the
+-- pieces.
 use Rattle.std.proofs.Common.{◌≡◌, ℕ, Bool, false, List, [], ◌∷◌, refl, subst, ◌∙◌, Result}
 use Rattle.std.specs.List.{concat}
 use Rattle.std.specs.Fmt.{WritesOnOk, WritesStyledOnOk, formatter_spec, spec_alternate}

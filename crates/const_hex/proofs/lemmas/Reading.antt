@@ -1,33 +1,35 @@
 -- Each text has exactly one result when it is decoded.
+--
+-- `t` is the text, `r` and `s` are results for it, and `h` and `k` are the facts that they are.
 use Rattle.std.proofs.Common.{◌≡◌, ℕ, ◌*◌, List, length, Result, Ok, Err, refl, ap, ◌∙◌, arith, eqb-true, eq-eqb, IsOk, IsTrue, ◌↔◌}
 use Rattle.std.proofs.lemmas.Bool.{and_parts, and_from}
 use Rattle.std.proofs.lemmas.List.Sums.{AllPass-from_list_all, list_all-from_AllPass}
-use Rattle.const_hex.specs.Prelude.{Spells, AllDigits, FirstBad, body_of, Reads, ReadsSized, Checks, ChecksText, IsEven, is_text_of, body-parity, FromHexError}
-use Rattle.const_hex_arch.proofs.lemmas.FirstInvalid.{Spells-some, FirstBad-same, digits_no_bad}
+use Rattle.const_hex.specs.Prelude.{Spells, AllDigits, FirstInvalidAt, body_of, Reads, ReadsSized, Checks, ChecksText, IsEven, is_text_of, body-parity, FromHexError}
+use Rattle.const_hex_arch.proofs.lemmas.FirstInvalid.{Spells-some, FirstInvalidAt-unique, digits_not_invalid}
 use Rattle.const_hex_arch.proofs.lemmas.Texts.{Spells-same, Spells-digits}
 
 -- no text decodes to bytes and has an invalid character
-pub Spells-no_bad : (u bs : List ℕ) (p : ℕ) → Spells u bs → FirstBad u p → ⊥
-Spells-no_bad u bs p s f = digits_no_bad u p (Spells-digits u bs s) f
+pub Spells-not_invalid : (u bs : List ℕ) (p : ℕ) → Spells u bs → FirstInvalidAt u p → ⊥
+Spells-not_invalid u bs p s f = digits_not_invalid u p (Spells-digits u bs s) f
 
 -- the result of `Reads` is unique
 pub result_unique : (t : List ℕ) (r s : Result (List ℕ) FromHexError) → Reads t r → Reads t s → r ≡ s
 result_unique t (Ok a) (Ok b) h k = ap Ok (Spells-same (body_of t) a b h.1 k.1)
-result_unique t (Err e) (Err f) h k = ap Err (grind (arith, FirstBad-same))
-result_unique t _ _ h k = absurd (grind (arith, Spells-no_bad))
+result_unique t (Err e) (Err f) h k = ap Err (grind (arith, FirstInvalidAt-unique))
+result_unique t _ _ h k = absurd (grind (arith, Spells-not_invalid))
 
 -- the result of `ReadsSized` is unique
 pub sized_result_unique : (t : List ℕ) (n : ℕ) (r s : Result (List ℕ) FromHexError) → ReadsSized t n r
     → ReadsSized t n s → r ≡ s
 sized_result_unique t n (Ok a) (Ok b) h k = result_unique t (Ok a) (Ok b) h.1 k.1
-sized_result_unique t n (Err e) (Err f) h k = ap Err (grind (arith, FirstBad-same))
-sized_result_unique t n _ _ h k = absurd (grind (arith, Spells-no_bad))
+sized_result_unique t n (Err e) (Err f) h k = ap Err (grind (arith, FirstInvalidAt-unique))
+sized_result_unique t n _ _ h k = absurd (grind (arith, Spells-not_invalid))
 
 -- the result of `Checks` is unique
 pub check_result_unique : (t : List ℕ) (r s : Result Unit FromHexError) → Checks t r → Checks t s → r ≡ s
 check_result_unique t (Ok u) (Ok v) h k = refl
 check_result_unique t (Err e) (Err f) h k = cc (result_unique t (Err e) (Err f) h k)
-check_result_unique t _ _ h k = absurd (grind (arith, Spells-no_bad))
+check_result_unique t _ _ h k = absurd (grind (arith, Spells-not_invalid))
 
 -- ---- the results of the functions
 
@@ -60,7 +62,7 @@ sized_accepts n t (Ok bs) h = (
 )
 sized_accepts n t (Err e) h = (
   λ is_ok. absurd (cc is_ok),
-  λ accepted. absurd (grind (arith, digits_no_bad, body-parity, is_text-parts n t accepted)),
+  λ accepted. absurd (grind (arith, digits_not_invalid, body-parity, is_text-parts n t accepted)),
 )
 
-pub ruleset checked = (Reads-digits, Spells-no_bad)
+pub ruleset checked = (Reads-digits, Spells-not_invalid)

@@ -1,4 +1,6 @@
 -- Encoded text decodes to the same bytes, and the decoded bytes encode to the text in lowercase.
+--
+-- `t` and `u` are texts, `bs` are bytes, `r` is the result of decoding `t`, and `up` asks for uppercase.
 use Rattle.std.proofs.Common.{◌≡◌, ℕ, ◌+◌, ◌/◌, ◌%◌, nat_le, ◌&&◌, if◌then◌else◌, false, List, [], ◌∷◌, Some, refl, sym, ◌∙◌, arith, ◌↔◌, ◌*◌, Bool, true, length, Result, Ok, Err, IfOk, IfErr, ◌≢◌}
 use Rattle.std.proofs.lemmas.Bool.Decides.{nat_tests}
 use Rattle.const_hex.specs.Prelude.{hex_value, hex_digit, hex_text, Spells, lowered, full_text, body_of, Reads, ReadsSized, IsOdd, AreBytes, Decodes, DecodesToArray, FromHexError, NoMemory, OddLength}
@@ -74,6 +76,7 @@ Decodes-from items t (Err f) ok err odd = record {
   agree = λ u bs k. tt;
 }
 
+-- two texts decode to the same n bytes if and only if they are the same in lowercase
 pub sized_agree : (n : ℕ) (t : List ℕ) (r : Result (List ℕ) FromHexError) → ReadsSized t n r
     → (u bs : List ℕ) → ReadsSized u n (Ok bs) → IfOk r (λ v. (bs ≡ v) ↔ (lowered (body_of u) ≡ lowered (body_of t)))
 sized_agree n t (Ok v) h u bs k = Spells-agree (body_of u) (body_of t) bs v k.1.1 h.1.1

@@ -1,4 +1,7 @@
 -- Lemmas for the search for the first invalid character.
+--
+-- `b` and `c` are bytes, and `v` and `w` are what the table has for them: the value of a digit, or 255. `u` is the
+-- text, and its first `i` bytes are digits.
 use Rattle.std.proofs.Common.{◌≡◌, ◌≢◌, ◌+◌, ◌<◌, ◌↔◌, ℕ, List, length, take, get_or, bit_or, ltb, IsTrue, arith}
 use Rattle.std.proofs.lemmas.Bool.Decides.{nat_tests}
 use Rattle.const_hex.specs.Prelude.{AllDigits, IsDigit, value_or_nil, hex_value}

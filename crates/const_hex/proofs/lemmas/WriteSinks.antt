@@ -1,4 +1,7 @@
 -- Texts that are written to a writer in pieces.
+--
+-- `s` and `t` are the states of a `WriteSink` before and after, `m` is one in between, and `ps` are the pieces. In the
+-- loop that writes one piece, `done` bytes are written, and the writer accepts `n` more.
 use Rattle.std.proofs.Common.{◌≡◌, ℕ, ◌+◌, ◌-◌, ◌≤◌, true, false, List, [], ◌∷◌, ◌++◌, length, take, drop, Option, sym, ap, ◌∙◌, arith, inl, inr, min, Some, None, is_some, IfSome, ◌≢◌}
 use Rattle.std.proofs.lemmas.Bool.{cases_Bool, false_from_ne_true}
 use Rattle.std.proofs.KnownBytes.{Appends-kept, Appends-nil, Appends-trans}

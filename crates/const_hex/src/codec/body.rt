@@ -2,7 +2,7 @@
 //! character, and decoding with a kernel.
 
 ghost use Rattle.std.specs.Prelude.{◌≡◌, ◌+◌, ◌-◌, ◌*◌, ◌%◌, ◌<◌, ◌≤◌, ◌==◌, ◌&&◌, ◌||◌, ◌↔◌, true, false, length, take, drop, slice_index, Err, IfErr, IfOk, IsTrue};
-ghost use Rattle.const_hex_arch.specs.Texts.{AllDigits, IsDigit, FirstBad, Spells, Partial};
+ghost use Rattle.const_hex_arch.specs.Texts.{AllDigits, IsDigit, FirstInvalidAt, Spells, Partial};
 ghost use Rattle.const_hex.specs.Results.{IsEven, IsOdd, NamesFirstInvalid, Reads, body_of};
 ghost use Rattle.const_hex.specs.declared.error.FromHexError.TheVariants.{OddLength, InvalidHexCharacter};
 
@@ -69,8 +69,8 @@ pub(crate) fn find_invalid_character<K: Kernel>(text: &[u8]) -> FromHexError
 
 /// The first byte after the prefix that is not a digit, and its position in the whole text. If there is
 /// none, a NUL character and the length of the text.
-// Not inlined, so the search is compiled once for each kernel. It takes only the text and strips the prefix again, so that
-// the public decoders keep nothing else for it. It returns a pair, which fits into registers.
+// Not inlined, so the search is compiled once for each kernel. It takes only the text and strips the prefix again, so
+// that the public decoders keep nothing else for it. It returns a pair, which fits into registers.
 #[cold]
 #[inline(never)]
 fn locate_invalid<K: Kernel>(text: &[u8]) -> (char, usize)
@@ -96,7 +96,7 @@ pub(crate) fn invalid_character(byte: u8, index: usize) -> FromHexError
 /// length of the text.
 #[inline(always)]
 pub(crate) fn find_first_invalid<K: Kernel>(text: &[u8]) -> (u8, usize)
-    ensures invalid { (AllDigits text.now → ⊥) → FirstBad text.now result.1 }
+    ensures invalid { (AllDigits text.now → ⊥) → FirstInvalidAt text.now result.1 }
     ensures byte { result.0 ≡ slice_index text.now result.1 }
     ensures within { result.1 ≤ length text.now }
 {
@@ -111,8 +111,8 @@ pub(crate) fn find_first_invalid<K: Kernel>(text: &[u8]) -> (u8, usize)
 
 /// An index before which all bytes are digits, found by binary search: the kernel checks the first half of the text,
 /// then the first half of the half that has an invalid byte, and so on, until 1/64 of the text is left.
-// Not inlined: so the tool `machine_code` proves its machine code once, and uses its contract at the call. It has no loop,
-// since the tool cannot prove a call in one.
+// Not inlined: so the tool `machine_code` proves its machine code once, and uses its contract at the call. It has no
+// loop, since the tool cannot prove a call in one.
 #[inline(never)]
 fn skip_halves<K: Kernel>(text: &[u8]) -> usize
     ensures digits { AllDigits (take result text.now) }
@@ -148,7 +148,7 @@ fn skip_if_digits<K: Kernel>(text: &[u8], start: usize, size: usize) -> usize
 #[inline(always)]
 pub(crate) fn find_first_invalid_from(text: &[u8], start: usize) -> (u8, usize)
     requires { AllDigits (take start text.now) × start ≤ length text.now }
-    ensures invalid { (AllDigits text.now → ⊥) → FirstBad text.now result.1 }
+    ensures invalid { (AllDigits text.now → ⊥) → FirstInvalidAt text.now result.1 }
     ensures byte { result.0 ≡ slice_index text.now result.1 }
     ensures within { result.1 ≤ length text.now }
     ensures all { (result.1 ≡ length text.now) ↔ AllDigits text.now }

@@ -1,4 +1,6 @@
 -- Digits, their values, and texts of digits.
+--
+-- `b` is a byte, `v` its value, and `r` what the table has for it: the value, or 255. `u` is a text.
 use Rattle.std.proofs.Common.{◌≡◌, ℕ, ◌<◌, ◌≢◌, get_or, bit_or, Option, Some, IsSome, IsNone, refl, arith, ◌+◌, ◌↔◌, List, ◌++◌, length, take, drop, take-append-drop, take_at, drop_at}
 use Rattle.std.proofs.lemmas.Bool.Decides.{nat_tests}
 use Rattle.std.proofs.lemmas.Nat.{le_or_l, le_or_r}
@@ -15,14 +17,14 @@ IsDigit-from_value b v h = rw h refl
 pub hex_value-small : (b v : ℕ) → hex_value b ≡ Some v → v < 16
 hex_value-small b v h = grind (arith, nat_tests)
 
--- what the look-up says of a byte
+-- what the look-up returns for a byte
 pub value_found : (b r : ℕ) → r ≡ value_or_nil (hex_value b) → r ≢ 255 → hex_value b ≡ Some r
 value_found b r e n = grind (arith, nat_tests)
 
 pub value_not_found : (b r : ℕ) → r ≡ value_or_nil (hex_value b) → r ≡ 255 → IsNone (hex_value b)
 value_not_found b r e n = grind (arith, nat_tests)
 
--- the table of the look-up
+-- the table of the look-up has the right entry for each byte
 pub in_table : (b : ℕ) → b < 256 → get_or HEX_DECODE_LUT.now b 0 ≡ value_or_nil (hex_value b)
 in_table = same_below (λ b. get_or HEX_DECODE_LUT.now b 0) (λ b. value_or_nil (hex_value b)) 256 tt
 

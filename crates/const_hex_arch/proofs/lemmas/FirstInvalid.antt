@@ -1,4 +1,7 @@
 -- The first invalid character of a text, and what an output holds after the text was rejected.
+--
+-- `u` is the text, `p` is the index of its first invalid character, and `old` and `new` are the output before and
+-- after. `i` or `k` bytes were decoded before the text was rejected.
 use Rattle.std.proofs.Common.{◌≡◌, ℕ, zero, suc, ◌+◌, ◌-◌, ◌%◌, ◌<◌, ◌≤◌, List, [], ◌∷◌, length, take, drop, slice_index, ◌⊎◌, inl, inr, refl, arith, take-add, length-take, get_or-take, get_or-drop, is_some, ◌*◌, get_or, bit_or, sym, ◌∙◌, drop-drop, subst, eq-zero-or-pos, true, false, Bool}
 use Rattle.std.specs.Bool.{IsTrue}
 use Rattle.std.proofs.lemmas.List.{drop-take}
@@ -6,27 +9,27 @@ use Rattle.std.proofs.lemmas.Grind.{common_steps}
 use Rattle.std.proofs.lemmas.List.Elements.{All-nil, All-cons, All-head, All-tail, All-get_or}
 use Rattle.std.proofs.lemmas.Bool.{cases_Bool}
 use Rattle.std.proofs.lemmas.Nat.{or_lt}
-use Rattle.const_hex_arch.specs.{hex_value, IsDigit, Spells, AllDigits, FirstBad, value_or_nil, Partial}
+use Rattle.const_hex_arch.specs.{hex_value, IsDigit, Spells, AllDigits, FirstInvalidAt, value_or_nil, Partial}
 use Rattle.const_hex_arch.proofs.lemmas.Digits.{digits_append, digit_found, no_value, digit_small, digits_parts}
 use Rattle.const_hex_arch.proofs.lemmas.Texts.{IsPair-of, Spells-append, Spells-parts, Spells-digits, Spells-length}
 
 -- no text of digits has an invalid character
-pub digits_no_bad : (u : List ℕ) (p : ℕ) → AllDigits u → FirstBad u p → ⊥
-digits_no_bad u p a f = no_value (hex_value (slice_index u p)) f.here (All-get_or IsDigit u p 0 f.within a)
+pub digits_not_invalid : (u : List ℕ) (p : ℕ) → AllDigits u → FirstInvalidAt u p → ⊥
+digits_not_invalid u p a f = no_value (hex_value (slice_index u p)) f.here (All-get_or IsDigit u p 0 f.within a)
 
 -- a text has one first invalid character
-not_before : (u : List ℕ) (p q : ℕ) → p < q → FirstBad u p → FirstBad u q → ⊥
+not_before : (u : List ℕ) (p q : ℕ) → p < q → FirstInvalidAt u p → FirstInvalidAt u q → ⊥
 not_before u p q h f g =
     let len : p < length (take q u) = simp length-take (omega arith) in
     no_value _ f.here (rw (get_or-take q u p 0 h) at (All-get_or IsDigit (take q u) p 0 len g.before))
 
-pub FirstBad-same : (u : List ℕ) (p q : ℕ) → FirstBad u p → FirstBad u q → p ≡ q
-FirstBad-same u p q f g = grind (arith, not_before)
+pub FirstInvalidAt-unique : (u : List ℕ) (p q : ℕ) → FirstInvalidAt u p → FirstInvalidAt u q → p ≡ q
+FirstInvalidAt-unique u p q f g = grind (arith, not_before)
 
 -- an invalid character after k digits
-pub FirstBad-after : (k : ℕ) (u : List ℕ) (p : ℕ) → AllDigits (take k u) → k ≤ length u → FirstBad (drop k u) p
-    → FirstBad u (k + p)
-FirstBad-after k u p a h f =
+pub FirstInvalidAt-after : (k : ℕ) (u : List ℕ) (p : ℕ) → AllDigits (take k u) → k ≤ length u → FirstInvalidAt (drop k u) p
+    → FirstInvalidAt u (k + p)
+FirstInvalidAt-after k u p a h f =
     record {
       within = grind (arith, common_steps);
       before = rw (take-add k p u) ((digits_append _ _).1 (a, f.before));
@@ -34,12 +37,12 @@ FirstBad-after k u p a h f =
     }
 
 -- a text has only digits, or it has a first invalid character
-pub digits_or_bad : (u : List ℕ) → AllDigits u ⊎ ((p : ℕ) × FirstBad u p)
-digits_or_bad [] = inl (All-nil IsDigit)
-digits_or_bad (b ∷ u) =
+pub digits_or_invalid : (u : List ℕ) → AllDigits u ⊎ ((p : ℕ) × FirstInvalidAt u p)
+digits_or_invalid [] = inl (All-nil IsDigit)
+digits_or_invalid (b ∷ u) =
     elim (cases_Bool (is_some (hex_value b))) [
       | inl here ↦
-          elim (digits_or_bad u) [
+          elim (digits_or_invalid u) [
             | inl a ↦ inl (All-cons IsDigit b u here a)
             | inr (p, f) ↦
                 let before = All-cons IsDigit b (take p u) here f.before in
@@ -49,8 +52,8 @@ digits_or_bad (b ∷ u) =
     ]
 
 -- if not every byte is a digit, there is a first invalid character
-pub first_bad : (u : List ℕ) → (AllDigits u → ⊥) → (p : ℕ) × FirstBad u p
-first_bad u n = elim (digits_or_bad u) [ inl a ↦ absurd (n a) | inr f ↦ f ]
+pub first_invalid : (u : List ℕ) → (AllDigits u → ⊥) → (p : ℕ) × FirstInvalidAt u p
+first_invalid u n = elim (digits_or_invalid u) [ inl a ↦ absurd (n a) | inr f ↦ f ]
 
 -- digits, two for each byte, decode to bytes
 pub Spells-some : (u : List ℕ) → length u % 2 ≡ 0 → AllDigits u → (bs : List ℕ) × Spells u bs
@@ -68,17 +71,17 @@ Spells-some (c ∷ d ∷ u) e a =
 -- nothing was decoded
 pub none_decoded : (old u : List ℕ) → (AllDigits u → ⊥) → Partial old u old
 none_decoded old u n =
-    let r = first_bad u n in
-    record { bad = r.0; done = 0; first_bad = r.1; not_past = omega arith; same_length = refl; front = tt; rest = refl }
+    let r = first_invalid u n in
+    record { invalid_index = r.0; done = 0; first_invalid = r.1; not_past = omega arith; same_length = refl; front = tt; rest = refl }
 
 -- a text that is rejected after k bytes were decoded
 pub Partial-after : (old u new : List ℕ) (k m : ℕ) → m ≡ 2 * k → m ≤ length u → length new ≡ length old → k ≤ length new
     → Spells (take m u) (take k new) → Partial (drop k old) (drop m u) (drop k new) → Partial old u new
 Partial-after old u new k m e h l b s p =
     record {
-      bad = m + p.bad;
+      invalid_index = m + p.invalid_index;
       done = k + p.done;
-      first_bad = FirstBad-after m u p.bad (Spells-digits _ _ s) h p.first_bad;
+      first_invalid = FirstInvalidAt-after m u p.invalid_index (Spells-digits _ _ s) h p.first_invalid;
       not_past = omega arith;
       same_length = l;
       front =
@@ -93,7 +96,7 @@ drop_further a b i j h e =
     let q : i + (j - i) ≡ j = omega arith in
     rw (← q, ← drop-drop (j - i) i a, ← drop-drop (j - i) i b, e) refl
 
--- the first bytes of an output, of which the first i are written anew, and n more are as before
+-- the first bytes of an output, of which the first i are overwritten, and n more are as before
 front_kept : (i n : ℕ) (u mid new : List ℕ) → Spells (take (2 * i) u) (take i new) → drop i new ≡ drop i mid
     → Spells (take (2 * (i + n)) u) (take (i + n) mid) → Spells (take (2 * (i + n)) u) (take (i + n) new)
 front_kept i n u mid new s e t =
@@ -103,22 +106,22 @@ front_kept i n u mid new s e t =
     rw (m, take-add (2 * i) (2 * n) u, take-add i n new, e) (Spells-append _ _ _ _ s later)
 
 -- a text that is rejected a second time
-pub again : {old u mid new : List ℕ} → Partial old u mid → Partial mid u new → Partial old u new
-again {old} {u} {mid} {new} p q =
+pub rejected_again : {old u mid new : List ℕ} → Partial old u mid → Partial mid u new → Partial old u new
+rejected_again {old} {u} {mid} {new} p q =
     elim (eq-zero-or-pos (p.done - q.done)) [
       | inl z ↦ record {
-        bad = q.bad;
+        invalid_index = q.invalid_index;
         done = q.done;
-        first_bad = q.first_bad;
+        first_invalid = q.first_invalid;
         not_past = q.not_past;
         same_length = q.same_length ∙ p.same_length;
         front = q.front;
         rest = q.rest ∙ drop_further mid old p.done q.done (omega arith) p.rest;
       }
       | inr more ↦ record {
-        bad = p.bad;
+        invalid_index = p.invalid_index;
         done = p.done;
-        first_bad = p.first_bad;
+        first_invalid = p.first_invalid;
         not_past = p.not_past;
         same_length = q.same_length ∙ p.same_length;
         front =
@@ -134,15 +137,15 @@ again {old} {u} {mid} {new} p q =
 pub digits_accepted : {old u new : List ℕ} (r : Bool) → (IsTrue r → Spells u new) → (r ≡ false → Partial old u new)
     → AllDigits u → Spells u new
 digits_accepted true s p a = s refl
-digits_accepted false s p a = absurd (digits_no_bad _ _ a (p refl).first_bad)
+digits_accepted false s p a = absurd (digits_not_invalid _ _ a (p refl).first_invalid)
 
 -- two bytes, after i pairs, whose values, or NIL, have a bit that no value has
-pub refused_joint : (old u new : List ℕ) (i high low : ℕ) → Spells (take (2 * i) u) (take i new)
+pub rejected_pair : (old u new : List ℕ) (i high low : ℕ) → Spells (take (2 * i) u) (take i new)
     → drop i new ≡ drop i old → 2 * i + 1 < length u
     → length new ≡ length old → high ≡ value_or_nil (hex_value (get_or u (2 * i) 0))
     → low ≡ value_or_nil (hex_value (get_or u (2 * i + 1) 0))
     → 16 ≤ bit_or high low → Partial old u new
-refused_joint old u new i high low s d h l e f large =
+rejected_pair old u new i high low s d h l e f large =
     let within : i ≤ length new =
     omega (arith, Spells-length _ _ s, length-take (2 * i) u, length-take i new) in
     let not_digits : AllDigits (drop (2 * i) u) → ⊥ = λ a.

@@ -1,4 +1,7 @@
--- Look-ups in vectors, the text of lanes, and lanes that are interleaved.
+-- Table look-ups by a shuffle of a vector, the text of a vector of bytes, and vectors that are interleaved.
+--
+-- `v` has the lanes of a vector, and `n` is their number. `t` is the table of a look-up, and `js` are its indices. `f`
+-- is the fact that each lane is a byte. Names that end in `_l` are operations on all lanes.
 use Rattle.std.proofs.Common.{◌≡◌, ℕ, ◌*◌, Bool, ltb, T, ◌||◌, List, [], ◌∷◌, ◌++◌, length, replicate, bit_and, sym, subst, ◌∙◌, arith, w8, Fits, length-append, zero, suc, ◌+◌, ◌/◌, ◌%◌, ◌^◌, ◌<◌, true, false, eqb, map, get_or, refl, ap, eqb→eq, bit_or}
 use Rattle.std.specs.List.{AllZip, range_with_len, concat}
 use Rattle.std.proofs.lemmas.Grind.{common_steps}
@@ -7,13 +10,13 @@ use lib.Lanes.{zip2, Each1, pick_l, number_l, digits_l}
 use mir.Val.{zeroes}
 use Rattle.std.proofs.lemmas.List.{append-nil, ext_get_or, get_or-map, length-map}
 use Rattle.const_hex_arch.proofs.lemmas.Standard.{holds_below, every_below, every_pair, same_below}
-use Rattle.const_hex_arch.specs.{hex_digit, hex_text, halves_of, AllNibbles, byte_pairs}
+use Rattle.const_hex_arch.specs.{hex_digit, hex_text, nibbles_of, AllNibbles, bytes_of_nibbles}
 use Rattle.const_hex_arch.proofs.lemmas.LaneValues.{joined}
 use Rattle.const_hex_arch.proofs.lemmas.Texts.{hex_text-append}
 
--- ---- the positions that lanes read
+-- ---- the indices of a table look-up, as `swizzle_dyn` does it
 
--- in a block, or read as 0
+-- an index into a block of 16 entries, or one that is read as 0
 abbrev is_position : ℕ → Bool
 is_position j = zeroes 16 w8 j || ltb j 16
 
@@ -22,7 +25,7 @@ are_positions : (m : ℕ) → T (holds_below (λ x. is_position (bit_and x m)) 2
 are_positions m t [] f = tt
 are_positions m t (x ∷ v) f = (every_below (λ x. is_position (bit_and x m)) 256 t x f.0.fits, are_positions m t v f.1)
 
--- the lanes that a mask leaves, in b blocks
+-- the indices of b blocks, after a mask
 pub masked_ok : (m : ℕ) → T (holds_below (λ x. is_position (bit_and x m)) 256) → (b n : ℕ) (v : List ℕ) → n ≡ b * 16
     → (length v ≡ n) × Each1 (Fits w8) v
     → SwzOk w8 16 n 0 (zip2 bit_and v (replicate n m))
@@ -31,14 +34,14 @@ masked_ok m t b n v blocks f =
     SwzOk-from_Each1 w8 16 b n 0 (zip2 bit_and v (replicate n m)) blocks (omega (arith, long, f.0))
     (subst (λ n. Each1 (λ j. T (is_position j)) (zip2 bit_and v (replicate n m))) f.0 (are_positions m t v f.1))
 
--- ---- two halves
+-- ---- a vector from its two halves
 
 -- the halves of a vector of twice n lanes, which are picked from it and itself again
 pub halves : (n : ℕ) (v : List ℕ) → length v ≡ 2 * n
     → pick_l 0 (v ++ v) (range_with_len 0 n) ++ pick_l 0 (v ++ v) (range_with_len n n) ≡ v
 halves n v e = grind (arith, common_steps, length-append, pick_l-range_with_len)
 
--- a relation of lanes, by halves
+-- a relation holds for all lanes if it holds for those of two vectors
 both_zip : (R : ℕ → ℕ → Type 0) (v w a b : List ℕ) → AllZip R v a → AllZip R w b → AllZip R (v ++ w) (a ++ b)
 both_zip R [] w [] b p q = q
 both_zip R (x ∷ v) w (y ∷ a) b p q = (p.0, both_zip R v w a b p.1 q)
@@ -49,13 +52,13 @@ pub by_halves : (R : ℕ → ℕ → Type 0) (n : ℕ) (v a b : List ℕ) → le
     → AllZip R (pick_l 0 (v ++ v) (range_with_len n n)) b → AllZip R v (a ++ b)
 by_halves R n v a b e p q = subst (λ v. AllZip R v (a ++ b)) (halves n v e) (both_zip R _ _ a b p q)
 
--- ---- the halves of a byte, in a lane of 16 bits
+-- ---- the nibbles of each byte, by a multiplication of 16-bit lanes
 
 abbrev doubled : ℕ → ℕ
 doubled zero = zero
 doubled (suc n) = suc (suc (doubled n))
 
--- what the lanes hold
+-- the lanes, each multiplied by 4097 and shifted right by 4, as one number
 abbrev spread : ℕ → List ℕ → ℕ
 spread n v =
     let times = zip2 (λ a b. a * b % 65536) (map (λ x. x) v) (replicate n 4097) in
@@ -64,36 +67,36 @@ spread n v =
 spread_at : (x : ℕ) → x < 256 → x * 4097 % 65536 / 16 ≡ x / 16 + 256 * (x % 16)
 spread_at x h = eqb→eq _ _ (every_below (λ x. eqb (x * 4097 % 65536 / 16) (x / 16 + 256 * (x % 16))) 256 tt x h)
 
-spread_halves : (v : List ℕ) → Each1 (Fits w8) v → digits_l 256 (doubled (length v)) (spread (length v) v) ≡ halves_of v
-spread_halves [] f = refl
-spread_halves (x ∷ v) f =
+spread_nibbles : (v : List ℕ) → Each1 (Fits w8) v → digits_l 256 (doubled (length v)) (spread (length v) v) ≡ nibbles_of v
+spread_nibbles [] f = refl
+spread_nibbles (x ∷ v) f =
     let n = spread (length v) v in
     let here = spread_at x f.0.fits in
     let first : (x * 4097 % 65536 / 16 + 65536 * n) % 256 ≡ x / 16 = rw here (omega arith) in
     let second : (x * 4097 % 65536 / 16 + 65536 * n) / 256 % 256 ≡ x % 16 = rw here (omega arith) in
-    let behind : (x * 4097 % 65536 / 16 + 65536 * n) / 256 / 256 ≡ n = rw here (omega arith) in
-    rw (first, second, behind, spread_halves v f.1)
+    let remainder : (x * 4097 % 65536 / 16 + 65536 * n) / 256 / 256 ≡ n = rw here (omega arith) in
+    rw (first, second, remainder, spread_nibbles v f.1)
 
-pub of_lanes : (n : ℕ) (v : List ℕ) → (length v ≡ n) × Each1 (Fits w8) v → digits_l 256 (doubled n) (spread n v) ≡ halves_of v
-of_lanes n v f = subst (λ n. digits_l 256 (doubled n) (spread n v) ≡ halves_of v) f.0 (spread_halves v f.1)
+pub of_lanes : (n : ℕ) (v : List ℕ) → (length v ≡ n) × Each1 (Fits w8) v → digits_l 256 (doubled n) (spread n v) ≡ nibbles_of v
+of_lanes n v f = subst (λ n. digits_l 256 (doubled n) (spread n v) ≡ nibbles_of v) f.0 (spread_nibbles v f.1)
 
-length-halves_of : (v : List ℕ) → length (halves_of v) ≡ 2 * length v
-length-halves_of [] = refl
-length-halves_of (x ∷ v) = let rest = length-halves_of v in omega arith
+length-nibbles_of : (v : List ℕ) → length (nibbles_of v) ≡ 2 * length v
+length-nibbles_of [] = refl
+length-nibbles_of (x ∷ v) = let rest = length-nibbles_of v in omega arith
 
-halves_below : (v : List ℕ) → Each1 (Fits w8) v → Each1 (λ j. j < 16) (halves_of v)
-halves_below [] f = tt
-halves_below (x ∷ v) f = (omega (arith, f.0.fits), (omega arith, halves_below v f.1))
+nibbles_below : (v : List ℕ) → Each1 (Fits w8) v → Each1 (λ j. j < 16) (nibbles_of v)
+nibbles_below [] f = tt
+nibbles_below (x ∷ v) f = (omega (arith, f.0.fits), (omega arith, nibbles_below v f.1))
 
--- the text of n lanes has b blocks
-pub halves_ok : (b n : ℕ) (v : List ℕ) → (length v ≡ n) × Each1 (Fits w8) v → 2 * n ≡ b * 16
-    → SwzOk w8 16 (2 * n) 0 (halves_of v)
-halves_ok b n v f e =
-    SwzOk-from_below w8 16 b (2 * n) 0 (halves_of v) e (omega (arith, length-halves_of v, f.0)) (halves_below v f.1)
+-- the nibbles of n lanes are indices of b blocks
+pub nibbles_ok : (b n : ℕ) (v : List ℕ) → (length v ≡ n) × Each1 (Fits w8) v → 2 * n ≡ b * 16
+    → SwzOk w8 16 (2 * n) 0 (nibbles_of v)
+nibbles_ok b n v f e =
+    SwzOk-from_below w8 16 b (2 * n) 0 (nibbles_of v) e (omega (arith, length-nibbles_of v, f.0)) (nibbles_below v f.1)
 
--- ---- their digits
+-- ---- the digits of nibbles, by a table look-up
 
--- each block of t has the digits
+-- each block of the table t has the 16 digits
 abbrev pub is_table : Bool → List ℕ → ℕ → Bool
 is_table up t n = holds_below (λ i. holds_below (λ j. eqb (get_or t (16 * ((0 + i) / 16) + j) 0) (hex_digit up j)) 16) n
 
@@ -107,23 +110,23 @@ looked_up up t js n long below table =
     (get_or js i 0) (omega arith) small in
     rw (get_or-swz_l_below w8 16 t 0 js i lt small, get_or-map (hex_digit up) js i 0 0 lt) (eqb→eq _ _ digit))
 
-pub digits_of_halves : (up : Bool) (v : List ℕ) → map (hex_digit up) (halves_of v) ≡ hex_text up v
+pub digits_of_nibbles : (up : Bool) (v : List ℕ) → map (hex_digit up) (nibbles_of v) ≡ hex_text up v
 unfolding hex_text
-digits_of_halves up [] = refl
-digits_of_halves up (x ∷ v) = cc (digits_of_halves up v)
+digits_of_nibbles up [] = refl
+digits_of_nibbles up (x ∷ v) = cc (digits_of_nibbles up v)
 
-pub halves_text : (up : Bool) (n : ℕ) (t v : List ℕ) → (length v ≡ n) × Each1 (Fits w8) v → T (is_table up t (2 * n))
-    → swz_l w8 16 t 0 (halves_of v) ≡ hex_text up v
-halves_text up n t v f table =
-    looked_up up t (halves_of v) (2 * n) (omega (arith, length-halves_of v, f.0)) (halves_below v f.1) table
-    ∙ digits_of_halves up v
+pub text_of_nibbles : (up : Bool) (n : ℕ) (t v : List ℕ) → (length v ≡ n) × Each1 (Fits w8) v → T (is_table up t (2 * n))
+    → swz_l w8 16 t 0 (nibbles_of v) ≡ hex_text up v
+text_of_nibbles up n t v f table =
+    looked_up up t (nibbles_of v) (2 * n) (omega (arith, length-nibbles_of v, f.0)) (nibbles_below v f.1) table
+    ∙ digits_of_nibbles up v
 
--- the digits of a row, twice, and once
-pub row_is_table : (up : Bool)
+-- the table of the 16 digits, twice, and once
+pub digits_are_table : (up : Bool)
     → T (is_table up (map (hex_digit up) (range_with_len 0 16) ++ map (hex_digit up) (range_with_len 0 16)) 32)
     × T (is_table up (map (hex_digit up) (range_with_len 0 16)) 16)
-row_is_table true = (tt, tt)
-row_is_table false = (tt, tt)
+digits_are_table true = (tt, tt)
+digits_are_table false = (tt, tt)
 
 -- ---- two vectors of n lanes
 
@@ -138,7 +141,7 @@ pub text_of_halves : (n : ℕ) (up : Bool) (v a b : List ℕ) → length v ≡ 2
     → b ≡ hex_text up (pick_l 0 (v ++ v) (range_with_len n n)) → a ++ b ≡ hex_text up v
 text_of_halves n up v a b long p q = rw (p, q, ← hex_text-append, halves n v long)
 
--- ---- the halves of bytes in two vectors
+-- ---- the high and the low nibbles, in two vectors
 
 abbrev high_l : List ℕ → List ℕ
 high_l v = zip2 (λ a b. a / 2 ^ b) v (replicate (length v) 4)
@@ -171,29 +174,30 @@ high_ok v f =
 
 -- ---- two vectors of 16 lanes, interleaved
 
-abbrev positions : List ℕ
-positions = 0 ∷ 16 ∷ 1 ∷ 17 ∷ 2 ∷ 18 ∷ 3 ∷ 19 ∷ 4 ∷ 20 ∷ 5 ∷ 21 ∷ 6 ∷ 22 ∷ 7 ∷ 23
+-- the lanes of both vectors, in turn
+abbrev interleaved_positions : List ℕ
+interleaved_positions = 0 ∷ 16 ∷ 1 ∷ 17 ∷ 2 ∷ 18 ∷ 3 ∷ 19 ∷ 4 ∷ 20 ∷ 5 ∷ 21 ∷ 6 ∷ 22 ∷ 7 ∷ 23
     ∷ 8 ∷ 24 ∷ 9 ∷ 25 ∷ 10 ∷ 26 ∷ 11 ∷ 27 ∷ 12 ∷ 28 ∷ 13 ∷ 29 ∷ 14 ∷ 30 ∷ 15 ∷ 31 ∷ []
 
-woven : (f : ℕ → ℕ) (v : List ℕ) → length v ≡ 16
-    → pick_l 0 (map f (map (λ x. x / 16) v) ++ map f (map (λ x. x % 16) v)) positions ≡ map f (halves_of v)
-woven f (a ∷ b ∷ c ∷ d ∷ e ∷ g ∷ h ∷ i ∷ j ∷ k ∷ l ∷ m ∷ n ∷ o ∷ p ∷ q ∷ []) long = refl
-woven f _ long = absurd (omega arith)
+interleaved_nibbles : (f : ℕ → ℕ) (v : List ℕ) → length v ≡ 16
+    → pick_l 0 (map f (map (λ x. x / 16) v) ++ map f (map (λ x. x % 16) v)) interleaved_positions ≡ map f (nibbles_of v)
+interleaved_nibbles f (a ∷ b ∷ c ∷ d ∷ e ∷ g ∷ h ∷ i ∷ j ∷ k ∷ l ∷ m ∷ n ∷ o ∷ p ∷ q ∷ []) long = refl
+interleaved_nibbles f _ long = absurd (omega arith)
 
-pub woven_text : (up : Bool) (v : List ℕ) → (length v ≡ 16) × Each1 (Fits w8) v
+pub interleaved_text : (up : Bool) (v : List ℕ) → (length v ≡ 16) × Each1 (Fits w8) v
     → pick_l 0 (swz_l w8 16 (map (hex_digit up) (range_with_len 0 16)) 0 (zip2 (λ a b. a / 2 ^ b) v (replicate 16 4))
-    ++ swz_l w8 16 (map (hex_digit up) (range_with_len 0 16)) 0 (zip2 bit_and v (replicate 16 15))) positions
+    ++ swz_l w8 16 (map (hex_digit up) (range_with_len 0 16)) 0 (zip2 bit_and v (replicate 16 15))) interleaved_positions
     ≡ hex_text up v
-woven_text up v f =
+interleaved_text up v f =
     let t = map (hex_digit up) (range_with_len 0 16) in
-    let high = looked_up up t (map (λ x. x / 16) v) 16 (omega (arith, length-map v (λ x. x / 16), f.0)) (high_below v f.1) (row_is_table up).1 in
-    let low = looked_up up t (map (λ x. x % 16) v) 16 (omega (arith, length-map v (λ x. x % 16), f.0)) (low_below v) (row_is_table up).1 in
-    subst (λ n. pick_l 0 (swz_l w8 16 t 0 (zip2 (λ a b. a / 2 ^ b) v (replicate n 4)) ++ swz_l w8 16 t 0 (zip2 bit_and v (replicate n 15))) positions ≡ hex_text up v) f.0
-    (rw (high_is v, low_is v f.1, high, low) (woven (hex_digit up) v f.0 ∙ digits_of_halves up v))
+    let high = looked_up up t (map (λ x. x / 16) v) 16 (omega (arith, length-map v (λ x. x / 16), f.0)) (high_below v f.1) (digits_are_table up).1 in
+    let low = looked_up up t (map (λ x. x % 16) v) 16 (omega (arith, length-map v (λ x. x % 16), f.0)) (low_below v) (digits_are_table up).1 in
+    subst (λ n. pick_l 0 (swz_l w8 16 t 0 (zip2 (λ a b. a / 2 ^ b) v (replicate n 4)) ++ swz_l w8 16 t 0 (zip2 bit_and v (replicate n 15))) interleaved_positions ≡ hex_text up v) f.0
+    (rw (high_is v, low_is v f.1, high, low) (interleaved_nibbles (hex_digit up) v f.0 ∙ digits_of_nibbles up v))
 
--- ---- the values of a text, by pairs
+-- ---- bytes from pairs of values
 
--- n pairs from position i on, of whose second value f is taken
+-- the bytes of n pairs of values from index i on; f is applied to the second value of each
 abbrev pub pairs_from : (ℕ → ℕ) → ℕ → ℕ → List ℕ → List ℕ
 pairs_from f i zero u = []
 pairs_from f i (suc n) u = bit_or (get_or u i 0 * 16 % 256) (f (get_or u (suc i) 0)) ∷ pairs_from f (suc (suc i)) n u
@@ -204,7 +208,7 @@ after_two f h l i (suc n) u =
     ap (λ x. bit_or (get_or u i 0 * 16 % 256) (f (get_or u (suc i) 0)) ∷ x) (after_two f h l (suc (suc i)) n u)
 
 pub pairs_are : (f : ℕ → ℕ) → ((l : ℕ) → l < 16 → f l ≡ l) → (n : ℕ) (u : List ℕ) → length u ≡ 2 * n → AllNibbles u
-    → pairs_from f 0 n u ≡ byte_pairs u
+    → pairs_from f 0 n u ≡ bytes_of_nibbles u
 pairs_are f k zero [] e a = refl
 pairs_are f k (suc n) (h ∷ l ∷ u) e a =
     rw (k l (omega arith), joined h l (omega arith) (omega arith), after_two f h l 0 n u, pairs_are f k n u (omega arith) a.1.1) refl

@@ -1,6 +1,10 @@
 -- Digits in vectors of any number of lanes: their values, the bytes that they make, and the tests of lanes. The numbers
 -- are those of lanes16.rt and lanes.rt, which docs/DESIGN.md explains under "Checking and decoding one vector": adding
--- 208 subtracts `0`, 143 (0x8F) is the part of a byte that looks up its limit, and 216 (0xD8) is the mask of the error bits.
+-- 208 subtracts `0`, 143 (0x8F) is the part of a byte that looks up its limit, and 216 (0xD8) is the mask of the error
+-- bits.
+--
+-- `v` has the lanes of a vector, `ns` has their values, and `n` is the value of the byte `b`. `h` and `l` are a high
+-- and a low nibble. `f` is the fact that each lane is a byte. Names that end in `_l` are operations on all lanes.
 use Rattle.std.proofs.Common.{◌≡◌, ℕ, ◌+◌, ◌-◌, ◌%◌, ◌^◌, ◌<◌, ◌≤◌, Bool, true, false, cond, eqb, ltb, T, ◌||◌, List, [], ◌∷◌, map, length, replicate, get_or, bit_and, refl, ap, arith, w8, Fits, Option, Some, None, IsSome, is_none, eqb→eq, zero, suc, ◌*◌, ◌/◌, ◌++◌, take, drop, sym, ◌∙◌, le-leb, length-append, ◌↔◌, ltb→lt, bit_or, subst, IsTrue, is_some}
 use Rattle.std.specs.List.{AllZip}
 use Rattle.std.proofs.lemmas.Bool.{false≢true, agree_below, agree_below_at}
@@ -9,7 +13,7 @@ use Rattle.std.proofs.lemmas.List.Elements.{All-head, All-tail, All-nil, All-con
 use lib.Lanes.{zip2, sel_l, top, Each1, number_l, digits_l, fold_l}
 use Rattle.std.proofs.lemmas.Grind.{common_steps}
 use Rattle.std.proofs.lemmas.List.{map-append}
-use Rattle.const_hex_arch.specs.{hex_value, IsDigit, AllDigits, AllNibbles, as_value, IsValueOf, Spells, byte_pairs, IsClear, AllClear, IsPartOf, IsLimitOf}
+use Rattle.const_hex_arch.specs.{hex_value, IsDigit, AllDigits, AllNibbles, as_value, IsValueOf, Spells, bytes_of_nibbles, IsClear, AllClear, IsClampedValueOf, IsLimitOf}
 use Rattle.const_hex_arch.proofs.lemmas.Standard.{every_below, every_pair, holds_below}
 use Rattle.const_hex_arch.proofs.lemmas.Digits.{digits_append}
 use Rattle.const_hex_arch.proofs.lemmas.Texts.{IsPair-of}
@@ -19,7 +23,7 @@ use Rattle.std.proofs.lemmas.Nat.Bits.{bit_at_or}
 use Rattle.std.proofs.lemmas.Simd.{swz_l}
 use mir.Val.{zeroes}
 
--- ---- values that are compared by computing
+-- ---- a test whether two values are equal
 
 abbrev pub same_value : Option ℕ → Option ℕ → Bool
 same_value None None = true
@@ -65,7 +69,7 @@ unhex_l n v =
     zip2 add8 (zip2 bit_and v (replicate n 15))
     (sel_l (map (top 7) (zip2 below_mask (replicate n 64) v)) (replicate n 9) (replicate n 0))
 
--- ---- one lane: each of the 256 values is computed
+-- ---- one lane, by computing all 256 cases
 
 nibble_at : (b : ℕ) → b < 256 → as_value (get_or (nibbles_l 1 (b ∷ [])) 0 0) ≡ hex_value b
 nibble_at b h =
@@ -106,7 +110,7 @@ small_values (n ∷ ns) [] e d = absurd (cc)
 small_values (n ∷ ns) (x ∷ v) e d =
     (one_small n x (cc) (All-head IsDigit x v d), small_values ns v (cc) (All-tail IsDigit x v d))
 
--- ---- two values in a lane of twice the width
+-- ---- two nibbles merged to a byte, by a multiplication of a 16-bit lane
 
 abbrev pub merge : ℕ → ℕ
 merge pair = pair * 4097 % 65536 / 256
@@ -116,7 +120,7 @@ merge_at h l p q =
     eqb→eq _ _ (every_pair (λ h l. eqb (merge (h + 256 * l)) (16 * h + l)) 16 16 tt h l (omega arith) (omega arith))
 
 pub merge_all : (k : ℕ) (ns : List ℕ) → length ns ≡ 2 * k → AllNibbles ns
-    → map merge (digits_l 65536 k (number_l 256 ns)) ≡ byte_pairs ns
+    → map merge (digits_l 65536 k (number_l 256 ns)) ≡ bytes_of_nibbles ns
 merge_all zero [] e a = refl
 merge_all (suc k) (h ∷ l ∷ ns) e a =
     let x = number_l 256 ns in
@@ -125,23 +129,23 @@ merge_all (suc k) (h ∷ l ∷ ns) e a =
     rw (low, high, merge_at h l a.0 a.1.0, merge_all k ns (omega arith) a.1.1)
 merge_all _ _ e a = absurd (omega arith)
 
--- ---- the bytes that values make
+-- ---- the bytes that merged values make
 
 value_is : (n b : ℕ) → as_value n ≡ hex_value b → n ≤ 15 → hex_value b ≡ Some n
 value_is n b e h = sym e ∙ rw (le-leb n 15 h)
 
-Spells-byte_pairs : (k : ℕ) (ns u : List ℕ) → length ns ≡ 2 * k → map as_value ns ≡ map hex_value u → AllNibbles ns
-    → Spells u (byte_pairs ns)
-Spells-byte_pairs zero [] [] l e a = tt
-Spells-byte_pairs (suc k) (h ∷ m ∷ ns) (x ∷ y ∷ u) l e a =
+Spells-bytes_of_nibbles : (k : ℕ) (ns u : List ℕ) → length ns ≡ 2 * k → map as_value ns ≡ map hex_value u → AllNibbles ns
+    → Spells u (bytes_of_nibbles ns)
+Spells-bytes_of_nibbles zero [] [] l e a = tt
+Spells-bytes_of_nibbles (suc k) (h ∷ m ∷ ns) (x ∷ y ∷ u) l e a =
     let pair = IsPair-of x y h m (16 * h + m) (value_is h x (cc) a.0) (value_is m y (cc) a.1.0) refl in
-    (pair, Spells-byte_pairs k ns u (omega arith) (cc) a.1.1)
-Spells-byte_pairs _ _ _ l e a = absurd (omega (arith, ap length e))
+    (pair, Spells-bytes_of_nibbles k ns u (omega arith) (cc) a.1.1)
+Spells-bytes_of_nibbles _ _ _ l e a = absurd (omega (arith, ap length e))
 
 -- the values a and b of the digits of two vectors t and u of n lanes, merged into r
 pub merge_spells : (n : ℕ) (t u a b : List ℕ) → length a ≡ n → length b ≡ n → AllZip IsValueOf t a
     → AllZip IsValueOf u b
-    → (r : List ℕ) → (AllNibbles (a ++ b) → r ≡ byte_pairs (a ++ b)) → AllDigits (t ++ u) → Spells (t ++ u) r
+    → (r : List ℕ) → (AllNibbles (a ++ b) → r ≡ bytes_of_nibbles (a ++ b)) → AllDigits (t ++ u) → Spells (t ++ u) r
 merge_spells n t u a b p q first second r is d =
     let parts = (digits_append t u).0 d in
     let high = values_of_digits t a first parts.0 in
@@ -150,9 +154,9 @@ merge_spells n t u a b p q first second r is d =
     rw (map-append as_value a b, map-append hex_value t u, high, low) in
     let small = small_values (a ++ b) (t ++ u) values d in
     rw (is small)
-    (Spells-byte_pairs n (a ++ b) (t ++ u) (omega (arith, length-append a b)) values small)
+    (Spells-bytes_of_nibbles n (a ++ b) (t ++ u) (omega (arith, length-append a b)) values small)
 
--- ---- the vectors of a slice
+-- ---- a slice of two vectors
 
 pub in_two : (n : ℕ) (u : List ℕ) → length u ≡ 2 * n → take n u ++ take n (drop n u) ≡ u
 in_two n u e = grind (arith, common_steps)
@@ -161,7 +165,7 @@ in_two n u e = grind (arith, common_steps)
 abbrev error_count : ℕ → ℕ
 error_count z = bit_at z 7 + bit_at z 6 + bit_at z 4 + bit_at z 3
 
--- ---- the limits of 16 lanes, by a table of the low halves
+-- ---- the limits of 16 lanes, by a table look-up of the low nibbles
 
 -- the byte minus 48, in 8 bits: 208 is 256 - 48
 abbrev minus_48 : ℕ → ℕ
@@ -191,7 +195,7 @@ module _ (table : List ℕ) where
   abbrev is_clear : ℕ → Bool
   is_clear b = eqb (error_count (error_bits_of b)) 0
 
-  -- of the 256 bytes, just the digits have no error bit
+  -- t: of the 256 bytes, only the digits have no error bit; u: the value of each digit is right
   module _ (t : agree_below is_clear (λ b. is_some (hex_value b)) 256 ≡ true) (u : T (holds_below is_right 256)) where
     limit_at : (b : ℕ) → b < 256 → IsLimitOf b (limit b)
     limit_at b h = (
@@ -199,7 +203,7 @@ module _ (table : List ℕ) where
       same_test _ _ (agree_below_at is_clear (λ b. is_some (hex_value b)) 256 b t h),
     )
 
-    -- from lane i on
+    -- the same for the lanes from index i on
     limits_all : (i : ℕ) (v : List ℕ) → i + length v ≤ 16 → Each1 (Fits w8) v
         → AllZip IsLimitOf v (swz_l w8 16 table i (zip2 bit_and v (replicate (length v) 143)))
     limits_all i [] h f = tt
@@ -207,14 +211,14 @@ module _ (table : List ℕ) where
         let first : i / 16 ≡ 0 = omega arith in
         (rw first (limit_at x f.0.fits), limits_all (suc i) xs (omega arith) f.1)
 
-    -- what the shuffle reads is the limit of each lane
+    -- the shuffle looks up the limit of each lane
     pub limits_are : (v : List ℕ) → (length v ≡ 16) × Each1 (Fits w8) v
         → AllZip IsLimitOf v (swz_l w8 16 table 0 (zip2 bit_and v (replicate 16 143)))
     limits_are v f =
         subst (λ n. AllZip IsLimitOf v (swz_l w8 16 table 0 (zip2 bit_and v (replicate n 143)))) f.0
         (limits_all 0 v (omega (arith, f.0)) f.1)
 
--- ---- values at most the limit, and what they leave of a lane
+-- ---- lanes clamped to their limits, and the error bits
 
 within_is : (x y : ℕ) → cond (ltb x y) x y ≡ get_or (min_l (x ∷ []) (y ∷ [])) 0 0
 within_is x y = grind (arith, nat_tests)
@@ -222,26 +226,26 @@ within_is x y = grind (arith, nat_tests)
 abbrev minus_48_l : ℕ → List ℕ → List ℕ
 minus_48_l n v = zip2 sub8 v (replicate n 48)
 
--- the lesser of a lane minus 48 and its limit is such a part
-pub parts_are : (v t : List ℕ) → AllZip IsLimitOf v t → AllZip IsPartOf v (min_l (minus_48_l (length v) v) t)
-parts_are [] [] z = tt
-parts_are (x ∷ v) (y ∷ t) z = (subst (IsPartOf x) (within_is (minus_48 x) y) z.0, parts_are v t z.1)
-parts_are _ _ z = absurd z
+-- `min(lane - 48, limit)` is the clamped value of each lane
+pub clamped_values_are : (v t : List ℕ) → AllZip IsLimitOf v t → AllZip IsClampedValueOf v (min_l (minus_48_l (length v) v) t)
+clamped_values_are [] [] z = tt
+clamped_values_are (x ∷ v) (y ∷ t) z = (subst (IsClampedValueOf x) (within_is (minus_48 x) y) z.0, clamped_values_are v t z.1)
+clamped_values_are _ _ z = absurd z
 
-pub values_of_parts : (v ns : List ℕ) → AllZip IsPartOf v ns → AllZip IsValueOf v ns
-values_of_parts [] [] z = tt
-values_of_parts (x ∷ v) (n ∷ ns) z = (z.0.0, values_of_parts v ns z.1)
-values_of_parts _ _ z = absurd z
+pub values_of_clamped : (v ns : List ℕ) → AllZip IsClampedValueOf v ns → AllZip IsValueOf v ns
+values_of_clamped [] [] z = tt
+values_of_clamped (x ∷ v) (n ∷ ns) z = (z.0.0, values_of_clamped v ns z.1)
+values_of_clamped _ _ z = absurd z
 
 -- no lane has an error bit if and only if all lanes are digits
-pub clear_are_digits : (v ns : List ℕ) → AllZip IsPartOf v ns
+pub clear_are_digits : (v ns : List ℕ) → AllZip IsClampedValueOf v ns
     → AllClear (zip2 sub8 (minus_48_l (length v) v) ns) ↔ AllDigits v
 clear_are_digits [] [] z = (λ _. All-nil IsDigit, λ _. tt)
 clear_are_digits (b ∷ v) (n ∷ ns) z =
     grind (arith, All-head IsDigit b v, All-tail IsDigit b v, All-cons IsDigit b v, clear_are_digits v ns z.1)
 clear_are_digits _ _ z = absurd z
 
--- a lane of two together
+-- the error bits of two lanes, joined by OR
 both_clear : (y z : ℕ) → IsClear (bit_or y z) ↔ (IsClear y × IsClear z)
 both_clear y z = let bits = bit_at_or y z in omega (arith, bits 7, bits 6, bits 4, bits 3)
 
@@ -257,7 +261,7 @@ pub joint_test : (ys zs t u : List ℕ) → length ys ≡ length zs → AllClear
     → AllClear (zip2 bit_or ys zs) ↔ AllDigits (t ++ u)
 joint_test ys zs t u e first second = grind (arith, all_clear ys zs e, digits_append t u)
 
--- ---- one test of all lanes
+-- ---- one test for all lanes, by OR of numbers of 64 bits
 
 abbrev masked : ℕ → ℕ
 masked x = bit_and x 216
@@ -271,7 +275,7 @@ at_lane x f = (
 abbrev all_masked : List ℕ → List ℕ
 all_masked xs = zip2 bit_and xs (replicate (length xs) 216)
 
--- eight lanes as one number of 64 bits
+-- eight lanes are one number of 64 bits; a is the OR of the numbers before
 clear_numbers : (a n : ℕ) (xs : List ℕ) → length xs ≡ 8 * n → Each1 (Fits w8) xs
     → (fold_l bit_or a (digits_l 18446744073709551616 n (number_l 256 (all_masked xs))) ≡ 0) ↔ ((a ≡ 0) × AllClear xs)
 clear_numbers a zero [] e f = (λ h. (h, tt), λ h. h.0)
@@ -298,7 +302,7 @@ pub are_clear : (n : ℕ) (xs : List ℕ) → (length xs ≡ 8 * n) × Each1 (Fi
     ↔ AllClear xs
 are_clear n xs f = rw (← f.0) (grind (arith, nat_tests, clear_numbers 0 n xs f.0 f.1))
 
--- the byte that two digits in the first lanes make
+-- a high and a low nibble, joined by a shift and OR
 pub joined : (h l : ℕ) → h < 16 → l < 16 → bit_or (h * 16 % 256) l ≡ 16 * h + l
 joined h l p q =
     eqb→eq _ _ (every_pair (λ h l. eqb (bit_or (h * 16 % 256) l) (16 * h + l)) 16 16 tt h l p q)

@@ -1,13 +1,15 @@
--- Runs of steps over pieces, and the space that they leave.
+-- Writes of several pieces to an output, one after another, and the space that they leave.
+--
+-- `s` and `t` are the states of the output before and after, `m` is one in between, and `ps` and `qs` are pieces.
 use Rattle.std.proofs.Common.{◌≡◌, ℕ, ◌+◌, ◌≤◌, List, [], ◌∷◌, ◌++◌, length, refl, sym, subst, arith, inl, Option, append-nil}
 use Rattle.std.specs.List.{FoldsTo, concat}
 use Rattle.std.proofs.lemmas.List.Elements.{All-nil, All-cons, All-append}
 use Rattle.std.proofs.lemmas.List.Folds.{concat-append}
-use Rattle.const_hex_arch.specs.{Gathers, piece_of, HasSpace, less_space, IsKernelPiece, Writes}
-pub use Rattle.const_hex_arch.specs.Laws.{less_space-add, run_shrinks}
+use Rattle.const_hex_arch.specs.{Buffers, piece_of, HasSpace, remaining_space, IsKernelPiece, Writes}
+pub use Rattle.const_hex_arch.specs.Laws.{remaining_space-add, run_shrinks}
 
 module _ {S : Type 0} (step : S → List ℕ → S → Type 0) (space : S → Option ℕ)
-    (shrinks : (s : S) (piece : List ℕ) (t : S) → step s piece t → space t ≡ less_space (space s) (length piece)) where
+    (shrinks : (s : S) (piece : List ℕ) (t : S) → step s piece t → space t ≡ remaining_space (space s) (length piece)) where
   -- what was written leaves space for the rest
   pub Writes_space : (s : S) (text : List ℕ) (t : S) (n : ℕ) → Writes step s text t
       → HasSpace (space s) (length text + n) → HasSpace (space t) n
@@ -41,7 +43,7 @@ module _ {S : Type 0} (step : S → List ℕ → S → Type 0) where
     sizes = All-append IsKernelPiece h.pieces k.pieces h.sizes k.sizes;
   }
 
--- ---- what an output that gathers passes on
+-- ---- what a buffered output passes on
 
 pub concat-piece_of : (pending : List ℕ) → concat (piece_of pending) ≡ pending
 concat-piece_of [] = refl
@@ -49,10 +51,10 @@ concat-piece_of (b ∷ bs) = append-nil (b ∷ bs)
 
 module _ {O : Type 0} (step : O → List ℕ → O → Type 0) (space : O → Option ℕ) where
   -- the pending text goes first, and then a long piece
-  pub Gathers-long : (n : ℕ) (old : O) (pending piece : List ℕ) (mid new : O) → FoldsTo step old (piece_of pending) mid
+  pub Buffers-long : (n : ℕ) (old : O) (pending piece : List ℕ) (mid new : O) → FoldsTo step old (piece_of pending) mid
       → step mid piece new
-      → n ≤ length piece → Gathers step space n old pending piece new []
-  Gathers-long n old pending piece mid new h k w = record {
+      → n ≤ length piece → Buffers step space n old pending piece new []
+  Buffers-long n old pending piece mid new h k w = record {
     passed = piece_of pending ++ piece ∷ [];
     run = run_append step old (piece_of pending) mid (piece ∷ []) new h (new, k, refl);
     whole = simp (append-nil, concat-append, concat-piece_of);

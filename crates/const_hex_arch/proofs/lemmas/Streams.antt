@@ -1,20 +1,23 @@
--- From writes in small pieces to the calls of a sink.
+-- A buffered output turns writes of small pieces into calls of a sink with large pieces.
+--
+-- `s` and `t` are the states before and after, `m` is one in between, and `ps` are pieces. `pending` is the buffered
+-- text before, and `rest` after. `is_refused` says whether a sink has failed.
 use Rattle.std.proofs.Common.{◌≡◌, ℕ, zero, suc, ◌+◌, ◌*◌, ◌/◌, ◌<◌, ◌≤◌, Bool, true, false, not, List, [], ◌∷◌, ◌++◌, length, take, refl, sym, ap, ◌∙◌, arith, inl, inr, length-append, Option, ◌-◌, if◌then◌else◌, le-div_iff_mul-le}
 use Rattle.std.specs.List.{FoldsTo, concat, All}
 use Rattle.std.proofs.lemmas.Bool.{cases_Bool}
 use Rattle.std.proofs.lemmas.List.{append-nil, append_assoc, take_all, take-append-le}
 use Rattle.std.proofs.lemmas.List.Elements.{All-nil, All-cons, All-head, All-tail, All-append, All-take, All-weaker}
 use Rattle.std.proofs.lemmas.List.Folds.{concat-append}
-use Rattle.const_hex_arch.specs.{Writes, IsKernelPiece, Gathers, piece_of, FlushesPending, SinkStep, output_sink, sink_name, reported_after, IsCallPiece, IsLargePiece, Cut, Offers, Streams, StreamsWhole}
+use Rattle.const_hex_arch.specs.{Writes, IsKernelPiece, Buffers, piece_of, FlushesPending, SinkStep, output_sink, sink_name, reported_after, IsSinkPiece, IsLargePiece, Cut, Offers, Streams, StreamsWhole}
 use Rattle.const_hex_arch.specs.declared.sink.output.SinkOutput.{SinkOutput}
 use Rattle.const_hex_arch.proofs.lemmas.Runs.{run_append, concat-piece_of}
 
--- ---- what a run of small writes to a gathering output passes on
+-- ---- what a buffered output passes on after several small writes
 
 abbrev IsPassedOn : List ℕ → Type 0
 IsPassedOn p = (4033 ≤ length p) × (length p ≤ 4096)
 
-record Gathered {O : Type 0} (step : O → List ℕ → O → Type 0) (old : O) (pending text : List ℕ) (new : O)
+record Buffered {O : Type 0} (step : O → List ℕ → O → Type 0) (old : O) (pending text : List ℕ) (new : O)
     (rest : List ℕ) : Type 0 where
   passed : List (List ℕ)
   run : FoldsTo step old passed new
@@ -30,11 +33,11 @@ passed_sizes pending piece passed f k (inr (e, m)) =
     rw e (All-cons IsPassedOn pending [] (omega arith) (All-nil IsPassedOn))
 
 module _ {O : Type 0} (step : O → List ℕ → O → Type 0) (space : O → Option ℕ) where
-  gathered_more : (old : O) (pending piece : List ℕ) (mid : O) (kept text : List ℕ) (new : O) (rest : List ℕ)
+  buffered_more : (old : O) (pending piece : List ℕ) (mid : O) (kept text : List ℕ) (new : O) (rest : List ℕ)
       → length pending ≤ 4096 → IsKernelPiece piece
-      → Gathers step space 4096 old pending piece mid kept → Gathered step mid kept text new rest
-      → Gathered step old pending (piece ++ text) new rest
-  gathered_more old pending piece mid kept text new rest f k g r = record {
+      → Buffers step space 4096 old pending piece mid kept → Buffered step mid kept text new rest
+      → Buffered step old pending (piece ++ text) new rest
+  buffered_more old pending piece mid kept text new rest f k g r = record {
     passed = g.passed ++ r.passed;
     run = run_append step old g.passed mid r.passed new g.run r.run;
     whole = rw (concat-append, append_assoc, r.whole, ← append_assoc (concat g.passed) kept text, g.whole)
@@ -45,40 +48,40 @@ module _ {O : Type 0} (step : O → List ℕ → O → Type 0) (space : O → Op
   }
 
   module _ {B : Type 0} (inner : B → O) (pending : B → List ℕ) where
-    gathered_run : (s : B) (ps : List (List ℕ)) (t : B) → length (pending s) ≤ 4096 → All IsKernelPiece ps
-        → FoldsTo (λ s p t. Gathers step space 4096 (inner s) (pending s) p (inner t) (pending t)) s ps t
-        → Gathered step (inner s) (pending s) (concat ps) (inner t) (pending t)
-    gathered_run s [] t f a h =
+    buffered_run : (s : B) (ps : List (List ℕ)) (t : B) → length (pending s) ≤ 4096 → All IsKernelPiece ps
+        → FoldsTo (λ s p t. Buffers step space 4096 (inner s) (pending s) p (inner t) (pending t)) s ps t
+        → Buffered step (inner s) (pending s) (concat ps) (inner t) (pending t)
+    buffered_run s [] t f a h =
         let whole = sym (append-nil (pending s)) in
         rw (← h) (record { passed = []; run = refl; whole = whole; sizes = All-nil IsPassedOn; bound = f })
-    gathered_run s (p ∷ ps) t f a (m, h, k) =
-        gathered_more (inner s) (pending s) p (inner m) (pending m) (concat ps) (inner t) (pending t) f
+    buffered_run s (p ∷ ps) t f a (m, h, k) =
+        buffered_more (inner s) (pending s) p (inner m) (pending m) (concat ps) (inner t) (pending t) f
         (All-head IsKernelPiece p ps a) h
-        (gathered_run m ps t h.bound (All-tail IsKernelPiece p ps a) k)
+        (buffered_run m ps t h.bound (All-tail IsKernelPiece p ps a) k)
 
--- ---- what was passed on, and then the pending text, is a cut
+-- ---- what was passed on, and then the pending text, are pieces of the right size
 
 small_piece : (rest : List ℕ) → length (piece_of rest) ≤ 1 × length (piece_of rest) ≤ length rest
 small_piece [] = omega arith
 small_piece (x ∷ rest) = omega arith
 
-piece_of-sizes : (rest : List ℕ) → length rest ≤ 4096 → All IsCallPiece (piece_of rest)
-piece_of-sizes [] f = All-nil IsCallPiece
-piece_of-sizes (b ∷ bs) f = All-cons IsCallPiece (b ∷ bs) [] (omega arith) (All-nil IsCallPiece)
+piece_of-sizes : (rest : List ℕ) → length rest ≤ 4096 → All IsSinkPiece (piece_of rest)
+piece_of-sizes [] f = All-nil IsSinkPiece
+piece_of-sizes (b ∷ bs) f = All-cons IsSinkPiece (b ∷ bs) [] (omega arith) (All-nil IsSinkPiece)
 
 Cut-of : (text : List ℕ) (ps : List (List ℕ)) (rest : List ℕ) → concat ps ++ rest ≡ text → All IsPassedOn ps
     → length rest ≤ 4096
     → Cut text (ps ++ piece_of rest)
 Cut-of text ps rest w a f = record {
   whole = rw (concat-append, concat-piece_of) w;
-  sizes = All-append IsCallPiece ps (piece_of rest) (All-weaker IsPassedOn IsCallPiece (λ p h. (omega arith, h.1)) ps a)
+  sizes = All-append IsSinkPiece ps (piece_of rest) (All-weaker IsPassedOn IsSinkPiece (λ p h. (omega arith, h.1)) ps a)
       (piece_of-sizes rest f);
   large =
       let few : length (ps ++ piece_of rest) - 1 ≤ length ps = simp length-append (omega (arith, small_piece rest)) in
       rw take-append-le (All-take IsLargePiece _ ps (All-weaker IsPassedOn IsLargePiece (λ p h. h.0) ps a));
 }
 
--- so many pieces have so many bytes
+-- the number of pieces bounds the number of bytes from below
 many_bytes : (ps : List (List ℕ)) → All IsPassedOn ps → 4033 * length ps ≤ length (concat ps)
 many_bytes [] a = omega arith
 many_bytes (p ∷ ps) a =
@@ -134,17 +137,17 @@ module _ {S : Type 0} (step : S → List ℕ → S → Type 0) (is_refused : S �
             }
       ]
 
-  -- a run of small writes through a gathering output, and then the pending text
+  -- several small writes to a buffered output, and then a flush of the pending text, stream the text to the sink
   pub Streams-from_writes : {B : Type 0} (space : SinkOutput S → Option ℕ) (inner : B → SinkOutput S)
       (pending : B → List ℕ)
       (s : B) (text : List ℕ) (t : B) (out : SinkOutput S) → pending s ≡ []
-      → Writes (λ s p t. Gathers (SinkStep step is_refused) space 4096 (inner s) (pending s) p (inner t) (pending t)) s
+      → Writes (λ s p t. Buffers (SinkStep step is_refused) space 4096 (inner s) (pending s) p (inner t) (pending t)) s
       text t
       → FoldsTo (SinkStep step is_refused) (inner t) (piece_of (pending t)) out
       → is_refused (output_sink (inner s)) ≡ false
       → (sink_name out ≡ sink_name (inner s)) × Streams step is_refused (output_sink (inner s)) text (output_sink out)
   Streams-from_writes space inner pending s text t out none w k e =
-      let g = gathered_run (SinkStep step is_refused) space inner pending s w.pieces t (rw none (omega arith)) w.sizes
+      let g = buffered_run (SinkStep step is_refused) space inner pending s w.pieces t (rw none (omega arith)) w.sizes
       w.run in
       let pieces = g.passed ++ piece_of (pending t) in
       let whole : concat g.passed ++ pending t ≡ text = g.whole ∙ ap (λ x. x ++ concat w.pieces) none ∙ w.whole in
@@ -163,7 +166,7 @@ module _ {S : Type 0} (step : S → List ℕ → S → Type 0) (is_refused : S �
         },
       )
 
-  -- a text that is one piece
+  -- a text that is passed in one call
   pub Streams-one : (s : S) (text : List ℕ) (t : S) → 0 < length text → length text ≤ 4096 → is_refused s ≡ false
       → step s text t
       → Streams step is_refused s text t
@@ -172,7 +175,7 @@ module _ {S : Type 0} (step : S → List ℕ → S → Type 0) (is_refused : S �
     offered = 1;
     cut = record {
       whole = append-nil text;
-      sizes = All-cons IsCallPiece text [] (omega arith, most) (All-nil IsCallPiece);
+      sizes = All-cons IsSinkPiece text [] (omega arith, most) (All-nil IsSinkPiece);
       large = All-nil IsLargePiece;
     };
     within = omega arith;
@@ -199,7 +202,7 @@ module _ {S : Type 0} (step : S → List ℕ → S → Type 0) (is_refused : S �
   one_step s text t (suc zero) e f (_, (m, h, k)) complete = rw k at h
   one_step s text t (suc (suc n)) e f run complete = absurd (omega (arith, f))
 
-  -- such a text is passed in one step
+  -- such a text is passed in one call
   pub short_stream : (s : S) (text : List ℕ) (t : S) → is_refused s ≡ false → 0 < length text → length text < 4033
       → Streams step is_refused s text t
       → step s text t
@@ -213,7 +216,7 @@ module _ {S : Type 0} (step : S → List ℕ → S → Type 0) (is_refused : S �
   Streams-none s text e = rw e (record {
     pieces = [];
     offered = 0;
-    cut = record { whole = refl; sizes = All-nil IsCallPiece; large = All-nil IsLargePiece };
+    cut = record { whole = refl; sizes = All-nil IsSinkPiece; large = All-nil IsLargePiece };
     within = omega arith;
     run = refl;
     complete = λ _. refl;
@@ -262,7 +265,7 @@ module _ {S : Type 0} (step : S → List ℕ → S → Type 0) (is_refused : S �
         record { pieces = h.pieces; cut = h.cut; reported = r };
   }
 
--- the same for the value that the sink ends as
+-- the same for another name of the state after
 pub Streams-at : {S : Type 0} (step : S → List ℕ → S → Type 0) (is_refused : S → Bool) (old : S) (text : List ℕ)
     (new : S)
     → Streams step is_refused old text new → (end : S) → end ≡ new → Streams step is_refused old text end

@@ -1,4 +1,7 @@
 -- What texts decode to, and the text of bytes.
+--
+-- `u` and `v` are texts, `bs` are the bytes that `u` decodes to, and `s` is the proof that it does (`Spells`). `c` and
+-- `d` are two digits, and `h` and `l` their values. `up` asks for uppercase.
 use Rattle.std.proofs.Common.{◌≡◌, ℕ, zero, suc, ◌+◌, ◌*◌, ◌<◌, List, [], ◌∷◌, ◌++◌, length, take, drop, slice_index, Some, refl, arith, ◌≢◌, get_or, set, ◌/◌, ◌%◌, Bool, true, false, length-append, IsAscii}
 use Rattle.std.proofs.lemmas.List.Elements.{All-nil, All-cons}
 use Rattle.std.proofs.lemmas.Grind.{common_steps}
@@ -9,7 +12,7 @@ use Rattle.std.proofs.lemmas.Str.Ascii.{IsAscii-nil, IsAscii-cons}
 use Rattle.const_hex_arch.specs.{hex_value, IsDigit, IsPair, Spells, AllDigits, value_or_nil, hex_digit, hex_text, prefix_of, full_text, text_length}
 use Rattle.const_hex_arch.proofs.lemmas.Digits.{IsDigit-from_value, hex_value-small, value_found}
 
--- two digits that make a byte
+-- two digits make a byte
 pub IsPair-of : (c d h l b : ℕ) → hex_value c ≡ Some h → hex_value d ≡ Some l → b ≡ 16 * h + l → IsPair c d b
 IsPair-of c d h l b p q e = record { high = h; low = l; high_is = p; low_is = q; byte_is = e }
 
@@ -151,6 +154,6 @@ Spells-hex_text up (b ∷ bs) h =
     let low = hex_value-hex_digit up (b % 16) (omega arith) in
     (IsPair-of _ _ (b / 16) (b % 16) b high low (omega arith), Spells-hex_text up bs (λ k. h (suc k)))
 
--- ---- what a search of proofs is given
+-- ---- the rules for proof search
 
 pub ruleset texts = (IsUtf8-from_ascii, IsAscii-full_text, hex_text-append)

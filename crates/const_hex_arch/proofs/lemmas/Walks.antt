@@ -1,15 +1,18 @@
--- Proofs by hand, which follow the machine's steps, for functions that return an `Option` of a
--- vector. The borrow checker does not cover these yet.
+-- Manual proofs by symbolic execution (walks), for functions that return an `Option` of a vector. The
+-- generated proofs do not cover these yet.
 --
--- Here are first the steps of walks, which other crates cite too, then what is known of vectors of n
--- lanes and of a vector beside a flag, and last the walk of `decode_chunk`, for 16 lanes and for 32.
+-- Here are first the rules of symbolic execution, which other crates cite too, then facts about vectors of n
+-- lanes and about a vector with a flag, and last the walk of `decode_chunk`, for 16 lanes and for 32.
 -- The `Proof.antt` of each `decode_chunk` names its calls and passes them to it.
 --
--- What breaks the walk: it names the function's locals by their numbers, and takes its steps in
+-- `𝓤` is the resource algebra of the separation logic `𝓛`, `𝓜` is the memory model, and `𝓡` is the running program.
+-- Each line that ends in `$` applies a rule to the symbolic state.
+--
+-- What breaks the walk: it refers to the function's locals by number, and to its statements in
 -- their order. So every edit of the body of `decode_chunk` breaks it. An edit of a function that it
 -- calls does not.
 --
--- How to mend it: after the edit `rt check --generated FOLDER --start decode_chunk` writes its
+-- How to repair it: after the edit `rt check --generated FOLDER --start decode_chunk` writes its
 -- steps and locals to `Code/Mir.antt` in that folder. Replace the old numbers by the new ones, from
 -- the top down, and check after each. The check names the first step that no longer fits. The
 -- toolchain's guide is its `docs/WALKS.md`.
@@ -53,13 +56,13 @@ use denote.Struct.Tuple.{Tuple}
 use Rattle.std.specs.contracts.option.Option as OP
 use denote.Param.{layout}
 
--- ---- what is known of a flag
+-- ---- a flag that is true
 
 pub and_true : (b : Bool) → T b → T (b && true)
 and_true true t = tt
 and_true false t = absurd t
 
--- ---- the clauses of `decode_chunk`, from the clauses of the vector beside a flag
+-- ---- the clauses of `decode_chunk`, from the clauses of the vector with a flag
 
 abbrev pub NoneClause : List ℕ → Option (List ℕ) → Type 0
 NoneClause text result = IsNone result ↔ ¬ AllDigits text
@@ -94,7 +97,7 @@ module _ (n : ℕ) where
   pub lanes_Tells : Tells Lanes (Is Lanes) lanes_vals
   lanes_Tells = Simd-Tells u8 (uint_vals w8) (uint_Tells w8) n
 
-  -- a vector beside a flag
+  -- a vector with a flag
   abbrev pub Flagged : RattleType
   Flagged = Tuple (Lanes ∷ bool ∷ [])
 
@@ -106,65 +109,69 @@ module _ (n : ℕ) where
   pub flagged_lanes : (r : List ℕ × Bool) (v : Val) → Is Flagged r (v ∷ []) → Is Lanes r.0 (only (lanes_vals r.0) ∷ [])
   flagged_lanes r v is = subst (λ us. Is Lanes r.0 us) (lanes_Tells r.0 is.0.0 is.1.1.0) is.1.1.0
 
-  -- what `decode_chunk` returns
-  abbrev pub Answer : RattleType
-  Answer = OP.the_row Lanes
+  -- what `decode_chunk` returns: a vector or nothing
+  abbrev pub OptionLanes : RattleType
+  OptionLanes = OP.the_row Lanes
 
 -- ---- the walk of `decode_chunk`, for any number of lanes
 
 module _ (n : ℕ) where
-  -- what `decode_chunk` takes and returns
-  abbrev pub Chunks : Ended
-  Chunks = record {
-    signature = record { lifetimes = 0; outlives = []; params = Pair n ∷ []; result = plain (λ κs. Answer n) };
+  -- the signature of `decode_chunk`
+  abbrev pub DecodeChunk : Ended
+  DecodeChunk = record {
+    signature = record { lifetimes = 0; outlives = []; params = Pair n ∷ []; result = plain (λ κs. OptionLanes n) };
     kept = (yes, tt);
   }
 
-  -- what `decode_flagged` takes and returns
-  abbrev pub Flags : Ended
-  Flags = record {
+  -- the signature of `decode_flagged`
+  abbrev pub DecodeFlagged : Ended
+  DecodeFlagged = record {
     signature = record { lifetimes = 0; outlives = []; params = Pair n ∷ []; result = plain (λ κs. Flagged n) };
     kept = (yes, tt);
   }
 
-  abbrev answered : Body
-  answered = seq (assign (place 0 []) (rv_opd (copy (place 6 [])))) end
+  -- the last basic block
+  abbrev return_block : Body
+  return_block = seq (assign (place 0 []) (rv_opd (copy (place 6 [])))) end
 
-  -- local variables: 0 is the result, 1 the text, 2 the bytes, 3 and 5 the flag, 4 what the call returns, 6 the Option
+  -- the MIR of `decode_chunk`. Its locals: 0 is the result, 1 the text, 2 the bytes, 3 and 5 the flag, 4 what the call
+  -- returns, 6 the Option
   abbrev code_of : Callee → Fn
-  code_of flags = record {
+  code_of decode_flagged = record {
     lifetimes = 0;
     outlives = [];
     ty_params = [];
     givens = 0;
     params = 1;
-    locals = local (layout (Answer n)) value_local
+    locals = local (layout (OptionLanes n)) value_local
         ∷ local (ty_array (ty_array (ty_int w8) n) 2) value_local
         ∷ local (ty_array (ty_int w8) n) value_local
         ∷ local ty_bool value_local
         ∷ local (layout (Flagged n)) value_local
         ∷ local ty_bool value_local
-        ∷ local (layout (Answer n)) value_local
+        ∷ local (layout (OptionLanes n)) value_local
         ∷ [];
-    body = seq (call flags (copy (place 1 []) ∷ []) (place 4 []))
+    body = seq (call decode_flagged (copy (place 1 []) ∷ []) (place 4 []))
         (seq (assign (place 2 []) (rv_opd (copy (place 4 (field 0 ∷ [])))))
         (seq (assign (place 3 []) (rv_opd (copy (place 4 (field 1 ∷ [])))))
         (seq (assign (place 5 []) (rv_opd (copy (place 3 []))))
         (seq (cond (copy (place 5 [])) (assign (place 6 []) (aggregate (int w8 1 ∷ copy (place 2 []) ∷ [])))
         (assign (place 6 []) (aggregate (int w8 0 ∷ []))))
-        answered))));
+        return_block))));
   }
 
   module _ {M : Type 1} (𝓤 : Ura M) (𝓛 : Logic 𝓤) (𝓜 : Model 𝓤 𝓛.H) (𝓡 : Running 𝓤 𝓛.H 𝓜) where
-    abbrev chunk : Clauses 𝓤 Chunks
-    chunk κs a = record {
+    -- the contract of `decode_chunk`, in separation logic
+    abbrev decode_chunk_clauses : Clauses 𝓤 DecodeChunk
+    decode_chunk_clauses κs a = record {
       ghost = Unit {0};
       requires = λ g. emp 𝓤;
       ensures = λ g r e. sep 𝓤 (fact 𝓤 (NoneClause (concat a.0) r)) (fact 𝓤 (SpellsClause (concat a.0) r));
     }
 
-    abbrev flagged : Clauses 𝓤 Flags
-    flagged κs a = record {
+    -- the contract of `decode_flagged`
+    abbrev decode_flagged_clauses : Clauses 𝓤 DecodeFlagged
+    decode_flagged_clauses κs a = record {
       ghost = Unit {0};
       requires = λ g. emp 𝓤;
       ensures = λ g r e.
@@ -172,30 +179,30 @@ module _ (n : ℕ) where
     }
 
     -- if the call meets its clauses, so does the function
-    pub some_or_none : (self flags : Callee)
-        → Closed 𝓤 𝓛.H (tables 𝓤 𝓛.H 𝓜 𝓡 𝓡.env).C (tables 𝓤 𝓛.H 𝓜 𝓡 𝓡.env).Λ self (code_of flags)
-        → Meets 𝓛 Flags.signature (𝓡.run (𝓡.env flags)) (closing 𝓛 Flags flagged)
-        → Meets 𝓛 Chunks.signature (𝓡.run (𝓡.env self)) (closing 𝓛 Chunks chunk)
-    some_or_none self flags unfolded met =
-        let hs : Stays Chunks.signature.params Chunks.kept = (stay_dropped _ yes, tt) in
-        let fn = code_of flags in
-        let W = walk_of 𝓛 Chunks hs chunk in let 𝓣 = tables 𝓤 𝓛.H 𝓜 𝓡 𝓡.env in
+    pub some_or_none : (self decode_flagged : Callee)
+        → Closed 𝓤 𝓛.H (tables 𝓤 𝓛.H 𝓜 𝓡 𝓡.env).C (tables 𝓤 𝓛.H 𝓜 𝓡 𝓡.env).Λ self (code_of decode_flagged)
+        → Meets 𝓛 DecodeFlagged.signature (𝓡.run (𝓡.env decode_flagged)) (closing 𝓛 DecodeFlagged decode_flagged_clauses)
+        → Meets 𝓛 DecodeChunk.signature (𝓡.run (𝓡.env self)) (closing 𝓛 DecodeChunk decode_chunk_clauses)
+    some_or_none self decode_flagged unfolded met =
+        let hs : Stays DecodeChunk.signature.params DecodeChunk.kept = (stay_dropped _ yes, tt) in
+        let fn = code_of decode_flagged in
+        let W = walk_of 𝓛 DecodeChunk hs decode_chunk_clauses in let 𝓣 = tables 𝓤 𝓛.H 𝓜 𝓡 𝓡.env in
         let V = Lanes n in
         let lawful = Simd-Lawful 𝓛 u8 (uint_Lawful 𝓛 w8) n in
-        proved 𝓛 Chunks hs chunk 𝓜 𝓡 (Goes-dropped 𝓛 0 (Pair n) yes (λ κs x w. refl), tt)
+        proved 𝓛 DecodeChunk hs decode_chunk_clauses 𝓜 𝓡 (Goes-dropped 𝓛 0 (Pair n) yes (λ κs x w. refl), tt)
         self fn unfolded
         (λ κs. (pair_vals n, tt)) (λ κs. (Array-Tells V (lanes_vals n) (lanes_Tells n) 2, tt)) (λ κs qs bounds a _ are.
         let text = concat a.0 in
-        let G = triple_of 𝓛 Flags.signature (closing 𝓛 Flags flagged) in
+        let G = triple_of 𝓛 DecodeFlagged.signature (closing 𝓛 DecodeFlagged decode_flagged_clauses) in
         let z : G.Ghost = ((κs, qs, bounds, a, (pair_vals n a.0, tt)), tt) in
         let y : W.Ghost = ((κs, qs, bounds, a, (pair_vals n a.0, tt)), tt) in
         qed 𝓛 (raw (G.pre z) ∷ []) ∵ enter ! _ _ _ _ _ $
         alloc_all ! (λ l. pass_all ! refl ((Array-Lawful 𝓛 V lawful 2).typed a.0 _ are.0) $
-        -- the call: what it gives of r, the vector beside the flag, at the machine value v
+        -- the call: what its contract ensures for r, the vector with its flag, whose machine value is v
         calls_at ! (framed 𝓤 𝓛.H 𝓜 𝓣) G met z
         (and_then ! (get ! refl) (no_more !)) (λ v.
         use1 𝓛 (later (some (λ (r : List ℕ × Bool). (‵ ftrue ⊛ ‵ ((Flagged n).own_val r (v ∷ []))) ⊛
-        some (λ (ws : Unit {0} × Unit {0}). ‵ (lasts Flags κs a ws) ⊛
+        some (λ (ws : Unit {0} × Unit {0}). ‵ (lasts DecodeFlagged κs a ws) ⊛
         (raw (fact 𝓤 (IsTrue r.1 ↔ AllDigits text)) ⊛ raw (fact 𝓤 (IsTrue r.1 → Spells text r.0))))))) (id⊢ 𝓤 _) $
         await ! tt $ pick !
         (λ r. split ! $ split ! $ drop ! $ facts ! (Flagged n) _ (shows 𝓛 (Flagged n)) r (v ∷ []) (λ is.
@@ -203,7 +210,7 @@ module _ (n : ℕ) where
         let bytes = only (lanes_vals n r.0) in
         let held = flagged_lanes n r v is in
         let typed = lawful.typed r.0 (bytes ∷ []) held in
-        -- the two locals, and the choice
+        -- the two locals, and the branch
         lands_as ! (flagged_is n r v is) refl
         (as_fields (ty_array (ty_int w8) n ∷ ty_bool ∷ []) (bytes ∷ vbool r.1 ∷ []) (typed.0, ((tt, tt), tt))) $
         sets ! (of_opd ! (get_in ! (fld ! refl (stop !)) (sub ! 0 refl (whole !)))) refl typed.0 $
@@ -214,23 +221,23 @@ module _ (n : ℕ) where
         let clauses = some_is text r.0 r.1 digits spells yes in
         sets_last ! (agg ! (and_then ! (lit ! tt) (and_then ! (get ! refl) (no_more !)))) refl
         (and_true _ typed.0.0, (record { fits = lit< tt }, (typed.0.1, tt))) $
-        exec ! 𝓣.C 𝓣.Λ (env fn.locals l) answered (at_ret _ (W.post y)) $
+        exec ! 𝓣.C 𝓣.Λ (env fn.locals l) return_block (at_ret _ (W.post y)) $
         sets ! (of_opd ! (get ! refl)) refl (and_true _ typed.0.0, (record { fits = lit< tt }, (typed.0.1, tt))) $
         returns ! (look_at ! 0 refl) $ free_all ! refl $
-        suffices ! _ (ends_at 𝓛 Chunks hs chunk y (live 1 (of_list (bytes ∷ []))) (Some r.0) (tt, tt) (tt, tt)) $
+        suffices ! _ (ends_at 𝓛 DecodeChunk hs decode_chunk_clauses y (live 1 (of_list (bytes ∷ []))) (Some r.0) (tt, tt) (tt, tt)) $
         use0 𝓛 (raw (fact 𝓤 (SpellsClause text (Some r.0)))) (fact_i 𝓤 _ (emp 𝓤) clauses.1) $
         use0 𝓛 (raw (fact 𝓤 (NoneClause text (Some r.0)))) (fact_i 𝓤 _ (emp 𝓤) clauses.0) $ join ! $
         owned ! V _ (Simd-Makes 𝓛 u8 (uint_Makes 𝓛 w8) n) r.0 _ held $
-        use1 𝓛 (‵ ((Answer n).own_val (Some r.0) (live 1 (of_list (bytes ∷ [])) ∷ []))) (Some-of 𝓛 V r.0 bytes) $
+        use1 𝓛 (‵ ((OptionLanes n).own_val (Some r.0) (live 1 (of_list (bytes ∷ [])) ∷ []))) (Some-of 𝓛 V r.0 bytes) $
         nothing ! $ nothing ! $ join ! $ nothing ! $ group ! 3 $ done !)
         (λ no.
         let clauses = none_is text r.0 r.1 digits spells no in
         sets_last ! (agg ! (and_then ! (lit ! tt) (no_more !))) refl (tt, (record { fits = lit< tt }, tt)) $
-        exec ! 𝓣.C 𝓣.Λ (env fn.locals l) answered (at_ret _ (W.post y)) $
+        exec ! 𝓣.C 𝓣.Λ (env fn.locals l) return_block (at_ret _ (W.post y)) $
         sets ! (of_opd ! (get ! refl)) refl (tt, (record { fits = lit< tt }, tt)) $
         returns ! (look_at ! 0 refl) $ free_all ! refl $
-        suffices ! _ (ends_at 𝓛 Chunks hs chunk y (live 0 (of_list [])) None (tt, tt) (tt, tt)) $
+        suffices ! _ (ends_at 𝓛 DecodeChunk hs decode_chunk_clauses y (live 0 (of_list [])) None (tt, tt) (tt, tt)) $
         use0 𝓛 (raw (fact 𝓤 (SpellsClause text None))) (fact_i 𝓤 _ (emp 𝓤) clauses.1) $
         use0 𝓛 (raw (fact 𝓤 (NoneClause text None))) (fact_i 𝓤 _ (emp 𝓤) clauses.0) $ join ! $
-        use0 𝓛 (‵ ((Answer n).own_val None (live 0 (of_list []) ∷ []))) (none_of 𝓛 V) $
+        use0 𝓛 (‵ ((OptionLanes n).own_val None (live 0 (of_list []) ∷ []))) (none_of 𝓛 V) $
         nothing ! $ nothing ! $ join ! $ nothing ! $ group ! 3 $ done !)))))))))

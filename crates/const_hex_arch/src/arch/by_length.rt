@@ -1,16 +1,16 @@
-//! The kernels with lanes: which steps they take at which length. docs/DESIGN.md has the table.
+//! The kernels with lanes: which blocks they take at which length. docs/DESIGN.md has the table.
 //!
-//! Neither a contract nor a test notices which steps are taken where others give the same result: compare a change with
-//! "Steps by length" in docs/DESIGN.md.
+//! Neither a contract nor a test notices which blocks are taken where others give the same result: compare a change
+//! with "Blocks by length" in docs/DESIGN.md.
 
 ghost use Rattle.std.specs.Prelude.{false};
 
 use crate::arch::lanes::LaneOps;
-use crate::arch::{Kernel, long, short, steps};
+use crate::arch::{Kernel, blocks, long, short};
 use std::marker::PhantomData;
 
-/// A kernel whose steps have `N` lanes. Inputs that are too short for them take vectors of 16 lanes. `V` has the operations on
-/// vectors.
+/// A kernel whose blocks have `N` lanes. Inputs that are too short for them take vectors of 16 lanes. `V` has the
+/// operations on vectors.
 ///
 /// ```rust
 /// let mut text = [0; 8];
@@ -31,14 +31,14 @@ impl<const N: usize, V: LaneOps<N> + LaneOps<16>> Kernel for ByLength<N, V> {
 
     #[inline(always)]
     fn fill(input: &[u8], upper: bool, output: &mut [u8]) {
-        // 16 bytes first: many identifiers have this length, which takes one step.
-        // Up to 32 bytes in pairs of 16 also where N is 32: a step of 32 lanes would fit one length alone.
+        // 16 bytes first: many identifiers have this length, which takes one block.
+        // Up to 32 bytes in pairs of 16 also where N is 32: a block of 32 lanes would fit one length alone.
         if input.len() == 16 {
-            steps::fill_step::<16, V>(input, upper, output);
+            blocks::fill_block::<16, V>(input, upper, output);
         } else if input.len() < 16 {
             short::fill(input, upper, output);
         } else if input.len() <= 32 {
-            short::fill_pair::<16, V>(input, upper, output);
+            short::fill_two_vectors::<16, V>(input, upper, output);
         } else {
             long::fill::<N, V>(input, upper, output);
         }
@@ -51,16 +51,16 @@ impl<const N: usize, V: LaneOps<N> + LaneOps<16>> Kernel for ByLength<N, V> {
         if input.len() < 16 {
             short::check::<V>(input)
         } else if input.len() <= 32 {
-            short::check_pair::<16, V>(input)
+            short::check_two_vectors::<16, V>(input)
         } else {
             long::check::<N, V>(input)
         }
     }
 
-    /// All whole steps before an invalid character are decoded, and of a remainder of less than 16 bytes all pairs before it.
-    /// So a caller finds the same bytes there as after const-hex.
+    /// All whole blocks before an invalid character are decoded, and of a remainder of less than 16 bytes all pairs
+    /// before it. So a caller finds the same bytes there as after const-hex.
     #[inline(always)]
-    #[tactic(auto, using(crate::proofs::lemmas::FirstInvalid::again))]
+    #[tactic(auto, using(crate::proofs::lemmas::FirstInvalid::rejected_again))]
     fn decode_checked(input: &[u8], output: &mut [u8]) -> bool {
         Self::decode_all(input, output) || long::decode_before_invalid::<N, V>(input, output)
     }
@@ -68,13 +68,13 @@ impl<const N: usize, V: LaneOps<N> + LaneOps<16>> Kernel for ByLength<N, V> {
     #[inline(always)]
     #[tactic(auto, using(crate::proofs::lemmas::FirstInvalid::none_decoded, std::proofs::lemmas::List::take_all))]
     fn decode_all(input: &[u8], output: &mut [u8]) -> bool {
-        // Cut to the length that the output implies: so a function that is not inlined, such as `read` of const_hex_c, takes no
-        // length of the text.
+        // Cut to the length that the output implies: so a function that is not inlined, such as `read` of const_hex_c,
+        // takes no length of the text.
         let text = &input[..2 * output.len()];
         if output.len() <= 16 {
             short::decode::<V>(text, output)
         } else if output.len() <= N {
-            short::decode_pair::<N, V>(text, output)
+            short::decode_two_vectors::<N, V>(text, output)
         } else {
             long::decode::<N, V>(text, output)
         }
@@ -83,7 +83,7 @@ impl<const N: usize, V: LaneOps<N> + LaneOps<16>> Kernel for ByLength<N, V> {
     #[inline(always)]
     fn decode_unchecked(input: &[u8], output: &mut [u8]) {
         if output.len() < N {
-            // They are checked once more: short inputs have one body. It returns true.
+            // The digits are checked once more, since no function for short inputs leaves that out. It returns true.
             Self::decode_all(input, output);
         } else {
             long::decode_unchecked::<N, V>(input, output);

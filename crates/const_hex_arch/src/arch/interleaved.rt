@@ -2,7 +2,7 @@
 
 ghost use Rattle.std.specs.Prelude.{◌≡◌, ◌↔◌, ◌<◌, ◌++◌, length, IsTrue};
 ghost use Rattle.std.specs.List.{AllZip};
-ghost use Rattle.const_hex_arch.specs.{hex_text, AllNibbles, AllClear, byte_pairs, IsLimitOf};
+ghost use Rattle.const_hex_arch.specs.{hex_text, AllNibbles, AllClear, bytes_of_nibbles, IsLimitOf};
 
 use crate::arch::by_length::ByLength;
 use crate::arch::lanes::{LaneOps, Multiplying};
@@ -28,7 +28,7 @@ impl LaneOps<16> for Interleaving {
         requires { length output.old ≡ 32 }
         ensures { output.new ≡ hex_text upper v }
     {
-        let digits = u8x16::from_array(lanes16::digits_row(upper));
+        let digits = u8x16::from_array(lanes16::digit_table(upper));
         let first = digits.swizzle_dyn(v >> u8x16::splat(4));
         let second = digits.swizzle_dyn(v & u8x16::splat(15));
         let (front, back) = first.interleave(second);
@@ -44,7 +44,7 @@ impl LaneOps<16> for Interleaving {
 
     #[inline(always)]
     fn merge(first: u8x16, second: u8x16) -> u8x16
-        ensures { AllNibbles (first ++ second) → result ≡ byte_pairs (first ++ second) }
+        ensures { AllNibbles (first ++ second) → result ≡ bytes_of_nibbles (first ++ second) }
     {
         let (high, low) = first.deinterleave(second);
         // Without the mask of the 32 lanes below: here LLVM would take one more instruction for it.
@@ -81,7 +81,7 @@ impl LaneOps<32> for Interleaving {
 
     #[inline(always)]
     fn merge(first: u8x32, second: u8x32) -> u8x32
-        ensures { AllNibbles (first ++ second) → result ≡ byte_pairs (first ++ second) }
+        ensures { AllNibbles (first ++ second) → result ≡ bytes_of_nibbles (first ++ second) }
     {
         let (high, low) = first.deinterleave(second);
         // With the mask, which changes no value, LLVM takes one instruction for all three operations.

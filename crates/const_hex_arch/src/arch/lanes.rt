@@ -4,7 +4,7 @@
 
 ghost use Rattle.std.specs.Prelude.{◌≡◌, ◌*◌, ◌/◌, ◌++◌, ◌≤◌, ◌↔◌, length, map, IsTrue};
 ghost use Rattle.std.specs.List.{AllZip};
-ghost use Rattle.const_hex_arch.specs.{hex_value, hex_text, AllDigits, Spells, AllNibbles, AllClear, byte_pairs, as_value, IsValueOf, IsPartOf, IsLimitOf};
+ghost use Rattle.const_hex_arch.specs.{hex_value, hex_text, AllDigits, Spells, AllNibbles, AllClear, bytes_of_nibbles, as_value, IsValueOf, IsClampedValueOf, IsLimitOf};
 
 use std::simd::prelude::*;
 
@@ -16,21 +16,22 @@ pub trait LaneOps<const N: usize> {
         requires { length output.old ≡ 2 * N }
         ensures { output.new ≡ hex_text upper v.entry };
 
-    /// The limit of each lane. If the lane is a digit, its value is at most the limit.
+    /// The limit of each lane, by a table look-up of its low nibble. If the lane is a digit, its value is at
+    /// most the limit.
     fn look_up_limits(v: Simd<u8, N>) -> Simd<u8, N>
         ensures { AllZip IsLimitOf v.entry result };
 
-    /// One byte for each two values, the higher half first.
+    /// One byte for each two nibbles, the high one first.
     fn merge(first: Simd<u8, N>, second: Simd<u8, N>) -> Simd<u8, N>
         ensures { AllNibbles (first.entry ++ second.entry)
-            → result ≡ byte_pairs (first.entry ++ second.entry) };
+            → result ≡ bytes_of_nibbles (first.entry ++ second.entry) };
 
     /// Whether the bits 7, 6, 4 and 3 of every lane are clear.
     fn are_clear(error_bits: Simd<u8, N>) -> bool
         ensures { IsTrue result ↔ AllClear error_bits.entry };
 
-    /// A step has at least one lane, so that loops end, at most 32, so that inputs of more than 32 bytes have a whole step,
-    /// and an even number, so that it has two halves.
+    /// A block has at least one lane, so that loops end, at most 32, so that inputs of more than 32 bytes have a whole
+    /// block, and an even number, so that it has two halves.
     ghost sizes: { (1 ≤ N) × (N ≤ 32) × (2 * (N / 2) ≡ N) };
 }
 
@@ -68,9 +69,9 @@ pub(crate) fn unhex<const N: usize>(v: Simd<u8, N>) -> Simd<u8, N>
 /// `min(lane - 48, limit)` for each lane. If the lane is a digit, this is its value. Otherwise it
 /// is a number by which [`error_bits`] rejects the lane.
 #[inline(always)]
-#[tactic(auto, using(crate::proofs::lemmas::LaneValues::parts_are))]
+#[tactic(auto, using(crate::proofs::lemmas::LaneValues::clamped_values_are))]
 pub(crate) fn values<const N: usize, V: LaneOps<N>>(v: Simd<u8, N>) -> Simd<u8, N>
-    ensures { AllZip IsPartOf v.entry result }
+    ensures { AllZip IsClampedValueOf v.entry result }
 {
     (v - Simd::splat(0x30)).simd_min(V::look_up_limits(v))
 }
@@ -120,7 +121,7 @@ pub(crate) fn joint_error_bits<const N: usize, V: LaneOps<N>>(
 /// Decodes two vectors of digits to one vector of bytes. If some lane is not a digit, the result is
 /// unspecified: test the error bits before you use it.
 #[inline(always)]
-#[tactic(auto, using(crate::proofs::lemmas::LaneValues::values_of_parts, crate::proofs::lemmas::LaneValues::merge_spells))]
+#[tactic(auto, using(crate::proofs::lemmas::LaneValues::values_of_clamped, crate::proofs::lemmas::LaneValues::merge_spells))]
 pub(crate) fn decode<const N: usize, V: LaneOps<N>>(
     first: Simd<u8, N>,
     second: Simd<u8, N>,

@@ -5,35 +5,35 @@
 
 ghost use Rattle.std.specs.Prelude.{◌≡◌, ◌↔◌, [], ◌∷◌, ◌++◌, length, map, IsTrue, IsNone, IfSome};
 ghost use Rattle.std.specs.List.{AllZip, concat, range_with_len};
-ghost use Rattle.const_hex_arch.specs.{hex_digit, hex_value, hex_text, AllDigits, Spells, AllNibbles, AllClear, byte_pairs, halves_of, as_value, IsValueOf, IsLimitOf};
+ghost use Rattle.const_hex_arch.specs.{hex_digit, hex_value, hex_text, AllDigits, Spells, AllNibbles, AllClear, bytes_of_nibbles, nibbles_of, as_value, IsValueOf, IsLimitOf};
 
 use crate::arch::by_length::ByLength;
 use crate::arch::lanes::{self, LaneOps, Multiplying};
 use std::simd::prelude::*;
 
-/// For each low half of a byte the limit: no digit with this low half has a greater value.
-// `byte - 48` is the value of `0` to `9`, and more than the value of a letter. For a low half that
+/// For each low nibble of a byte the limit: no digit with this low nibble has a greater value.
+// `byte - 48` is the value of `0` to `9`, and more than the value of a letter. For a low nibble that
 // a letter has (1 to 6), the limit is the value of the letter, so the minimum of both is the value
 // of every digit. The error bits are `byte - 48 - value`: 0 for `0` to `9`, 7 for `A` to `F` and 39 for
 // `a` to `f`, none of which has a bit of 0xD8. Every other byte leaves a number that has one. For a
-// low half that only a decimal digit has (0, 7, 8, 9), the limit is one more than its value. With
+// low nibble that only a decimal digit has (0, 7, 8, 9), the limit is one more than its value. With
 // the value itself, `P`, `W`, `X` and `Y` would leave the number 32, and pass as digits.
 const LIMITS: [u8; 16] = [1, 10, 11, 12, 13, 14, 15, 8, 9, 10, 0, 0, 0, 0, 0, 0];
 
 /// The digits in lowercase, and in uppercase.
 const DIGITS: &[[u8; 16]; 2] = &[*b"0123456789abcdef", *b"0123456789ABCDEF"];
 
-/// The digit of each value, in each lane.
+/// The digits in order of their values: a table for look-ups by `swizzle_dyn`.
 #[inline(always)]
-pub(crate) fn digits_row(upper: bool) -> [u8; 16]
+pub(crate) fn digit_table(upper: bool) -> [u8; 16]
     ensures { result ≡ map (hex_digit upper) (range_with_len 0 16) }
 {
     DIGITS[usize::from(upper)]
 }
 
-/// Half of a row, in both halves of a vector.
+/// The lanes twice, one copy in each half of a vector.
 #[inline(always)]
-fn in_both_halves(lanes: [u8; 16]) -> u8x32
+fn repeat_lanes(lanes: [u8; 16]) -> u8x32
     ensures { result ≡ lanes ++ lanes }
 {
     let half = u8x16::from_array(lanes);
@@ -113,7 +113,7 @@ pub fn unhex(v: u8x16) -> u8x16
 }
 
 /// The kernel for vectors of 16 lanes. It encodes 16 bytes, checks 16 characters and decodes 32
-/// characters at a time. The remainder is encoded, checked and decoded together with what stands
+/// characters at a time. The remainder is encoded, checked and decoded together with what is
 /// before it, as one more vector that overlaps the last one.
 ///
 /// ```rust
@@ -146,7 +146,7 @@ impl LaneOps<16> for Multiplying {
 
     #[inline(always)]
     fn merge(first: u8x16, second: u8x16) -> u8x16
-        ensures { AllNibbles (first ++ second) → result ≡ byte_pairs (first ++ second) }
+        ensures { AllNibbles (first ++ second) → result ≡ bytes_of_nibbles (first ++ second) }
     {
         pack(concat_lanes(first, second))
     }
@@ -169,33 +169,33 @@ impl LaneOps<16> for Multiplying {
 pub(crate) fn encode_lanes(v: u8x16, upper: bool) -> u8x32
     ensures { result ≡ hex_text upper v }
 {
-    in_both_halves(digits_row(upper)).swizzle_dyn_within::<16>(split_lanes(v))
+    repeat_lanes(digit_table(upper)).swizzle_dyn_within::<16>(split_nibbles(v))
 }
 
 /// As `encode_lanes`, for 8 lanes.
 #[inline(always)]
-pub(crate) fn encode_half(v: u8x8, upper: bool) -> u8x16
+pub(crate) fn encode_8_lanes(v: u8x8, upper: bool) -> u8x16
     ensures { result ≡ hex_text upper v }
 {
-    u8x16::from_array(digits_row(upper)).swizzle_dyn(split_half(v))
+    u8x16::from_array(digit_table(upper)).swizzle_dyn(split_8_nibbles(v))
 }
 
-/// As `split_lanes`, for 8 lanes.
+/// As `split_nibbles`, for 8 lanes.
 #[inline(always)]
-fn split_half(v: u8x8) -> u8x16
-    ensures { result ≡ halves_of v }
+fn split_8_nibbles(v: u8x8) -> u8x16
+    ensures { result ≡ nibbles_of v }
 {
     let wide: u16x8 = v.cast();
     ((wide * u16x8::splat(4097)) >> u16x8::splat(4)).to_le_bytes()
 }
 
-/// Both halves of each lane, the upper one first.
+/// The two nibbles of each lane, the high one first.
 // Each byte is widened to 16 bits and multiplied by 4097 = 0x1001. That adds a copy 12 bits higher,
-// of which only the lower half fits: 0x00B4 becomes 0x40B4. Shifted right by 4 it is 0x040B, in
-// memory the bytes 0x0B and 0x04: the upper half first.
+// of which only the low nibble fits: 0x00B4 becomes 0x40B4. Shifted right by 4 it is 0x040B, in
+// memory the bytes 0x0B and 0x04: the high nibble first.
 #[inline(always)]
-fn split_lanes(v: u8x16) -> u8x32
-    ensures { result ≡ halves_of v }
+fn split_nibbles(v: u8x16) -> u8x32
+    ensures { result ≡ nibbles_of v }
 {
     let wide: u16x16 = v.cast();
     ((wide * u16x16::splat(4097)) >> u16x16::splat(4)).to_le_bytes()
@@ -230,13 +230,13 @@ pub(crate) fn concat_lanes(first: u8x16, second: u8x16) -> u8x32
     )
 }
 
-/// One byte for each two lanes, which must be values.
-// Two values, the upper half first, are read as one number of 16 bits, high + 256 * low. Multiplied
+/// One byte for each two lanes, which must be nibbles.
+// Two nibbles, the high one first, are read as one number of 16 bits, high + 256 * low. Multiplied
 // by 4097 = 0x1001, its upper byte is 16 * high + low: 0x040B becomes 0xB40B. The shift leaves
 // 0xB4.
 #[inline(always)]
 fn pack(nibbles: u8x32) -> u8x16
-    ensures { AllNibbles nibbles → result ≡ byte_pairs nibbles }
+    ensures { AllNibbles nibbles → result ≡ bytes_of_nibbles nibbles }
 {
     let pairs = u16x16::from_le_bytes(nibbles);
     ((pairs * u16x16::splat(4097)) >> u16x16::splat(8)).cast()

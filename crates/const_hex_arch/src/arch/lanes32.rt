@@ -5,7 +5,7 @@
 
 ghost use Rattle.std.specs.Prelude.{◌≡◌, ◌↔◌, [], ◌∷◌, ◌++◌, length, map, IsTrue, IsNone, IfSome};
 ghost use Rattle.std.specs.List.{AllZip, concat};
-ghost use Rattle.const_hex_arch.specs.{hex_value, hex_text, AllDigits, Spells, AllNibbles, AllClear, byte_pairs, as_value, IsValueOf, IsLimitOf};
+ghost use Rattle.const_hex_arch.specs.{hex_value, hex_text, AllDigits, Spells, AllNibbles, AllClear, bytes_of_nibbles, as_value, IsValueOf, IsLimitOf};
 
 use crate::arch::by_length::ByLength;
 use crate::arch::lanes::{self, LaneOps, Multiplying};
@@ -86,7 +86,7 @@ pub fn unhex(v: u8x32) -> u8x32
 }
 
 /// The kernel for vectors of 32 lanes. It encodes 32 bytes, checks 32 characters and decodes 64
-/// characters at a time. The remainder is encoded, checked and decoded together with what stands
+/// characters at a time. The remainder is encoded, checked and decoded together with what is
 /// before it, as one more vector that overlaps the last one. Vectors of 16 lanes take up to 32 bytes
 /// to encode or characters to check, and up to 16 bytes to decode. On x86-64 it is made for AVX2: without it, LLVM
 /// makes two vectors of each.
@@ -120,7 +120,7 @@ impl LaneOps<32> for Multiplying {
 
     #[inline(always)]
     fn merge(first: u8x32, second: u8x32) -> u8x32
-        ensures { AllNibbles (first ++ second) → result ≡ byte_pairs (first ++ second) }
+        ensures { AllNibbles (first ++ second) → result ≡ bytes_of_nibbles (first ++ second) }
     {
         pack(concat_lanes(first, second))
     }
@@ -179,13 +179,13 @@ fn concat_lanes(first: u8x32, second: u8x32) -> u8x64
     )
 }
 
-/// One byte for each two lanes, which must be values.
-// Two values, the upper half first, are read as one number of 16 bits, high + 256 * low. Multiplied
+/// One byte for each two lanes, which must be nibbles.
+// Two nibbles, the high one first, are read as one number of 16 bits, high + 256 * low. Multiplied
 // by 4097 = 0x1001, its upper byte is 16 * high + low: 0x040B becomes 0xB40B. The shift leaves
 // 0xB4.
 #[inline(always)]
 fn pack(nibbles: u8x64) -> u8x32
-    ensures { AllNibbles nibbles → result ≡ byte_pairs nibbles }
+    ensures { AllNibbles nibbles → result ≡ bytes_of_nibbles nibbles }
 {
     let pairs = u16x32::from_le_bytes(nibbles);
     ((pairs * u16x32::splat(4097)) >> u16x32::splat(8)).cast()

@@ -36,7 +36,7 @@ impl<const PAIRS: bool> Kernel for ByteByByte<PAIRS> {
     const PIECE: usize = 1;
 
     #[inline(always)]
-    #[tactic(auto, using(std::proofs::lemmas::List::take_all, crate::proofs::lemmas::Steps::fills))]
+    #[tactic(auto, using(std::proofs::lemmas::List::take_all, crate::proofs::lemmas::Blocks::fills))]
     fn fill(input: &[u8], upper: bool, output: &mut [u8]) {
         // In the Rust that is made of this, LLVM leaves out the tests of indices by this length, which cannot overflow.
         let text = &mut output[..input.len().saturating_mul(2)];
@@ -57,7 +57,7 @@ impl<const PAIRS: bool> Kernel for ByteByByte<PAIRS> {
     }
 
     #[inline(always)]
-    #[tactic(auto, using(std::proofs::lemmas::Grind::common_steps, std::proofs::lemmas::List::take_all, std::proofs::lemmas::Nat::le_or_l, std::proofs::lemmas::Nat::le_or_r, crate::proofs::lemmas::FirstInvalid::refused_joint, crate::proofs::lemmas::Texts::pair_more))]
+    #[tactic(auto, using(std::proofs::lemmas::Grind::common_steps, std::proofs::lemmas::List::take_all, std::proofs::lemmas::Nat::le_or_l, std::proofs::lemmas::Nat::le_or_r, crate::proofs::lemmas::FirstInvalid::rejected_pair, crate::proofs::lemmas::Texts::pair_more))]
     fn decode_checked(input: &[u8], output: &mut [u8]) -> bool {
         // By this length, as in `fill`.
         let text = &input[..output.len().saturating_mul(2)];

@@ -6,7 +6,7 @@ ghost use Rattle.std.specs.Prelude.{◌≡◌, [], ◌∷◌, ◌*◌, ◌-◌, 
 ghost use Rattle.const_hex_arch.specs.{AllDigits, Spells, hex_text};
 
 use crate::arch::lanes::{self, LaneOps};
-use crate::arch::{lanes16, steps};
+use crate::arch::{blocks, lanes16};
 use crate::tables::is_digit;
 use std::simd::prelude::*;
 
@@ -19,19 +19,19 @@ pub(crate) fn fill(bytes: &[u8], upper: bool, output: &mut [u8])
 {
     // One byte first, where a test takes the greatest part of the time.
     if bytes.len() == 1 {
-        fill_end::<1>(bytes, upper, output);
+        fill_one_vector::<1>(bytes, upper, output);
     } else if bytes.len() >= 8 {
-        fill_ends::<8>(bytes, upper, output);
+        fill_overlapping::<8>(bytes, upper, output);
     } else if bytes.len() >= 4 {
-        fill_ends::<4>(bytes, upper, output);
+        fill_overlapping::<4>(bytes, upper, output);
     } else if bytes.len() >= 2 {
-        fill_ends::<2>(bytes, upper, output);
+        fill_overlapping::<2>(bytes, upper, output);
     }
 }
 
 /// Fills the output with the text of `H` to `2 * H` bytes: that of the first `H`, and that of the last `H`.
 #[inline(always)]
-fn fill_ends<const H: usize>(bytes: &[u8], upper: bool, output: &mut [u8])
+fn fill_overlapping<const H: usize>(bytes: &[u8], upper: bool, output: &mut [u8])
     requires half { H ≤ 8 }
     requires size { length output.old ≡ 2 * length bytes.now }
     requires least { H ≤ length bytes.now }
@@ -39,34 +39,38 @@ fn fill_ends<const H: usize>(bytes: &[u8], upper: bool, output: &mut [u8])
     ensures { output.new ≡ hex_text upper bytes.now }
 {
     let start = bytes.len() - H;
-    fill_end::<H>(&bytes[..H], upper, &mut output[..2 * H]);
-    fill_end::<H>(&bytes[start..], upper, &mut output[2 * start..]);
+    fill_one_vector::<H>(&bytes[..H], upper, &mut output[..2 * H]);
+    fill_one_vector::<H>(&bytes[start..], upper, &mut output[2 * start..]);
 }
 
 /// Fills the output with the text of exactly `H` bytes, by one vector.
 #[inline(always)]
-fn fill_end<const H: usize>(bytes: &[u8], upper: bool, output: &mut [u8])
+fn fill_one_vector<const H: usize>(bytes: &[u8], upper: bool, output: &mut [u8])
     requires half { H ≤ 8 }
     requires bytes { length bytes.now ≡ H }
     requires output { length output.old ≡ 2 * H }
     ensures { output.new ≡ hex_text upper bytes.now }
 {
-    let text = lanes16::encode_half(Simd::from_slice(&load(bytes)), upper).to_array();
+    let text = lanes16::encode_8_lanes(Simd::from_slice(&load(bytes)), upper).to_array();
     output.copy_from_slice(&text[..2 * H]);
 }
 
 /// Fills the output with the text of `N` to `2 * N` bytes: that of the last `N`, and that of the first `N`.
 // In this order: if the last ones came last, LLVM would share their code with `long::fill`, by a jump.
 #[inline(always)]
-pub(crate) fn fill_pair<const N: usize, V: LaneOps<N>>(bytes: &[u8], upper: bool, output: &mut [u8])
+pub(crate) fn fill_two_vectors<const N: usize, V: LaneOps<N>>(
+    bytes: &[u8],
+    upper: bool,
+    output: &mut [u8],
+)
     requires size { length output.old ≡ 2 * length bytes.now }
     requires least { N ≤ length bytes.now }
     requires most { length bytes.now ≤ 2 * N }
     ensures { output.new ≡ hex_text upper bytes.now }
 {
     let start = bytes.len() - N;
-    steps::fill_step::<N, V>(&bytes[start..], upper, &mut output[2 * start..]);
-    steps::fill_step::<N, V>(&bytes[..N], upper, &mut output[..2 * N]);
+    blocks::fill_block::<N, V>(&bytes[start..], upper, &mut output[2 * start..]);
+    blocks::fill_block::<N, V>(&bytes[..N], upper, &mut output[..2 * N]);
 }
 
 /// Whether every byte of a text of at most 15 bytes is a digit.
@@ -76,11 +80,11 @@ pub(crate) fn check<V: LaneOps<16>>(text: &[u8]) -> bool
     ensures { IsTrue result ↔ AllDigits text.now }
 {
     if text.len() >= 8 {
-        check_ends::<8, V>(text)
+        check_overlapping::<8, V>(text)
     } else if text.len() >= 4 {
-        check_ends::<4, V>(text)
+        check_overlapping::<4, V>(text)
     } else if text.len() >= 2 {
-        check_ends::<2, V>(text)
+        check_overlapping::<2, V>(text)
     } else {
         text.is_empty() || is_digit(text[0])
     }
@@ -88,19 +92,19 @@ pub(crate) fn check<V: LaneOps<16>>(text: &[u8]) -> bool
 
 /// Whether every one of `H` to `2 * H` bytes is a digit: the first `H` and the last `H` are in one vector.
 #[inline(always)]
-#[tactic(auto, using(crate::proofs::lemmas::Standard::through, crate::proofs::lemmas::Steps::digits_ends))]
-fn check_ends<const H: usize, V: LaneOps<16>>(text: &[u8]) -> bool
+#[tactic(auto, using(crate::proofs::lemmas::Standard::through, crate::proofs::lemmas::Blocks::digits_first_and_last_padded))]
+fn check_overlapping<const H: usize, V: LaneOps<16>>(text: &[u8]) -> bool
     requires half { H ≤ 8 }
     requires least { H ≤ length text.now }
     requires most { length text.now ≤ 2 * H }
     ensures { IsTrue result ↔ AllDigits text.now }
 {
-    lanes::are_digits::<16, V>(load_ends(text, H))
+    lanes::are_digits::<16, V>(load_first_and_last(text, H))
 }
 
 /// Whether every one of `N` to `2 * N` bytes is a digit: one test covers the first `N` and the last `N`.
 #[inline(always)]
-pub(crate) fn check_pair<const N: usize, V: LaneOps<N>>(text: &[u8]) -> bool
+pub(crate) fn check_two_vectors<const N: usize, V: LaneOps<N>>(text: &[u8]) -> bool
     requires least { N ≤ length text.now }
     requires most { length text.now ≤ 2 * N }
     ensures { IsTrue result ↔ AllDigits text.now }
@@ -120,20 +124,20 @@ pub(crate) fn decode<V: LaneOps<16>>(text: &[u8], output: &mut [u8]) -> bool
     ensures unchanged { result ≡ false → output.new ≡ output.old }
 {
     if output.len() >= 8 {
-        decode_pair::<16, V>(text, output)
+        decode_two_vectors::<16, V>(text, output)
     } else if output.len() >= 4 {
-        decode_ends::<4, V>(text, output)
+        decode_overlapping::<4, V>(text, output)
     } else if output.len() >= 2 {
-        decode_ends::<2, V>(text, output)
+        decode_overlapping::<2, V>(text, output)
     } else {
-        output.is_empty() || decode_ends::<1, V>(text, output)
+        output.is_empty() || decode_overlapping::<1, V>(text, output)
     }
 }
 
 /// As `decode`, for `H` to `2 * H` bytes: the characters of the first `H` and of the last `H` are in one vector.
 #[inline(always)]
-#[tactic(auto, using(crate::proofs::lemmas::Standard::through, crate::proofs::lemmas::Steps::digits_ends, std::proofs::lemmas::List::take_all))]
-fn decode_ends<const H: usize, V: LaneOps<16>>(text: &[u8], output: &mut [u8]) -> bool
+#[tactic(auto, using(crate::proofs::lemmas::Standard::through, crate::proofs::lemmas::Blocks::digits_first_and_last_padded, std::proofs::lemmas::List::take_all))]
+fn decode_overlapping<const H: usize, V: LaneOps<16>>(text: &[u8], output: &mut [u8]) -> bool
     requires half { H ≤ 4 }
     requires size { length text.now ≡ 2 * length output.old }
     requires least { H ≤ length output.old }
@@ -142,19 +146,23 @@ fn decode_ends<const H: usize, V: LaneOps<16>>(text: &[u8], output: &mut [u8]) -
     ensures spells { IsTrue result → Spells text.now output.new }
     ensures unchanged { result ≡ false → output.new ≡ output.old }
 {
-    let ends = load_ends(text, 2 * H);
+    let ends = load_first_and_last(text, 2 * H);
     let are_digits = lanes::are_digits::<16, V>(ends);
     if are_digits {
-        // It merges two vectors into one. This one comes twice, and only the first half of the result is needed.
+        // `decode` merges two vectors into one. Here both are the same, and only the first half of the result is
+        // needed.
         let bytes = lanes::decode::<16, V>(ends, ends).to_array();
-        copy_ends(&bytes[..2 * H], H, output);
+        copy_first_and_last(&bytes[..2 * H], H, output);
     }
     are_digits
 }
 
 /// As `decode`, for `N / 2` to `N` bytes: a vector has the first `N` characters, and another one the last `N`.
 #[inline(always)]
-pub(crate) fn decode_pair<const N: usize, V: LaneOps<N>>(text: &[u8], output: &mut [u8]) -> bool
+pub(crate) fn decode_two_vectors<const N: usize, V: LaneOps<N>>(
+    text: &[u8],
+    output: &mut [u8],
+) -> bool
     requires size { length text.now ≡ 2 * length output.old }
     requires least { N ≤ 2 * length output.old }
     requires most { length output.old ≤ N }
@@ -162,11 +170,11 @@ pub(crate) fn decode_pair<const N: usize, V: LaneOps<N>>(text: &[u8], output: &m
     ensures spells { IsTrue result → Spells text.now output.new }
     ensures unchanged { result ≡ false → output.new ≡ output.old }
 {
-    let are_digits = check_pair::<N, V>(text);
+    let are_digits = check_two_vectors::<N, V>(text);
     if are_digits {
         let first = Simd::from_slice(text);
         let last = Simd::from_slice(&text[text.len() - N..]);
-        copy_ends(
+        copy_first_and_last(
             &lanes::decode::<N, V>(first, last).to_array(),
             N / 2,
             output,
@@ -189,7 +197,7 @@ fn load(bytes: &[u8]) -> [u8; 8]
 /// Puts the first `count` bytes and the last `count` bytes into the first lanes, and digits into the others.
 // The digits are added: if they stood in the same array, LLVM would insert them one by one.
 #[inline(always)]
-fn load_ends<const N: usize>(bytes: &[u8], count: usize) -> Simd<u8, N>
+fn load_first_and_last<const N: usize>(bytes: &[u8], count: usize) -> Simd<u8, N>
     requires half { 2 * count ≤ N }
     requires size { count ≤ length bytes.now }
     ensures ends { take (2 * count) result
@@ -197,7 +205,7 @@ fn load_ends<const N: usize>(bytes: &[u8], count: usize) -> Simd<u8, N>
     ensures rest { AllDigits (drop (2 * count) result) }
 {
     let mut ends = [0; N];
-    copy_ends(bytes, count, &mut ends[..2 * count]);
+    copy_first_and_last(bytes, count, &mut ends[..2 * count]);
     let mut padding = [b'0'; N];
     padding[..2 * count].copy_from_slice(&[0; N][..2 * count]);
     Simd::from_slice(&ends) + Simd::from_slice(&padding)
@@ -205,7 +213,7 @@ fn load_ends<const N: usize>(bytes: &[u8], count: usize) -> Simd<u8, N>
 
 /// Copies the first `count` bytes to the start of the output, and the last `count` bytes to its end.
 #[inline(always)]
-fn copy_ends(bytes: &[u8], count: usize, output: &mut [u8])
+fn copy_first_and_last(bytes: &[u8], count: usize, output: &mut [u8])
     requires bytes { count ≤ length bytes.now }
     requires least { count ≤ length output.old }
     requires most { length output.old ≤ 2 * count }

@@ -1,13 +1,13 @@
-//! An output that gathers small pieces into large ones.
+//! An output that buffers small pieces, and passes on large ones.
 
 ghost use Rattle.std.specs.Prelude.{◌≡◌, ℕ, ◌+◌, ◌<◌, ◌≤◌, List, [], ◌++◌, length, take, IsAscii};
 ghost use Rattle.std.specs.List.{FoldsTo};
-ghost use Rattle.const_hex_arch.specs.{HasSpace, less_space, Gathers, piece_of};
+ghost use Rattle.const_hex_arch.specs.{HasSpace, remaining_space, Buffers, piece_of};
 
 use crate::output::Output;
 use std::marker::Model;
 
-/// Gathers up to `N` bytes before it passes them on to an output.
+/// Buffers up to `N` bytes before it passes them on to an output.
 ///
 /// Contracts see it as a pair: the output, and the pending text. If a piece does not fit after the
 /// pending text, that text is passed on first. Then a piece of at least `N` bytes is passed on at
@@ -40,7 +40,7 @@ impl<O: Output, const N: usize> Model for BufferedOutput<O, N> {
 }
 
 impl<O: Output, const N: usize> BufferedOutput<O, N> {
-    /// Gathers for the given output, with nothing pending. N must not be 0.
+    /// Buffers for the given output, with nothing pending. N must not be 0.
     ///
     /// ```rust
     /// let mut text = [0; 6];
@@ -93,7 +93,7 @@ impl<O: Output, const N: usize> BufferedOutput<O, N> {
     #[inline]
     pub(crate) fn flush(&mut self)
         ensures run { FoldsTo O.step self.old.0 (piece_of self.old.1) self.new.0 }
-        ensures space { O.space self.new.0 ≡ less_space (O.space self.old.0) (length self.old.1) }
+        ensures space { O.space self.new.0 ≡ remaining_space (O.space self.old.0) (length self.old.1) }
         ensures empty { self.new.1 ≡ [] }
     {
         if self.count != 0 {
@@ -102,7 +102,7 @@ impl<O: Output, const N: usize> BufferedOutput<O, N> {
         }
     }
 
-    /// Keeps a piece. There must be space for it.
+    /// Appends a piece to the pending text. There must be space for it.
     #[inline(always)]
     fn keep(&mut self, bytes: &[u8])
         requires ascii { IsAscii bytes.now }
@@ -131,9 +131,9 @@ impl<O: Output, const N: usize> BufferedOutput<O, N> {
 }
 
 impl<O: Output, const N: usize> Output for BufferedOutput<O, N> {
-    ghost step = { λ s piece t. Gathers O.step O.space N s.0 s.1 piece t.0 t.1 };
+    ghost step = { λ s piece t. Buffers O.step O.space N s.0 s.1 piece t.0 t.1 };
 
-    ghost space = { λ s. less_space (O.space s.0) (length s.1) };
+    ghost space = { λ s. remaining_space (O.space s.0) (length s.1) };
 
     /// The remaining space of the output, less the pending bytes.
     #[inline]
@@ -164,8 +164,8 @@ impl<O: Output, const N: usize> Output for BufferedOutput<O, N> {
         self.keep(&[byte]);
     }
 
-    ghost use Rattle.const_hex_arch.specs.{Gathers_space};
+    ghost use Rattle.const_hex_arch.specs.{Buffers_space};
 
     ghost shrinks = { λ s piece t h.
-        Gathers_space O.step O.space O.shrinks N s.0 s.1 piece t.0 t.1 h };
+        Buffers_space O.step O.space O.shrinks N s.0 s.1 piece t.0 t.1 h };
 }

@@ -24,7 +24,7 @@ pub struct SinkOutput<'a, S: Sink> {
 }
 
 impl<'a, S: Sink> SinkOutput<'a, S> {
-    /// An output to the given sink, which must not have refused.
+    /// An output to the given sink, which must not have rejected a piece.
     ///
     /// ```rust
     /// let mut sink = PieceSink::new(rt.alloc(), 0);
@@ -39,7 +39,7 @@ impl<'a, S: Sink> SinkOutput<'a, S> {
         SinkOutput { sink }
     }
 
-    /// `Ok` if the sink accepted all that was written, and an error if it refused.
+    /// `Ok` if the sink accepted all that was written, and an error if it rejected a piece.
     ///
     /// ```rust
     /// let mut sink = PieceSink::new(rt.alloc(), 0);
@@ -54,7 +54,7 @@ impl<'a, S: Sink> SinkOutput<'a, S> {
         fail_if_refused(&*self.sink)
     }
 
-    /// The sink, lent again.
+    /// Returns the borrow of the sink.
     #[inline]
     pub(crate) fn into_inner(self) -> &'a mut S
         ensures same_sink { result.ghost_name ≡ sink_name self.entry }

@@ -1,4 +1,4 @@
-//! A sink that keeps its pieces.
+//! A sink that stores its pieces.
 
 ghost use Rattle.std.specs.Prelude.{◌≡◌, ◌≢◌, ◌+◌, ◌↔◌, [], ◌∷◌, ◌++◌, true, false, map, string_bytes, IsTrue, OnOk, OnErr, Some};
 ghost use Rattle.const_hex_arch.specs.{PieceState, PieceStep, count_of_calls};
@@ -7,10 +7,10 @@ use crate::sink::{Sink, SinkError};
 use std::alloc::{AllocError, Global};
 use std::marker::Model;
 
-/// Keeps a copy of each piece, for tests and examples. Refuses the call with a given number, or a piece that
-/// it cannot allocate.
+/// Stores a copy of each piece, for tests and examples. The call with a given number fails, and a call whose piece
+/// cannot be allocated.
 ///
-/// Contracts see it as the pieces that it accepted, the number, and whether it has refused.
+/// Contracts see it as the pieces that it accepted, the number of the call that is to fail, and whether one has failed.
 ///
 /// ```rust
 /// let mut sink = PieceSink::new(rt.alloc(), 0);
@@ -22,7 +22,7 @@ use std::marker::Model;
 pub struct PieceSink {
     alloc: Global,
     pieces: Vec<String>,
-    refuse_at: usize,
+    fail_at: usize,
     refused: bool,
 }
 
@@ -34,28 +34,27 @@ impl Model for PieceSink {
 
     ghost view = { λ s. record {
       pieces = map (λ p. string_bytes p) s.pieces.items;
-      refuse_at = s.refuse_at;
+      fail_at = s.fail_at;
       refused = s.refused;
     } };
 }
 
 impl PieceSink {
-    /// A sink with no pieces, which refuses the call with the number `refuse_at`. The first call
-    /// has the number 1; for 0 it refuses none. It does not allocate, and keeps the allocator for
-    /// the pieces.
+    /// A sink with no pieces, whose call with the number `fail_at` fails. The first call has the
+    /// number 1; for 0 none fails. It does not allocate, and keeps the allocator for the pieces.
     ///
     /// ```rust
     /// let mut sink = PieceSink::new(rt.alloc(), 2);
     /// assert!(rt; sink.write_str("one").is_ok());
     /// assert_eq!(rt; sink.write_str("two"), Err(SinkError));
     /// ```
-    pub fn new(alloc: Global, refuse_at: usize) -> PieceSink
-        ensures { result ≡ record { pieces = []; refuse_at = refuse_at; refused = false } }
+    pub fn new(alloc: Global, fail_at: usize) -> PieceSink
+        ensures { result ≡ record { pieces = []; fail_at = fail_at; refused = false } }
     {
         PieceSink {
             alloc,
             pieces: Vec::new(alloc),
-            refuse_at,
+            fail_at,
             refused: false,
         }
     }
@@ -71,7 +70,7 @@ impl PieceSink {
         self.pieces.as_slice()
     }
 
-    /// How many calls there were: one for each piece, and the refused one.
+    /// How many calls there were: one for each piece, and the one that failed.
     ///
     /// ```rust
     /// let mut sink = PieceSink::new(rt.alloc(), 1);
@@ -84,7 +83,7 @@ impl PieceSink {
         self.pieces.len() + usize::from(self.refused)
     }
 
-    /// Whether it refused because it could not allocate, and not because of the number of the call.
+    /// Whether a call failed because it could not allocate, and not because of its number.
     ///
     /// ```rust
     /// let mut sink = PieceSink::new(rt.alloc(), 1);
@@ -93,12 +92,12 @@ impl PieceSink {
     /// ```
     pub fn no_memory(&self) -> bool
         ensures { IsTrue result
-            ↔ ((self.now.refused ≡ true) × (count_of_calls self.now ≢ self.now.refuse_at)) }
+            ↔ ((self.now.refused ≡ true) × (count_of_calls self.now ≢ self.now.fail_at)) }
     {
-        self.refused && self.calls() != self.refuse_at
+        self.refused && self.calls() != self.fail_at
     }
 
-    /// Keeps a copy of a piece. All is allocated before anything is added.
+    /// Stores a copy of a piece. All is allocated before anything is added.
     fn keep(&mut self, piece: &str) -> Result<(), AllocError>
         ensures ok { OnOk result
             (self.new ≡ record self.old { pieces = self.old.pieces ++ piece.now ∷ [] }) }
@@ -122,7 +121,7 @@ impl Sink for PieceSink {
     }
 
     fn write_str(&mut self, s: &str) -> Result<(), SinkError> {
-        if self.pieces.len() + 1 == self.refuse_at || self.keep(s).is_err() {
+        if self.pieces.len() + 1 == self.fail_at || self.keep(s).is_err() {
             self.refused = true;
             return Err(SinkError);
         }

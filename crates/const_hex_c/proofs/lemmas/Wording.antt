@@ -1,4 +1,4 @@
--- A message in a buffer that has space for it.
+-- The message of an invalid character, in a buffer that has space for it.
 use Rattle.std.proofs.Common.{◌≡◌, ◌∙◌, ap, ℕ, ◌-◌, ◌<◌, List, length, take, min, arith, take_all}
 use Rattle.const_hex_c.specs.Errors.{message_of_struct}
 use Rattle.const_hex_c.specs.declared.error.HexError.{HexError}

@@ -2,7 +2,7 @@
 
 ghost use Rattle.std.specs.Prelude.{◌≡◌, ◌≤◌, ◌∷◌, [], false, codes, length, IsAscii};
 ghost use Rattle.std.specs.List.{FoldsTo};
-ghost use Rattle.const_hex.specs.Outputs.{HasSpace, less_space};
+ghost use Rattle.const_hex.specs.Outputs.{HasSpace, remaining_space};
 
 use const_hex::{BufferedOutput, Output, PieceSink, Sink, SinkOutput};
 use std::alloc::Global;
@@ -32,7 +32,7 @@ pub fn write_long<O: Output>(mut buffered: BufferedOutput<O, 3>) -> O
 /// Buffers text. The buffered text has at most eight bytes, and fits into the output.
 pub fn buffer_text<O: Output>(buffered: &mut BufferedOutput<O, 8>, text: &[u8])
     requires ascii { IsAscii text.now }
-    requires fits { HasSpace (less_space (O.space buffered.old.0) (length buffered.old.1)) (length text.now) }
+    requires fits { HasSpace (remaining_space (O.space buffered.old.0) (length buffered.old.1)) (length text.now) }
     ensures bound { length buffered.new.1 ≤ 8 }
     ensures fits { HasSpace (O.space buffered.new.0) (length buffered.new.1) }
 {

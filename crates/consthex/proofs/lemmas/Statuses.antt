@@ -1,4 +1,4 @@
--- What an exit status tells about a run.
+-- What an exit status says about a run.
 use Rattle.std.proofs.Common.{◌≡◌, ◌≢◌, ℕ, List, Result, Ok, Err, OnErr, arith, Option}
 use Rattle.std.specs.Io.KnownBytes.{Keeps}
 use Rattle.const_hex.specs.declared.error.FromHexError.{FromHexError}

@@ -1,4 +1,7 @@
 -- Parsing numbers and short options, and parsing the arguments for a mode.
+--
+-- `o` are the options so far, `t` are the short options of an argument, `xs` are the arguments, and `i` is the index of
+-- one.
 use Rattle.std.proofs.Common.{◌≡◌, ◌∙◌, ap, sym, map, inl, inr, ◌⊎◌, None, ℕ, ◌+◌, ◌<◌, ◌≤◌, ◌==◌, ◌^◌, ◌&&◌, nat_lt, Bool, true, false, if◌then◌else◌, List, [], ◌∷◌, length, get_or, slice_index, take, drop, Result, Ok, Err, refl, arith, is_some, OkIff}
 use Rattle.std.proofs.lemmas.Bool.Decides.{nat_tests}
 use Rattle.std.specs.Str.{IsCharBoundary, IsUtf8, all_ascii_digits}
@@ -6,10 +9,11 @@ use Rattle.std.specs.Str.Parse.{ParsesUnsigned, digits_value}
 use Rattle.std.proofs.lemmas.List.{drop_all, drop_more, get_or-map, length-map}
 use Rattle.std.proofs.lemmas.Str.{IsCharBoundary-after_ascii}
 use Rattle.std.proofs.lemmas.Str.Parse.{numerals_by_value, parse_plain, tells_all_ascii_digits}
-use Rattle.hexfilter_core.specs.Options.{AreFor, AsksFor, InvalidNumber, IsPlain, Options, Run, UnknownOption, UsageErrorKind, WritesGroups, and_then, arguments_of, at, find, number, request, request_for, table, with_argument, with_arguments, with_letters, with_value}
+use Rattle.hexfilter_core.specs.Options.{AreFor, AsksFor, InvalidNumber, IsPlain, Options, Run, UnknownOption, UsageErrorKind, WritesGroups, and_then, arguments_of, at_argument, find, number, request, request_for, table, with_argument, with_arguments, with_letters, with_value}
 use Rattle.hexfilter_core.specs.Dumps.{Groups}
 use Rattle.hexfilter_core.specs.Runs.{Decode, Encode, Mode}
 
+-- the result of `parse` as that of `number`
 abbrev pub as_number : {E : Type 0} → Result ℕ E → Result ℕ UsageErrorKind
 as_number (Ok n) = Ok n
 as_number (Err e) = Err InvalidNumber
@@ -45,6 +49,7 @@ letter_unknown o (c ∷ t) utf8 h inside =
     let none : find (c ∷ []) (table o) ≡ Err UnknownOption = grind (arith, nat_tests, high) in
     rw none refl
 
+-- no short option is left
 pub letters_end : (o : Options) (t : List ℕ) → length t ≡ 0 → with_letters o t ≡ Ok o
 unfolding with_letters
 letters_end o [] h = refl
@@ -54,7 +59,7 @@ letters_end o (c ∷ t) h = absurd (omega arith)
 pub argument_read : {X : Type 0} (bytes : X → List ℕ) (xs : List X) (i : ℕ) (o : Options)
     (found : Result Options UsageErrorKind) (x : X) (a : List ℕ)
     → i < length xs → x ≡ get_or xs i x → a ≡ bytes x → found ≡ with_argument o i a
-    → with_arguments o i (drop i (map bytes xs)) ≡ at i found
+    → with_arguments o i (drop i (map bytes xs)) ≡ at_argument i found
     (λ p. with_arguments p (i + 1) (drop (i + 1) (map bytes xs)))
 unfolding with_arguments
 argument_read bytes xs i o found x a inside x_eq a_eq found_eq =
@@ -64,6 +69,7 @@ argument_read bytes xs i o found x a inside x_eq a_eq found_eq =
       found_eq,
     ) refl
 
+-- no argument is left
 pub arguments_end : {X : Type 0} (bytes : X → List ℕ) (xs : List X) (i : ℕ) (o : Options) → length xs ≤ i
     → with_arguments o i (drop i (map bytes xs)) ≡ request o i
 unfolding with_arguments

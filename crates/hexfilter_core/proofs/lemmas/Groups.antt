@@ -1,4 +1,7 @@
 -- A text that is written in groups, and encoded in chunks.
+--
+-- `g` are the groups, and `c` is the number of characters that the last group has. `u` and `t` are parts of the text,
+-- and `out` is what was written. `x` and `y` are the input and the output so far.
 use Rattle.std.proofs.Common.{◌≡◌, ℕ, ◌+◌, ◌-◌, ◌<◌, ◌≤◌, List, [], ◌∷◌, ◌++◌, length, min, take, drop, get_or, slice_set, refl, sym, ap, ◌∙◌, arith, append_assoc, length-append, Bool, false, Result, take-add, length-set, length-take, length-take-le, length-drop, take-take, take_all, append-nil, OnErr, OnOk}
 use Rattle.std.proofs.lemmas.Bool.Decides.{nat_tests}
 use Rattle.std.proofs.lemmas.List.{take_more_set}
@@ -38,12 +41,12 @@ after_group g (b ∷ t) h some =
     let next : min (0 + 1) g.size ≡ 1 = omega (arith, h) in grind (arith, nat_tests, h, next)
 
 -- the first `done` characters are written in groups, and then `count` more, which fit into the last group
-pub goes_on : (g : Groups) (first c : ℕ) (text : List ℕ) (done count : ℕ) (laid : List ℕ)
-    → ((rest : List ℕ) → 0 < length rest → groups_from g first (take done text ++ rest) ≡ laid ++ groups_from g c rest)
+pub more_in_group : (g : Groups) (first c : ℕ) (text : List ℕ) (done count : ℕ) (written : List ℕ)
+    → ((rest : List ℕ) → 0 < length rest → groups_from g first (take done text ++ rest) ≡ written ++ groups_from g c rest)
     → 0 < count → done + count ≤ length text → c + count ≤ g.size
-    → (out : List ℕ) → out ≡ laid ++ take count (drop done text)
+    → (out : List ℕ) → out ≡ written ++ take count (drop done text)
     → (rest : List ℕ) → groups_from g first (take (done + count) text ++ rest) ≡ out ++ groups_from g (c + count) rest
-goes_on g first c text done count laid before some within h out put rest =
+more_in_group g first c text done count written before some within h out put rest =
     let piece = take count (drop done text) in
     let size : length piece ≡ count = simp (length-take, length-drop) (omega arith) in
     let more = before (piece ++ rest) (omega (arith, size, length-append piece rest, some)) in

@@ -1,4 +1,6 @@
--- Locations after parts of an input.
+-- The line and column after parts of an input.
+--
+-- `p` is a location, `x` is the input before it, and `u` are the bytes that follow.
 use Rattle.std.proofs.Common.{◌≡◌, ◌≢◌, ℕ, ◌+◌, ◌%◌, ◌^◌, ◌-◌, ◌<◌, ◌≤◌, ◌==◌, cond, count_by, if◌then◌else◌, List, [], ◌∷◌, ◌++◌, length, refl, sym, ap, ◌∙◌, arith, length-append, All}
 use Rattle.std.proofs.lemmas.Bool.Decides.{nat_tests}
 use Rattle.std.proofs.lemmas.List.Elements.{All-head, All-tail}
@@ -12,12 +14,14 @@ abbrev location_after_byte : Location → ℕ → Location
 location_after_byte p b =
     record { line = if b == 10 then p.line + 1 else p.line; column = if b == 10 then 1 else p.column + 1 }
 
+-- the location after two parts of an input
 location_after-append : (p : Location) (x y : List ℕ)
     → location_after p (x ++ y) ≡ location_after (location_after p x) y
 unfolding location_after
 location_after-append p [] y = refl
 location_after-append p (b ∷ x) y = location_after-append (location_after_byte p b) x y
 
+-- neither the line nor the column grows faster than the input
 location_bounds : (p : Location) (x : List ℕ) → 1 ≤ p.column
     → ((location_after p x).line ≤ p.line + length x) × ((location_after p x).column ≤ p.column + length x)
 unfolding location_after
@@ -26,6 +30,7 @@ location_bounds p (b ∷ x) h =
     let rest = location_bounds (location_after_byte p b) x (grind arith) in
     (grind (arith, rest), grind (arith, rest))
 
+-- bytes without a newline only advance the column
 location_after_line_part : (p : Location) (x : List ℕ) → All (λ b. b ≢ 10) x
     → ((location_after p x).line ≡ p.line) × ((location_after p x).column ≡ p.column + length x)
 unfolding location_after
@@ -57,6 +62,7 @@ location_after_newline x p line located e = λ short.
     rw (location_after-append start x (10 ∷ []))
     (omega (arith, short, e, before.0, few, size), refl)
 
+-- the line is the number of newlines
 line_from_newlines : (p : Location) (x : List ℕ) → (location_after p x).line ≡ p.line + count_by (λ b. b == 10) x
 unfolding location_after
 line_from_newlines p [] = omega arith

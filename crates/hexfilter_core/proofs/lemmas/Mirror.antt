@@ -1,4 +1,8 @@
--- A text that was encoded is decoded to the same bytes.
+-- A text that was encoded in lines or groups is decoded to the same bytes, with the options that mirror those of
+-- encoding.
+--
+-- `i` says whether whitespace is ignored, `n` and `s` are the size and the separator of groups, and `k` is a column.
+-- `t` is the encoded text without separators.
 use Rattle.std.proofs.Common.{◌≡◌, ◌≢◌, ℕ, ◌+◌, ◌<◌, ◌≤◌, ◌==◌, ◌&&◌, ◌||◌, Bool, true, false, if◌then◌else◌, List, [], ◌∷◌, ◌++◌, length, min, Option, None, Some, Ok, refl, ap, ◌∙◌, arith, append_assoc, append-nil, All}
 use Rattle.std.proofs.KnownBytes.{Consumes-all}
 use Rattle.std.proofs.lemmas.Bool.Decides.{nat_tests}
@@ -18,6 +22,7 @@ use Rattle.hexfilter_core.proofs.lemmas.Texts.{text-append}
 abbrev IsVisible : ℕ → Type 0
 IsVisible b = is_whitespace b ≡ false
 
+-- the options of decoding with these groups
 abbrev reading : Bool → ℕ → ℕ → Reading
 reading i n s = record { is_check = false; ignore_whitespace = i; groups = record { size = n; separator = s } }
 
@@ -45,20 +50,23 @@ groups_read i n s k (b ∷ t) fits other plain =
     let more = groups_read i n s (min (k + 1) n) t (omega arith) other rest in
     grind (arith, nat_tests, fits, other, one, first, more)
 
+-- a text stays visible with a prefix before it
 with_prefix : (prefix : Bool) (t : List ℕ) → All IsVisible t
     → All IsVisible (prefix_of prefix ++ t)
 with_prefix true t h =
     All-cons IsVisible 48 (120 ∷ t) refl (All-cons IsVisible 120 t refl h)
 with_prefix false t h = h
 
-text_plain_chars : (prefix up : Bool) (x : List ℕ) → AreBytes x
+-- encoded text has no whitespace
+encoded_is_visible : (prefix up : Bool) (x : List ℕ) → AreBytes x
     → All IsVisible (full_text prefix up x)
-text_plain_chars prefix up x h =
+encoded_is_visible prefix up x h =
     let digits =
     All-weaker IsDigit IsVisible (λ b h. grind (arith, nat_tests, h)) (hex_text up x)
     (Spells-digits (hex_text up x) x (Spells-hex_text up x h)) in
     with_prefix prefix (hex_text up x) digits
 
+-- lines and groups, by their separator
 by_separator : (i : Bool) (n s : ℕ) (t : List ℕ) (lines : Bool) → (s == 10) ≡ lines
     → All IsVisible t
     → let g : Groups = record { size = n; separator = s } in
@@ -69,15 +77,17 @@ by_separator i n s t true e plain ignores =
 by_separator i n s t false e plain ignores =
     rw e (groups_read i n s 0 t (omega arith) (λ newline. grind (arith, nat_tests, e, newline)) plain)
 
-one_digit : (c d : ℕ) (v : List ℕ) (b : Bool) → ((c == 48) && (d == 120 || d == 88)) ≡ b
+-- c is a digit: either the 0 of a prefix, which is removed (b), or the first digit of the body
+first_is_digit : (c d : ℕ) (v : List ℕ) (b : Bool) → ((c == 48) && (d == 120 || d == 88)) ≡ b
     → AllDigits (if b then v else c ∷ d ∷ v) → AllDigits (c ∷ [])
-one_digit c d v true e h = All-cons IsDigit c [] (grind (arith, nat_tests, e)) (All-nil IsDigit)
-one_digit c d v false e h = All-cons IsDigit c [] (All-head IsDigit c (d ∷ v) h) (All-nil IsDigit)
+first_is_digit c d v true e h = All-cons IsDigit c [] (grind (arith, nat_tests, e)) (All-nil IsDigit)
+first_is_digit c d v false e h = All-cons IsDigit c [] (All-head IsDigit c (d ∷ v) h) (All-nil IsDigit)
 
+-- if the body of a whole text has only digits, so has the body of its beginning
 body_front : (u v : List ℕ) → AllDigits (body_of (u ++ v)) → AllDigits (body_of u)
 body_front [] v h = All-nil IsDigit
 body_front (c ∷ []) [] h = h
-body_front (c ∷ []) (d ∷ v) h = one_digit c d v _ refl h
+body_front (c ∷ []) (d ∷ v) h = first_is_digit c d v _ refl h
 body_front (c ∷ d ∷ u) v h =
     ((digits_append (body_of (c ∷ d ∷ u)) v).0 (rw (body-longer (c ∷ d ∷ u) v (omega arith)) at h)).0
 
@@ -102,7 +112,7 @@ module _ (prefix up i : Bool) (g : Groups) (ignores : IgnoresLines i g) (bytes :
   read : (x : List ℕ) → x ≡ encoded prefix up g bytes → Reads (text_of (mirror i g) x) (Ok bytes)
   read x text_eq =
       Reads-full_text _ prefix up bytes are (ap (text_of (mirror i g)) text_eq
-      ∙ by_separator i g.size g.separator _ _ refl (text_plain_chars prefix up bytes are) ignores)
+      ∙ by_separator i g.size g.separator _ _ refl (encoded_is_visible prefix up bytes are) ignores)
 
   -- the bytes are decoded again
   pub decoded_again : (x : List ℕ) (in_after out_before out_after : Option (List ℕ)) → x ≡ encoded prefix up g bytes

@@ -1,9 +1,13 @@
 -- What results and exit statuses tell about runs.
+--
+-- `m` is the mode. `in_before` and `in_after` are the bytes that the reader still has before and after the run, and
+-- `out_before` and `out_after` those that the writer holds.
 use Rattle.std.proofs.Common.{rules, ◌≡◌, ◌⊎◌, ◌++◌, ◌∙◌, ℕ, List, Option, Some, Result, Err, ap, refl, inl, inr, [], Bool, true, false, arith, OnErr, IfErr, OnOk}
 use Rattle.hexfilter_core.specs.Dumps.{FromHexError, Groups, Location, encoded, text_from}
 use Rattle.hexfilter_core.specs.Runs.{Mode, RunError, Text, Decode, Encode, Ends, EndsIf, IsFailedWrite, MakesBeginning, RunsPartly, RunsToEnd, RunsToError, status_of}
 use Rattle.std.proofs.KnownBytes.{Appends-nil, Consumes-all, Consumes-nil}
 
+-- equal results have equal errors
 pub same_value : {V E : Type 0} (f g : E) → ◌≡◌ {A = Result V E} (Err f) (Err g) → f ≡ g
 same_value f g eq = cc
 
@@ -22,6 +26,7 @@ ends m in_before in_after out_before out_after r done text partly_written = sear
 pub failed : {P : Type 0} (r : Result Unit RunError) → IfErr r IsFailedWrite → P → OnErr r ((status_of r ≡ 3) × P)
 failed r failed_write p = grind arith
 
+-- no output is a beginning of the output for no input
 nothing_made : (m : Mode) → MakesBeginning m [] []
 unfolding text_from
 nothing_made (Encode prefix upper g) = (_, refl)

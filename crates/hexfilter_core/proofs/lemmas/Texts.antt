@@ -1,4 +1,8 @@
--- The text of an input that is scanned in parts.
+-- The text of an input that is scanned in parts, and what was written for it.
+--
+-- `r` are the options of decoding. `x` is the input so far, `u` are the bytes that follow, and `v` is what they add to
+-- the text. `y` and `z` are the output so far and what follows. `k` is a column, `s` a scanner or the state of a run,
+-- and `has` the invariant of it.
 use Rattle.std.proofs.lemmas.Grind.{common_steps}
 use borrow.Rule.Slice.PartMut.{put_mid, post_of}
 use Rattle.std.proofs.Common.{◌≡◌, ◌≢◌, ℕ, ◌+◌, ◌-◌, ◌*◌, ◌/◌, ◌<◌, ◌≤◌, ◌&&◌, min, if◌then◌else◌, Bool, true, false, List, [], ◌∷◌, ◌++◌, Option, None, Some, Ok, suc, zero, length, take, drop, get_or, refl, sym, ap, ◌∙◌, arith, append_assoc, length-append, All, nat_lt}
@@ -13,6 +17,7 @@ use Rattle.hexfilter_core.specs.Stages.{Decoder, HasAdded, HasDecoded, HasMade, 
 use Rattle.hexfilter_core.specs.Dumps.{FromHexError, HasError, InvalidHexCharacter, IsLocation, OddLength, Location, Reading, SpellsBeginning, SpellsPairs, body_of, encoded, column_after, column_after_all, is_whitespace, leaves_out, text_from, text_of, text_of_byte}
 use Rattle.hexfilter_core.specs.Runs.{Decode, Encode, MakesBeginning, Mode, Reads, RunError, Text}
 
+-- the text of two parts of an input
 pub text-append : (r : Reading) (k : ℕ) (x y : List ℕ)
     → text_from r k (x ++ y) ≡ text_from r k x ++ text_from r (column_after_all r k x) y
 unfolding text_from column_after_all
@@ -20,6 +25,7 @@ text-append r k [] y = refl
 text-append r k (b ∷ x) y =
     grind (arith, append_assoc, text-append r (column_after r k b) x y)
 
+-- the column after two parts of an input
 pub column-append : (r : Reading) (k : ℕ) (x y : List ℕ)
     → column_after_all r k (x ++ y) ≡ column_after_all r (column_after_all r k x) y
 unfolding column_after_all
@@ -35,11 +41,13 @@ text-byte r x b =
 
 -- ---- bytes that are not left out
 
+-- a column is at most the size of a group
 pub column_bound : (r : Reading) (k : ℕ) (x : List ℕ) → k ≤ r.groups.size → column_after_all r k x ≤ r.groups.size
 unfolding column_after_all
 column_bound r k [] h = h
 column_bound r k (b ∷ x) h = column_bound r (column_after r k b) x (grind (arith, nat_tests, h))
 
+-- the text of a run of bytes, none of which is left out, is the run
 pub text_of_run : (r : Reading) (k : ℕ) (run : List ℕ) → k ≤ r.groups.size
     → (0 < r.groups.size → k + length run ≤ r.groups.size)
     → All (λ b. (r.ignore_whitespace && is_whitespace b) ≡ false) run
@@ -55,6 +63,7 @@ text_of_run r k (b ∷ x) h fits all =
     (All-tail (λ b. (r.ignore_whitespace && is_whitespace b) ≡ false) b x all) in
     (rw (one.0, rest.0) refl, omega (arith, rest.1, one.1, h))
 
+-- if nothing is left out, there are no groups
 no_groups : (r : Reading) → leaves_out r ≡ false → r.groups.size ≡ 0
 no_groups r h = grind (arith, nat_tests, h)
 
@@ -64,6 +73,7 @@ unfolding text_from
 text_plain r [] h = refl
 text_plain r (b ∷ x) h = grind (arith, nat_tests, h, text_plain r x h)
 
+-- all of the next bytes belong to the text if nothing is left out
 pub plain_added : (r : Reading) (s : Scanner) (x u : List ℕ) → leaves_out r ≡ false → HasScanned r s x
     → HasAdded r s x u u
 plain_added r s x u h has = record {
@@ -96,6 +106,7 @@ high : (ignores : Bool) (b : ℕ) → nat_lt b 33 ≡ false → ((ignores && is_
 high true b h = (grind (arith, nat_tests, h), λ e. grind (arith, nat_tests, h, e))
 high false b h = (refl, λ e. grind (arith, nat_tests, h, e))
 
+-- the same for bytes above the space, within one group
 pub high_added : (r : Reading) (s : Scanner) (column : ℕ) (location : Location) (x u : List ℕ) → HasScanned r s x
     → All (λ b. nat_lt b 33 ≡ false) u
     → (0 < r.groups.size → s.column + length u ≤ r.groups.size) → column ≡ min (s.column + length u) r.groups.size
@@ -185,6 +196,7 @@ fewer_decoded r x y k h =
 
 -- ---- what is written
 
+-- the beginning of what is written, if only checking (c) writes nothing
 take_written : (c : Bool) (bytes : List ℕ) (k : ℕ) → take k (if c then [] else bytes) ≡ (if c then [] else take k bytes)
 take_written c bytes k = grind (arith, take_all)
 
@@ -198,9 +210,9 @@ fewer_made (Decode r) x y k (bytes, decodes, output_eq) =
     (take k bytes, fewer_decoded r x bytes k decodes, ap (take k) output_eq ∙ take_written r.is_check bytes k)
 
 -- what all pairs of digits decode to is a beginning, whatever follows
-pairs_begin : (r : Reading) (x more y : List ℕ) → SpellsPairs (text_of r x) y → SpellsBeginning r (x ++ more) y
-pairs_begin r x more [] h = tt
-pairs_begin r x more (b ∷ y) (digits, decodes) =
+pairs_beginning : (r : Reading) (x more y : List ℕ) → SpellsPairs (text_of r x) y → SpellsBeginning r (x ++ more) y
+pairs_beginning r x more [] h = tt
+pairs_beginning r x more (b ∷ y) (digits, decodes) =
     let t = text_of r x in
     let u = text_from r (column_after_all r 0 x) more in
     let n = 2 * (length (body_of t) / 2) in
@@ -214,31 +226,35 @@ pairs_begin r x more (b ∷ y) (digits, decodes) =
       ← size,
     ) decodes
 
-read_begun : (r : Reading) (x y : List ℕ) → Reads (text_of r x) (Ok y) → SpellsBeginning r x y
-read_begun r x y (even, decodes) =
+-- the bytes of a whole text are a beginning
+read_beginning : (r : Reading) (x y : List ℕ) → Reads (text_of r x) (Ok y) → SpellsBeginning r x y
+read_beginning r x y (even, decodes) =
     let twice = Spells-length (body_of (text_of r x)) y decodes in
     rw (take_all (2 * length y) (body_of (text_of r x)) (omega (arith, twice))) decodes
 
-error_begun : (r : Reading) (in_after : Option (List ℕ)) (x y : List ℕ) (e : FromHexError) (location : Option Location)
+-- the bytes before an error are a beginning
+error_beginning : (r : Reading) (in_after : Option (List ℕ)) (x y : List ℕ) (e : FromHexError) (location : Option Location)
     → HasError r in_after x y e location → SpellsBeginning r x y
-error_begun r in_after x y OddLength location (none, end, odd, pairs) = rw append-nil at (pairs_begin r x [] y pairs)
-error_begun r in_after x y (InvalidHexCharacter c i) location h =
-    rw h.cut (pairs_begin r h.front (c ∷ h.rest) y h.bytes)
-error_begun r in_after x y _ location h = absurd h
+error_beginning r in_after x y OddLength location (none, end, odd, pairs) = rw append-nil at (pairs_beginning r x [] y pairs)
+error_beginning r in_after x y (InvalidHexCharacter c i) location h =
+    rw h.cut (pairs_beginning r h.front (c ∷ h.rest) y h.bytes)
+error_beginning r in_after x y _ location h = absurd h
 
+-- the output so far is a beginning of the output
 pub so_far_made : (m : Mode) (s : Stage) (x y : List ℕ) → HasMade m s x y → MakesBeginning m x y
 so_far_made (Encode prefix upper g) s x y has =
     (_, ap (λ l. encoded prefix upper g l) (sym (append-nil x)) ∙ has.rest [])
 so_far_made (Decode r) s x y has =
     (has.text.bytes, decodes r s.decoder x has.text.bytes has.text.read, has.text.output)
 
-pub reached_begun : (m : Mode) (s : Stage) (in_after : Option (List ℕ)) (n : ℕ) (x y : List ℕ) (o : Option RunError)
+-- so is the output after one more chunk, at the end, or before an error
+pub reached_beginning : (m : Mode) (s : Stage) (in_after : Option (List ℕ)) (n : ℕ) (x y : List ℕ) (o : Option RunError)
     → Reaches m s in_after n x y o → MakesBeginning m x y
-reached_begun (Encode prefix upper g) s in_after zero x y None (more, end) = ([], sym (end refl) ∙ sym (append-nil y))
-reached_begun (Decode r) s in_after zero x y None (more, end) =
-    let (bytes, reads, output_eq) = end refl in (bytes, read_begun r x bytes reads, output_eq)
-reached_begun m s in_after (suc n) x y None (more, end) = so_far_made m s x y (more (omega arith))
-reached_begun (Encode prefix upper g) s in_after n x y (Some (Text e location)) h = absurd h
-reached_begun (Decode r) s in_after n x y (Some (Text e location)) (bytes, fails, output_eq) =
-    (bytes, error_begun r in_after x bytes e location fails, output_eq)
-reached_begun m s in_after n x y (Some e) h = absurd h
+reached_beginning (Encode prefix upper g) s in_after zero x y None (more, end) = ([], sym (end refl) ∙ sym (append-nil y))
+reached_beginning (Decode r) s in_after zero x y None (more, end) =
+    let (bytes, reads, output_eq) = end refl in (bytes, read_beginning r x bytes reads, output_eq)
+reached_beginning m s in_after (suc n) x y None (more, end) = so_far_made m s x y (more (omega arith))
+reached_beginning (Encode prefix upper g) s in_after n x y (Some (Text e location)) h = absurd h
+reached_beginning (Decode r) s in_after n x y (Some (Text e location)) (bytes, fails, output_eq) =
+    (bytes, error_beginning r in_after x bytes e location fails, output_eq)
+reached_beginning m s in_after n x y (Some e) h = absurd h

@@ -2,7 +2,8 @@
 -- it with a second call, which returns it as text, or an error. One walk serves uppercase and lowercase.
 --
 -- `e` is the function, `g` the first call and `h` the second. A list in brackets is the symbolic state: the resources
--- that are held there, in order.
+-- that are held there, in order. `𝓤` is the resource algebra of the separation logic `𝓛`, `𝓜` is the memory model, and
+-- `𝓡` is the running program. Each line that ends in `$` applies a rule to the symbolic state.
 use Rattle.std.proofs.Common.{subst, IsAscii, ◌≢◌}
 use Rattle.std.proofs.result.Result.TheLaws.{the_row_laws as result_laws}
 use base.Fml.{Lft, Share}
@@ -112,7 +113,7 @@ module _ {M : Type 1} (𝓤 : Ura M) (𝓛 : Logic 𝓤) (𝓜 : Model 𝓤 𝓛
       → Meets 𝓛 g.signature (𝓡.run (𝓡.env g.Key.name)) (g.spec 𝓛 𝓜.mem 𝓡.returns)
       → Meets 𝓛 h.signature (𝓡.run (𝓡.env h.Key.name)) (h.spec 𝓛 𝓜.mem 𝓡.returns)
       → Meets 𝓛 e.signature (𝓡.run (𝓡.env self)) (closing 𝓛 e.ended (lends up))
-  text_or_error up self unfolded fills_met hands_met =
+  text_or_error up self unfolded fills_met as_text_met =
       let c = lends up in
       let 𝓣 = tables 𝓤 𝓛.H 𝓜 𝓡 𝓡.env in
       let hs : Stays e.signature.params e.ended.kept = (stay_dropped _ yes, (stay_dropped _ no, tt)) in
@@ -182,7 +183,7 @@ module _ {M : Type 1} (𝓤 : Ura M) (𝓛 : Logic 𝓤) (𝓜 : Model 𝓤 𝓛
       let zh : H.Ghost = ((κs, qs, tt, (x, (as_bor s, tt)), (shr_slice_vals x, (mut_slice_vals s, tt))), tt) in
       use0 𝓛 (raw (fact 𝓤 ((length s.now ≡ m) → IsAscii s.now))) (fact_i 𝓤 _ _ ascii) $ move ! (1 ∷ 0 ∷ []) $
       use2 𝓛 (raw (H.pre zh)) (id⊢ 𝓤 _) $
-      calls_at ! (framed 𝓤 𝓛.H 𝓜 𝓣) H hands_met zh
+      calls_at ! (framed 𝓤 𝓛.H 𝓜 𝓣) H as_text_met zh
       (and_then ! (get ! refl) (and_then ! (get ! refl) (no_more !))) (λ v'.
       use1 𝓛 (later (some (λ (r : Returned.Denot). (tokens ⊛ ‵ (Returned.own_val r (v' ∷ []))) ⊛
       some (λ (ws' : Lasts h.ended κs zh.0.3). ‵ (lasts h.ended κs zh.0.3 ws') ⊛

@@ -1,7 +1,9 @@
 -- Symbolic execution (see `Walks`) of a function that fills a buffer by one call, which returns a borrow of the text in
 -- a struct, and returns this borrow. One walk serves every such function, whatever the contracts are.
 --
--- A list in brackets is the symbolic state: the resources that are held there, in order.
+-- A list in brackets is the symbolic state: the resources that are held there, in order. `𝓤` is the resource algebra of
+-- the separation logic `𝓛`, `𝓜` is the memory model, and `𝓡` is the running program. Each line that ends in `$` applies
+-- a rule to the symbolic state.
 use Rattle.const_hex_arch.proofs.lemmas.Walks.{ℕ, length, Bool, List, [], ◌∷◌, refl, ap, T, proved, id⊢, ftrue, Ty, Fn, Callee, local, value_local, ty_ref, ty_int, imm, mut, erased, field, deref, place, copy, rv_opd, addr_of, assign, call, seq, a_number, named, w8, Val, vptr, WT, has_ty, Running, tables, Model, Closed, Ura, Logic, ‵, raw, ◌⊛◌, some, later, ◌$◌, ◌∵◌, !, qed, done, move, drop, use1, use2, split, join, pick, await, suffices, enter, of_opd, addr, fld, stop, no_more, and_then, returns, alloc_all, pass_all, free_all, look_at, get, get_in, sub, whole, through, sets, lands_as, u8, bool, RefOf, SliceRefOf, RefMutOf, yes, no, left, Is, Tells, shows, bool_vals, bool_Makes, Slot, plain, nothing, owned, peeks, only, calls_at, Clauses, Ended, closing, lasts, Lasts, Meets, triple_of, RattleType, framed, ends_at}
 use mir.Syntax.{return as end}
 use types.Kit.{fsplit, fjoin}
@@ -26,7 +28,7 @@ use Rattle.const_hex.specs.contracts.buffer.Lent as lent
 use Rattle.const_hex.proofs.buffer.Lent.TheLaws as lent_laws
 use Rattle.const_hex.proofs.lemmas.Walks.{flag, flag_lit}
 
--- of a parameter only what the contract says of it stays known
+-- what stays known of a parameter is only what the contract says
 abbrev stays : {n : ℕ} (s : Slot n) (k : Kept) → Stay s k
 stays s k = record { fit = λ κs x f. Unit {0}; has = λ κs x f vs. left ((s.row κs).exit k) x f }
 
@@ -145,7 +147,7 @@ module _ (n p len : ℕ) where
           some (λ (ws : Lasts Fills κs z.0.3).
           ‵ (lasts Fills κs z.0.3 ws) ⊛ raw (at.ensures g d (at_exit Fills κs z.0.3 ws)))))) (id⊢ 𝓤 _) $
           await ! tt $ pick ! (λ d. split ! $ split ! $ move ! (2 ∷ []) $ pick ! (λ ws. split ! $
-          -- [what is left of the parameters; what is ensured; the tokens; the struct; the locals]
+          -- [what remains of the parameters; what is ensured; the tokens; the struct; the locals]
           fsplit ! $ move ! (1 ∷ []) $ fsplit ! $ move ! (1 ∷ []) $ drop ! $ nothing ! $ move ! (1 ∷ 0 ∷ []) $ fjoin ! $
           move ! (1 ∷ 0 ∷ []) $ fjoin ! $
           move ! (3 ∷ []) $ peeks ! Filled (Is Filled) (shows 𝓛 Filled) d (v ∷ []) (λ repr.
@@ -156,7 +158,7 @@ module _ (n p len : ℕ) where
           (takes 𝓛 (shape L) (spells L.parts laws) (tellss L.parts laws) (d.text, tt) (v ∷ [])) $
           split ! $ move ! (1 ∷ []) $ drop ! $
           returns ! (look_at ! 0 refl) $ free_all ! refl $
-          -- [the text; what is left of the parameters; what is ensured; the tokens]
+          -- [the text; what remains of the parameters; what is ensured; the tokens]
           suffices ! _
           (ends_at 𝓛 Lends hs passed_on ((κs, qs, bounds, a, (vs0, (vs1, tt))), g) _ d.text (ws.0, (ws.1.0, tt))
           (tt, (tt, tt))) $

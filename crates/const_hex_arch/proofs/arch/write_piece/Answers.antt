@@ -1,6 +1,7 @@
+-- Proofs of open goals: `c` has the facts that are known at a goal, `g` the type parameters and their traits' members.
 use Rattle.std.proofs.Common.{[], ◌∷◌, slice_index_or, arith}
 use Rattle.const_hex_arch.proofs.lemmas.Runs.{one_written, Writes-append}
-use Rattle.const_hex_arch.proofs.lemmas.Steps.{two_bytes}
+use Rattle.const_hex_arch.proofs.lemmas.Blocks.{two_bytes}
 use Rattle.const_hex_arch.proofs.arch.write_piece.Goals as goal
 
 pub returns-then-byte_by_byte : goal.returns-then-byte_by_byte

@@ -1,3 +1,4 @@
+-- Proofs of open goals: `c` has the facts that are known at a goal, `g` the type parameters and their traits' members.
 use Rattle.std.proofs.Common.{◌+◌, ◌*◌, ◌/◌, ◌%◌, true, false, get_or, arith}
 use Rattle.const_hex_arch.specs.{hex_digit}
 use Rattle.const_hex_arch.specs.declared.tables.TheConstants.{PAIRS_LOWER, PAIRS_UPPER}

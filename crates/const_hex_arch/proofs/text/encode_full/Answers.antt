@@ -1,3 +1,4 @@
+-- Proofs of open goals: `c` has the facts that are known at a goal, `g` the type parameters and their traits' members.
 use Rattle.std.proofs.Common.{◌*◌, length, rules}
 use Rattle.const_hex_arch.specs.{prefix_of}
 use Rattle.const_hex_arch.proofs.lemmas.Runs.{Writes-append, Writes_space}

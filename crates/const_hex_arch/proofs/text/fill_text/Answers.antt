@@ -1,3 +1,4 @@
+-- Proofs of open goals: `c` has the facts that are known at a goal, `g` the type parameters and their traits' members.
 use Rattle.std.proofs.Common.{rules, arith}
 use Rattle.const_hex_arch.proofs.lemmas.Texts.{IsAscii-full_text}
 use Rattle.const_hex_arch.proofs.text.fill_text.Goals as goal

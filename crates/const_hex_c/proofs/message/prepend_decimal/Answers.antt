@@ -1,3 +1,4 @@
+-- Proofs of open goals: `c` has the facts that are known at a goal.
 use Rattle.std.proofs.Common.{◌≡◌, ◌+◌, ◌-◌, ◌/◌, ◌%◌, [], ◌∷◌, length, decimal, refl, ap, ◌∙◌, arith, append-nil, append_assoc, length-append}
 use Rattle.std.proofs.lemmas.Fmt.{decimal_digit, decimal_nonempty, decimal_step, length-decimal-le}
 use Rattle.std.proofs.lemmas.List.{drop-set, drop_all, length-set}
@@ -15,11 +16,11 @@ digits-init c = record {
 pub digits-preserved : goal.digits-preserved
 digits-preserved c =
     let l = c.digits in
-    let step = decimal_step l.left (omega arith) (omega (arith, l.auto.left-fits.fits)) in
-    let long = ap length step ∙ length-append (decimal (l.left / 10)) ((48 + l.left % 10) ∷ []) in
+    let step = decimal_step l.quotient (omega arith) (omega (arith, l.auto.quotient-fits.fits)) in
+    let long = ap length step ∙ length-append (decimal (l.quotient / 10)) ((48 + l.quotient % 10) ∷ []) in
     let e : l.start - 1 + 1 ≡ l.start = omega arith in record {
       within = omega arith;
-      size = omega (arith, length-set l.space (l.start - 1) (48 + l.left % 10));
+      size = omega (arith, length-set l.space (l.start - 1) (48 + l.quotient % 10));
       long = l.invariant.long;
       start = omega arith;
       digits = rw (drop-set l.space (l.start - 1) _ (omega arith), e) (rw (step, append_assoc) at l.invariant.digits);
@@ -27,7 +28,7 @@ digits-preserved c =
 
 pub returns-clause-start : goal.returns-clause-start
 returns-clause-start c =
-    let some = decimal_nonempty c.digits.left (omega (arith, c.digits.auto.left-fits.fits)) in
+    let some = decimal_nonempty c.digits.quotient (omega (arith, c.digits.auto.quotient-fits.fits)) in
     (omega arith, omega arith)
 
 pub returns-clause-digits : goal.returns-clause-digits
@@ -35,4 +36,4 @@ returns-clause-digits c =
     let l = c.digits in
     let e : l.start - 1 + 1 ≡ l.start = omega arith in
     rw (drop-set l.space (l.start - 1) _ (omega arith), e)
-    (rw (decimal_digit l.left (omega arith)) at l.invariant.digits)
+    (rw (decimal_digit l.quotient (omega arith)) at l.invariant.digits)

@@ -1,15 +1,16 @@
+-- Loop invariant and measure: `l` has the live variables.
 use Rattle.std.proofs.Common.{◌≡◌, ◌+◌, ◌≤◌, ◌++◌, length, drop, decimal}
 use Rattle.const_hex_c.proofs.message.prepend_decimal.Given as goal
 
--- 59 is `LONGEST`, and left is what is left of the number
+-- 59 is `MAX_MESSAGE`, and the digits of `quotient` are still to be written
 abbrev pub invariant-digits : goal.invariant-digits
 invariant-digits l = record {
   within : l.start ≤ 59;
   size : length l.space ≡ 59;
   long : length (decimal l.number) ≤ 20;
-  start : l.start + length (decimal l.number) ≡ 59 + length (decimal l.left);
-  digits : decimal l.left ++ drop l.start l.space ≡ decimal l.number;
+  start : l.start + length (decimal l.number) ≡ 59 + length (decimal l.quotient);
+  digits : decimal l.quotient ++ drop l.start l.space ≡ decimal l.number;
 }
 
 abbrev pub decreases-digits : goal.decreases-digits
-decreases-digits l = l.left
+decreases-digits l = l.quotient

@@ -1,3 +1,4 @@
+-- Loop invariant and measure: `l` has the live variables.
 use Rattle.std.proofs.Common.{◌≡◌, ◌<◌, ◌+◌, ◌-◌, ◌≤◌, length, take, drop, slice_index}
 use Rattle.const_hex_c.proofs.message.write_ended.Given as goal
 

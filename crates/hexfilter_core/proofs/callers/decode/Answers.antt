@@ -1,4 +1,6 @@
 -- Proofs of open goals: `c` has the facts that are known at a goal, `g` the type parameters and their traits' members.
+-- `x` is the input that was read, `y` is the output that was written for it, and `has` is the fact that they match the
+-- state.
 use Rattle.std.proofs.Common.{◌∷◌, ◌++◌, ◌*◌, [], Ok, false, length, refl, take}
 use Rattle.std.proofs.lemmas.Result.{on_err_weaker, on_ok_weaker}
 use Rattle.hexfilter_core.proofs.lemmas.Texts.{text_plain}

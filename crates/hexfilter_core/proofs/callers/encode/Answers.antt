@@ -1,4 +1,6 @@
 -- Proofs of open goals: `c` has the facts that are known at a goal, `g` the type parameters and their traits' members.
+-- `x` is the input that was read, `y` is the output that was written for it, and `has` is the fact that they match the
+-- state.
 use Rattle.std.proofs.Common.{◌≡◌, ◌∙◌, [], ℕ, List, None, append-nil, arith, false, refl, sym}
 use Rattle.hexfilter_core.proofs.lemmas.Groups.{without_groups}
 use Rattle.hexfilter_core.proofs.lemmas.Runs.{ends_always, not_rejected}

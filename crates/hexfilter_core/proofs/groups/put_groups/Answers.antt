@@ -1,13 +1,13 @@
 -- Proofs of open goals: `c` has the facts that are known at a goal.
 use Rattle.std.proofs.Common.{◌≡◌, ◌∙◌, ◌+◌, ◌-◌, ◌++◌, take, drop, ap, arith, take-take}
-use Rattle.hexfilter_core.proofs.lemmas.Groups.{goes_on, puts_more}
+use Rattle.hexfilter_core.proofs.lemmas.Groups.{more_in_group, puts_more}
 use Rattle.hexfilter_core.proofs.lemmas.Texts.{take_put}
 use Rattle.hexfilter_core.proofs.groups.put_groups.Goals as goal
 
 pub groups-preserved : goal.groups-preserved
 groups-preserved c =
-    let laid = c.groups.invariant in
-    let parted = c.separate-start.ensures in
+    let written = c.groups.invariant in
+    let separated = c.separate-start.ensures in
     let text = c.args.text.now in
     let done = c.groups.done in
     let count = c.min-count.result in
@@ -18,20 +18,20 @@ groups-preserved c =
     let put = take_put _ _ count _ new (omega arith) (omega arith)
     ∙ ap (λ l. take c.separate-start.result.0 c.separate-start.new.output ++ l) copied in record {
       within = omega arith;
-      space = omega (arith, parted.within);
-      column = omega (arith, parted.column);
-      groups = goes_on _ _ _ text done count _ (λ rest some. laid.groups rest ∙ parted.groups rest some)
+      space = omega (arith, separated.within);
+      column = omega (arith, separated.column);
+      groups = more_in_group _ _ _ text done count _ (λ rest some. written.groups rest ∙ separated.groups rest some)
           (omega arith) (omega arith) (omega arith) _ put;
     }
 
 pub groups-preserved-then-text-done-gt-BLOCK : goal.groups-preserved-then-text-done-gt-BLOCK
 groups-preserved-then-text-done-gt-BLOCK c =
-    let laid = c.groups.invariant in
+    let written = c.groups.invariant in
     let put = c.put_short-taken.ensures in record {
       within = omega arith;
       space = omega arith;
       column = omega arith;
       groups = rw c.if-column-groups.true (puts_more c.args.groups c.args.column _ _ c.args.text.now c.groups.done _
           c.groups.output c.put_short-taken.new.output c.groups.end _ _ (omega arith) (omega arith) (omega arith)
-          (rw c.if-column-groups.true at laid.groups) put.groups);
+          (rw c.if-column-groups.true at written.groups) put.groups);
     }

@@ -4,7 +4,7 @@ use Rattle.std.proofs.KnownBytes.{Appends-kept, Appends-trans, Consumes-kept, Co
 use Rattle.std.proofs.Math.Seq.{take-append-add}
 use Rattle.hexfilter_core.proofs.lemmas.Groups.{if_err, if_ok}
 use Rattle.hexfilter_core.proofs.lemmas.Runs.{same_value}
-use Rattle.hexfilter_core.proofs.lemmas.Texts.{fewer_made, reached_begun, so_far_made}
+use Rattle.hexfilter_core.proofs.lemmas.Texts.{fewer_made, reached_beginning, so_far_made}
 use Rattle.hexfilter_core.proofs.runs.run.Goals as goal
 
 -- by the loop invariant, x was read and y was written so far: has, read and wrote are its three facts
@@ -20,7 +20,7 @@ returns-in_err-write_piece-clause-partly_written g c =
     let piece = take c.process_chunk-end.result.0 c.process_chunk-end.new.output in
     let (n, begun) = c.in_err-write_piece.ensures.partly_written in
     let fewer = rw (take-append-add y piece n) at (fewer_made c.args.mode _ (y ++ piece) (length y + n)
-    (reached_begun _ _ (Some []) _ _ _ _ (c.process_chunk-end.ensures.made x y (Some []) has (λ none. refl)))) in
+    (reached_beginning _ _ (Some []) _ _ _ _ (c.process_chunk-end.ensures.made x y (Some []) has (λ none. refl)))) in
     if_err c.from_residual-in_err-write_piece.result
     (_, _, Consumes-trans _ _ _ x _ read c.in_ok-count.ensures.bytes, fewer, Appends-trans _ _ _ y _ wrote begun)
 
@@ -38,7 +38,7 @@ returns-in-Some g c =
           (omega (arith, none, length-take c.in_ok-count.count c.read_chunk.new.buffer, c.in_ok-count.ensures.bound))
           (omega (arith, c.read_chunk.auto.buffer)))) in
           (_, _, bytes, rw (same_value _ _ result_eq) at fails, more);
-      partly_written = (_, _, bytes, reached_begun _ _ (Some []) _ _ _ _ made, more);
+      partly_written = (_, _, bytes, reached_beginning _ _ (Some []) _ _ _ _ made, more);
       retried = let fails = rw c.in-Some.is at made in grind (arith, fails);
     }
 
@@ -75,6 +75,6 @@ returns-then-count-eq0 g c =
     let end = got.end c.if-count-eq0.true (omega (arith, c.read_chunk.auto.buffer)) in record {
       ok = if_ok c.flush.result (_, _, bytes, end, makes, kept);
       text = search rules;
-      partly_written = if_err c.flush.result (_, _, bytes, reached_begun _ _ (Some []) _ _ _ _ made, kept);
+      partly_written = if_err c.flush.result (_, _, bytes, reached_beginning _ _ (Some []) _ _ _ _ made, kept);
       retried = search rules;
     }

@@ -1,7 +1,7 @@
 -- Proofs of open goals: `c` has the facts that are known at a goal.
 use Rattle.std.proofs.Common.{arith, refl}
 use Rattle.std.proofs.lemmas.Result.{IfOk-weaker}
-use Rattle.const_hex_arch.proofs.lemmas.FirstInvalid.{digits_no_bad}
+use Rattle.const_hex_arch.proofs.lemmas.FirstInvalid.{digits_not_invalid}
 use Rattle.hexfilter_core.proofs.stage.decode_text.Goals as goal
 
 pub returns-in-Ok-clause-ok : goal.returns-in-Ok-clause-ok
@@ -15,7 +15,7 @@ returns-in-Ok-clause-ok c = λ t z has.
 
 pub returns-in-Err-clause-err : goal.returns-in-Err-clause-err
 returns-in-Err-clause-err c =
-    λ t z has space. grind (arith, digits_no_bad, c.in-Err.ensures.outcome t has.bytes has.read)
+    λ t z has space. grind (arith, digits_not_invalid, c.in-Err.ensures.outcome t has.bytes has.read)
 
 pub returns-clause-ok : goal.returns-clause-ok
 returns-clause-ok c = λ t z has.
@@ -26,4 +26,4 @@ returns-clause-ok c = λ t z has.
 
 pub returns-clause-err : goal.returns-clause-err
 returns-clause-err c = λ t z has space.
-    grind (arith, digits_no_bad, c.decode.ensures.outcome t has.bytes has.read, c.decode.ensures.enough space)
+    grind (arith, digits_not_invalid, c.decode.ensures.outcome t has.bytes has.read, c.decode.ensures.enough space)

@@ -1,7 +1,7 @@
 -- Proofs of open goals: `c` has the facts that are known at a goal, `g` the type parameters and their traits' members.
 use Rattle.std.proofs.Common.{refl, arith}
-use Rattle.const_hex_arch.proofs.lemmas.Steps.{digits_step}
+use Rattle.const_hex_arch.proofs.lemmas.Blocks.{digits_block}
 use Rattle.const_hex.proofs.codec.body.skip_if_digits.Goals as goal
 
 pub returns-then-check-clause-digits : goal.returns-then-check-clause-digits
-returns-then-check-clause-digits g c = digits_step _ _ _ _ (omega arith) c.requires.digits (c.if-check.ensures.0 refl)
+returns-then-check-clause-digits g c = digits_block _ _ _ _ (omega arith) c.requires.digits (c.if-check.ensures.0 refl)

@@ -4,10 +4,10 @@ use Rattle.const_hex.proofs.lemmas.Walks.EncodedStr.{text_or_error}
 use Rattle.const_hex.proofs.codec.encoders.encode_to_str_upper.Statement.{statement}
 use Rattle.const_hex.proofs.codec.encoders.encode_to_str_upper.Code as code
 use Rattle.const_hex.proofs.codec.encoders.encode_into.Met as fills
-use Rattle.const_hex.proofs.codec.encoders.encoded_text.Met as encodes
+use Rattle.const_hex.proofs.codec.encoders.encoded_text.Met as as_text
 
 pub encode_to_str_upper_spec : {M : Type 1} → statement M
 encode_to_str_upper_spec 𝓤 𝓛 𝓜 𝓡 wired =
     text_or_error 𝓤 𝓛 𝓜 𝓡 true _ (code.unfolded 𝓤 𝓛.H 𝓜 𝓡 wired)
     (fills.met 𝓤 𝓛 𝓜 𝓡 (code.calls-const_hex::codec::encoders::encode_into 𝓡.env wired))
-    (encodes.met 𝓤 𝓛 𝓜 𝓡 (code.calls-const_hex::codec::encoders::encoded_text 𝓡.env wired))
+    (as_text.met 𝓤 𝓛 𝓜 𝓡 (code.calls-const_hex::codec::encoders::encoded_text 𝓡.env wired))

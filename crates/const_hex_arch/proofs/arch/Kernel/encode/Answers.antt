@@ -1,7 +1,8 @@
+-- Proofs of open goals: `c` has the facts that are known at a goal, `g` the type parameters and their traits' members.
 use Rattle.std.proofs.Common.{arith}
 use Rattle.std.proofs.lemmas.List.{nil_from_length}
 use Rattle.const_hex_arch.proofs.lemmas.Runs.{none_written}
-use Rattle.const_hex_arch.proofs.lemmas.Steps.{first_ascii, parts, text_written}
+use Rattle.const_hex_arch.proofs.lemmas.Blocks.{first_ascii, parts, text_written}
 use Rattle.const_hex_arch.proofs.lemmas.Texts.{IsAscii-hex_text, hex_text-append, hex_text-nil}
 use Rattle.const_hex_arch.proofs.arch.Kernel.encode.Goals as goal
 

@@ -1,5 +1,6 @@
+-- Loop invariant and measure: `l` has the live variables, `g` the type parameters and their traits' members.
 use Rattle.std.proofs.Common.{length}
-use Rattle.const_hex_arch.proofs.lemmas.Steps.{IsWritten}
+use Rattle.const_hex_arch.proofs.lemmas.Blocks.{IsWritten}
 use Rattle.const_hex_arch.proofs.arch.Kernel.encode.Given as goal
 
 abbrev pub invariant-loop-rest : goal.invariant-loop-rest

@@ -1,3 +1,4 @@
+-- Proofs of open goals: `c` has the facts that are known at a goal, `g` the type parameters and their traits' members.
 use Rattle.const_hex_arch.proofs.lemmas.LaneValues.{clear_are_digits}
 use Rattle.const_hex_arch.proofs.arch.lanes.error_bits.Goals as goal
 

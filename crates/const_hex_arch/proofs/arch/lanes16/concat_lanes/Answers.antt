@@ -1,3 +1,4 @@
+-- Proofs of open goals: `c` has the facts that are known at a goal.
 use Rattle.std.proofs.Common.{arith, length-append}
 use Rattle.std.proofs.lemmas.Simd.{pick_l_whole}
 use Rattle.const_hex_arch.proofs.arch.lanes16.concat_lanes.Goals as goal

@@ -1,3 +1,4 @@
+-- Proofs of open goals: `c` has the facts that are known at a goal, `g` the type parameters and their traits' members.
 use Rattle.std.proofs.Common.{append-nil, ◌∙◌, arith}
 use Rattle.const_hex_arch.proofs.lemmas.LaneText.{halves}
 use Rattle.const_hex_arch.proofs.arch.lanes16.encode_chunk.Goals as goal

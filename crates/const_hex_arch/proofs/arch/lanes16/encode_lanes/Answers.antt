@@ -1,14 +1,15 @@
+-- Proofs of open goals: `c` has the facts that are known at a goal.
 use Rattle.std.proofs.Common.{map, ◌++◌, refl}
 use Rattle.std.specs.List.{range_with_len}
 use Rattle.const_hex_arch.specs.{hex_digit}
-use Rattle.const_hex_arch.proofs.lemmas.LaneText.{halves_ok, halves_text, row_is_table}
+use Rattle.const_hex_arch.proofs.lemmas.LaneText.{nibbles_ok, text_of_nibbles, digits_are_table}
 use Rattle.const_hex_arch.proofs.arch.lanes16.encode_lanes.Goals as goal
 
 pub swizzle : goal.swizzle
-swizzle c = rw c.split_lanes.ensures (halves_ok 2 16 c.args.v c.fits-v refl)
+swizzle c = rw c.split_nibbles.ensures (nibbles_ok 2 16 c.args.v c.fits-v refl)
 
 pub returns : goal.returns
 returns c =
     let digits = map (hex_digit c.args.upper) (range_with_len 0 16) in
-    rw (c.split_lanes.ensures, c.in_both_halves.ensures, c.digits_row.ensures)
-    (halves_text c.args.upper 16 (digits ++ digits) c.args.v c.fits-v (row_is_table c.args.upper).0)
+    rw (c.split_nibbles.ensures, c.repeat_lanes.ensures, c.digit_table.ensures)
+    (text_of_nibbles c.args.upper 16 (digits ++ digits) c.args.v c.fits-v (digits_are_table c.args.upper).0)

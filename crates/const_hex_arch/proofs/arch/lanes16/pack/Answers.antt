@@ -1,3 +1,4 @@
+-- Proofs of open goals: `c` has the facts that are known at a goal.
 use Rattle.const_hex_arch.proofs.lemmas.LaneValues.{merge_all}
 use Rattle.const_hex_arch.proofs.arch.lanes16.pack.Goals as goal
 

@@ -1,15 +1,16 @@
+-- Loop invariant and measure: `l` has the live variables, `g` the type parameters and their traits' members.
 use Rattle.std.proofs.Common.{◌-◌, ◌≤◌, length, take}
 use Rattle.const_hex_arch.specs.{AllDigits}
 use Rattle.const_hex_arch.proofs.arch.long.check.Given as goal
 
-abbrev pub invariant-loop-at : goal.invariant-loop-at
-invariant-loop-at g l = record { within : l.at ≤ length l.text; digits : AllDigits (take l.at l.text) }
+abbrev pub invariant-loop-index : goal.invariant-loop-index
+invariant-loop-index g l = record { within : l.index ≤ length l.text; digits : AllDigits (take l.index l.text) }
 
-abbrev pub decreases-loop-at : goal.decreases-loop-at
-decreases-loop-at g l = length l.text - l.at
+abbrev pub decreases-loop-index : goal.decreases-loop-index
+decreases-loop-index g l = length l.text - l.index
 
-abbrev pub invariant-loop-at-2 : goal.invariant-loop-at-2
-invariant-loop-at-2 g l = record { within : l.at ≤ length l.text; digits : AllDigits (take l.at l.text) }
+abbrev pub invariant-loop-index-2 : goal.invariant-loop-index-2
+invariant-loop-index-2 g l = record { within : l.index ≤ length l.text; digits : AllDigits (take l.index l.text) }
 
-abbrev pub decreases-loop-at-2 : goal.decreases-loop-at-2
-decreases-loop-at-2 g l = length l.text - l.at
+abbrev pub decreases-loop-index-2 : goal.decreases-loop-index-2
+decreases-loop-index-2 g l = length l.text - l.index

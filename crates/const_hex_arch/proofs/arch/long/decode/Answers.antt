@@ -1,33 +1,34 @@
+-- Proofs of open goals: `c` has the facts that are known at a goal, `g` the type parameters and their traits' members.
 use Rattle.std.proofs.Common.{◌-◌, length, refl, arith}
-use Rattle.const_hex_arch.proofs.lemmas.Steps.{decoded_step, decoded_less, refused_step, spells_rest}
+use Rattle.const_hex_arch.proofs.lemmas.Blocks.{decoded_block, decoded_less, rejected_block, spells_rest}
 use Rattle.const_hex_arch.proofs.arch.long.decode.Goals as goal
 
 pub loop-output-preserved : goal.loop-output-preserved
 loop-output-preserved g c =
-    decoded_step _ _ _ c.loop-output.invariant (omega arith) (c.if-not-decode_two_steps.ensures.spells refl)
+    decoded_block _ _ _ c.loop-output.invariant (omega arith) (c.if-not-decode_two_blocks.ensures.spells refl)
 
-pub returns-then-not-decode_two_steps-clause-invalid : goal.returns-then-not-decode_two_steps-clause-invalid
-returns-then-not-decode_two_steps-clause-invalid g c =
-    let is = c.if-not-decode_two_steps.ensures in
-    refused_step _ _ _ _ c.loop-output.invariant c.requires.size is.digits (is.unchanged refl)
+pub returns-then-not-decode_two_blocks-clause-invalid : goal.returns-then-not-decode_two_blocks-clause-invalid
+returns-then-not-decode_two_blocks-clause-invalid g c =
+    let is = c.if-not-decode_two_blocks.ensures in
+    rejected_block _ _ _ _ c.loop-output.invariant c.requires.size is.digits (is.unchanged refl)
 
 pub loop-output-2-preserved : goal.loop-output-2-preserved
 loop-output-2-preserved g c =
-    decoded_step _ _ _ c.loop-output-2.invariant (omega arith)
-    (c.if-not-decode_step.ensures.spells refl)
+    decoded_block _ _ _ c.loop-output-2.invariant (omega arith)
+    (c.if-not-decode_block.ensures.spells refl)
 
-pub returns-then-not-decode_step-clause-invalid : goal.returns-then-not-decode_step-clause-invalid
-returns-then-not-decode_step-clause-invalid g c =
-    let is = c.if-not-decode_step.ensures in
-    refused_step _ _ _ _ c.loop-output-2.invariant c.requires.size is.digits (is.unchanged refl)
+pub returns-then-not-decode_block-clause-invalid : goal.returns-then-not-decode_block-clause-invalid
+returns-then-not-decode_block-clause-invalid g c =
+    let is = c.if-not-decode_block.ensures in
+    rejected_block _ _ _ _ c.loop-output-2.invariant c.requires.size is.digits (is.unchanged refl)
 
 pub returns-clause-spells : goal.returns-clause-spells
 returns-clause-spells g c = λ t.
     let start = length c.loop-output-2.output - g.row.N in
     spells_rest _ (decoded_less start c.loop-output-2.invariant (omega arith)) (omega arith) (omega arith)
-    (c.decode_step-2.ensures.spells t)
+    (c.decode_block-2.ensures.spells t)
 
 pub returns-clause-invalid : goal.returns-clause-invalid
 returns-clause-invalid g c = λ f.
-    let is = c.decode_step-2.ensures in
-    refused_step _ _ _ _ c.loop-output-2.invariant c.requires.size is.digits (is.unchanged f) f
+    let is = c.decode_block-2.ensures in
+    rejected_block _ _ _ _ c.loop-output-2.invariant c.requires.size is.digits (is.unchanged f) f

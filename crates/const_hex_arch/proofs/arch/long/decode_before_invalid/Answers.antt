@@ -1,26 +1,27 @@
+-- Proofs of open goals: `c` has the facts that are known at a goal, `g` the type parameters and their traits' members.
 use Rattle.std.proofs.Common.{refl, arith}
-use Rattle.const_hex_arch.proofs.lemmas.Steps.{decoded_step, refused_step, spells_rest, refused_rest}
+use Rattle.const_hex_arch.proofs.lemmas.Blocks.{decoded_block, rejected_block, spells_rest, rejected_rest}
 use Rattle.const_hex_arch.proofs.arch.long.decode_before_invalid.Goals as goal
 
 pub loop-output-preserved : goal.loop-output-preserved
 loop-output-preserved g c =
-    decoded_step _ _ _ c.loop-output.invariant (omega arith)
-    (c.if-not-decode_step.ensures.spells refl)
+    decoded_block _ _ _ c.loop-output.invariant (omega arith)
+    (c.if-not-decode_block.ensures.spells refl)
 
-pub returns-then-not-decode_step-clause-invalid : goal.returns-then-not-decode_step-clause-invalid
-returns-then-not-decode_step-clause-invalid g c =
-    let is = c.if-not-decode_step.ensures in
-    refused_step _ _ _ _ c.loop-output.invariant c.requires is.digits (is.unchanged refl)
+pub returns-then-not-decode_block-clause-invalid : goal.returns-then-not-decode_block-clause-invalid
+returns-then-not-decode_block-clause-invalid g c =
+    let is = c.if-not-decode_block.ensures in
+    rejected_block _ _ _ _ c.loop-output.invariant c.requires is.digits (is.unchanged refl)
 
 pub loop-output-2-preserved : goal.loop-output-2-preserved
 loop-output-2-preserved g c =
-    decoded_step _ _ _ c.loop-output-2.invariant (omega arith)
-    (c.if-not-decode_step-2.ensures.spells refl)
+    decoded_block _ _ _ c.loop-output-2.invariant (omega arith)
+    (c.if-not-decode_block-2.ensures.spells refl)
 
-pub returns-then-not-decode_step-2-clause-invalid : goal.returns-then-not-decode_step-2-clause-invalid
-returns-then-not-decode_step-2-clause-invalid g c =
-    let is = c.if-not-decode_step-2.ensures in
-    refused_step _ _ _ _ c.loop-output-2.invariant c.requires is.digits (is.unchanged refl)
+pub returns-then-not-decode_block-2-clause-invalid : goal.returns-then-not-decode_block-2-clause-invalid
+returns-then-not-decode_block-2-clause-invalid g c =
+    let is = c.if-not-decode_block-2.ensures in
+    rejected_block _ _ _ _ c.loop-output-2.invariant c.requires is.digits (is.unchanged refl)
 
 pub returns-clause-spells : goal.returns-clause-spells
 returns-clause-spells g c = λ t.
@@ -28,4 +29,4 @@ returns-clause-spells g c = λ t.
 
 pub returns-clause-invalid : goal.returns-clause-invalid
 returns-clause-invalid g c = λ f.
-    refused_rest _ c.loop-output-2.invariant c.requires (omega arith) (c.decode_checked.ensures.invalid f)
+    rejected_rest _ c.loop-output-2.invariant c.requires (omega arith) (c.decode_checked.ensures.invalid f)

@@ -1,13 +1,14 @@
+-- Proofs of open goals: `c` has the facts that are known at a goal, `g` the type parameters and their traits' members.
 use Rattle.std.proofs.Common.{◌-◌, length, arith}
-use Rattle.const_hex_arch.proofs.lemmas.Steps.{decoded_step, decoded_less, spells_rest}
+use Rattle.const_hex_arch.proofs.lemmas.Blocks.{decoded_block, decoded_less, spells_rest}
 use Rattle.const_hex_arch.proofs.arch.long.decode_unchecked.Goals as goal
 
 pub loop-output-preserved : goal.loop-output-preserved
 loop-output-preserved g c =
-    decoded_step _ _ _ c.loop-output.invariant (omega arith) c.decode_unchecked_step.ensures
+    decoded_block _ _ _ c.loop-output.invariant (omega arith) c.decode_unchecked_block.ensures
 
 pub returns : goal.returns
 returns g c =
     let start = length c.loop-output.output - g.row.N in
     spells_rest _ (decoded_less start c.loop-output.invariant (omega arith)) (omega arith) (omega arith)
-    c.decode_unchecked_step-2.ensures
+    c.decode_unchecked_block-2.ensures

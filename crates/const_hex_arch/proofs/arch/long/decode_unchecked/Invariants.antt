@@ -1,9 +1,10 @@
+-- Loop invariant and measure: `l` has the live variables, `g` the type parameters and their traits' members.
 use Rattle.std.proofs.Common.{◌-◌, length}
-use Rattle.const_hex_arch.proofs.lemmas.Steps.{IsDecoded}
+use Rattle.const_hex_arch.proofs.lemmas.Blocks.{IsDecoded}
 use Rattle.const_hex_arch.proofs.arch.long.decode_unchecked.Given as goal
 
 abbrev pub invariant-loop-output : goal.invariant-loop-output
-invariant-loop-output g l = IsDecoded l.text l.fn.output l.output l.at
+invariant-loop-output g l = IsDecoded l.text l.fn.output l.output l.index
 
 abbrev pub decreases-loop-output : goal.decreases-loop-output
-decreases-loop-output g l = length l.output - l.at
+decreases-loop-output g l = length l.output - l.index

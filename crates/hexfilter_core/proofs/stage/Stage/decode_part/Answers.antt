@@ -1,4 +1,5 @@
--- Proofs of open goals: `c` has the facts that are known at a goal.
+-- Proofs of open goals: `c` has the facts that are known at a goal. `x` is the input that was read, `y` is the output
+-- that was written for it, and `has` is the fact that they match the state.
 use Rattle.std.proofs.Common.{arith, length-take, refl}
 use Rattle.std.proofs.lemmas.Result.{IfOk-weaker}
 use Rattle.hexfilter_core.proofs.lemmas.Texts.{decoded_more, plain_added}

@@ -1,4 +1,5 @@
--- Proofs of open goals: `c` has the facts that are known at a goal.
+-- Proofs of open goals: `c` has the facts that are known at a goal. `x` is the input that was read, `y` is the output
+-- that was written for it, and `has` is the fact that they match the state.
 use Rattle.std.proofs.Common.{◌≡◌, ◌++◌, [], ℕ, List, Bool, true, false, if◌then◌else◌, ap, append-nil, arith, length}
 use Rattle.std.proofs.lemmas.Bool.Decides.{nat_tests}
 use Rattle.std.proofs.lemmas.Grind.{common_steps}

@@ -2,7 +2,7 @@
 use Rattle.std.proofs.Common.{◌++◌, ℕ, List, Err, arith, refl, sym, length, ◌≡◌, ◌∙◌, take, drop, rules, length-take-le, take_at, drop_at}
 use Rattle.const_hex.specs.Prelude.{HasRead, InvalidStringLength, ReadsOn}
 use Rattle.const_hex_arch.proofs.lemmas.Digits.{digits_append}
-use Rattle.const_hex_arch.proofs.lemmas.FirstInvalid.{digits_no_bad}
+use Rattle.const_hex_arch.proofs.lemmas.FirstInvalid.{digits_not_invalid}
 use Rattle.const_hex.proofs.lemmas.Decoding.{body_added, first_invalid_in_chunk, body_is_digits, decode_more, decoded_length, partial_pairs}
 use Rattle.const_hex.proofs.codec.decoder.Decoder.decode_with.Goals as goal
 
@@ -24,8 +24,8 @@ returns-then-not-decode_next g c =
           let size = decoded_length _ c.args.chunk.now _ _ next.ensures.body next.ensures.pending_valid t bs r _
           c.count_pairs-count.ensures in
           let (p, invalid_at, error_eq) = c.fail.ensures.names (λ a.
-          digits_no_bad _ invalid.bad ((digits_append _ _).1 (next.ensures.pending_valid r.pending_valid, a))
-          invalid.first_bad) in
+          digits_not_invalid _ invalid.invalid_index ((digits_append _ _).1 (next.ensures.pending_valid r.pending_valid, a))
+          invalid.first_invalid) in
           rw error_eq (
             omega (arith, size),
             first_invalid_in_chunk _ c.args.chunk.now _ _ next.ensures.body next.ensures.pending_valid t bs r p

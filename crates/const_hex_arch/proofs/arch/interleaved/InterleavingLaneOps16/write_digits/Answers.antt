@@ -1,6 +1,7 @@
+-- Proofs of open goals: `c` has the facts that are known at a goal.
 use Rattle.std.proofs.Common.{◌∙◌, ap, length, arith, refl}
 use Rattle.std.proofs.lemmas.Simd.{put_chunk_whole}
-use Rattle.const_hex_arch.proofs.lemmas.LaneText.{high_ok, masked_ok, woven_text}
+use Rattle.const_hex_arch.proofs.lemmas.LaneText.{high_ok, masked_ok, interleaved_text}
 use Rattle.const_hex_arch.proofs.arch.interleaved.InterleavingLaneOps16.write_digits.Goals as goal
 
 pub swizzle-first : goal.swizzle-first
@@ -11,6 +12,6 @@ swizzle-second c = masked_ok 15 tt 1 16 c.args.v refl c.fits-v
 
 pub returns : goal.returns
 returns c =
-    let text = woven_text c.args.upper c.args.v c.fits-v in
+    let text = interleaved_text c.args.upper c.args.v c.fits-v in
     put_chunk_whole _ _ (omega (arith, c.requires, ap length c.concat_lanes.ensures)) ∙ c.concat_lanes.ensures
-    ∙ rw c.digits_row-digits.ensures text
+    ∙ rw c.digit_table-digits.ensures text

@@ -1,3 +1,4 @@
+-- Proofs of open goals: `c` has the facts that are known at a goal.
 use Rattle.std.proofs.Common.{refl}
 use Rattle.const_hex_arch.specs.declared.arch.lanes16.TheConstants.{LIMITS}
 use Rattle.const_hex_arch.proofs.lemmas.LaneText.{masked_ok}

@@ -1,3 +1,4 @@
+-- Proofs of open goals: `c` has the facts that are known at a goal.
 use Rattle.const_hex_arch.specs.{IsLimitOf}
 use Rattle.const_hex_arch.proofs.lemmas.LaneText.{by_halves}
 use Rattle.const_hex_arch.proofs.arch.lanes32.MultiplyingLaneOps32.look_up_limits.Goals as goal

@@ -1,3 +1,4 @@
+-- Loop invariant: `l` has the live variables, `g` the type parameters and their traits' members.
 use Rattle.std.proofs.Common.{◌≡◌, ◌*◌, take, drop}
 use Rattle.const_hex_arch.specs.{Spells}
 use Rattle.const_hex_arch.proofs.arch.plain.ByteByByteKernel.decode_checked.Given as goal

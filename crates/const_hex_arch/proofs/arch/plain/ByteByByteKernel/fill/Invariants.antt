@@ -1,4 +1,5 @@
-use Rattle.const_hex_arch.proofs.lemmas.Steps.{IsFilled}
+-- Loop invariant: `l` has the live variables, `g` the type parameters and their traits' members.
+use Rattle.const_hex_arch.proofs.lemmas.Blocks.{IsFilled}
 use Rattle.const_hex_arch.proofs.arch.plain.ByteByByteKernel.fill.Given as goal
 
 abbrev pub invariant-loop-i : goal.invariant-loop-i

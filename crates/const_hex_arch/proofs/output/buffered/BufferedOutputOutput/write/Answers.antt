@@ -1,6 +1,7 @@
+-- Proofs of open goals: `c` has the facts that are known at a goal, `g` the type parameters and their traits' members.
 use Rattle.std.proofs.Common.{◌≡◌, [], take, refl, ap, ◌∙◌, arith}
 use Rattle.std.proofs.lemmas.List.{nil_from_length}
-use Rattle.const_hex_arch.proofs.lemmas.Runs.{Gathers-long}
+use Rattle.const_hex_arch.proofs.lemmas.Runs.{Buffers-long}
 use Rattle.const_hex_arch.proofs.output.buffered.BufferedOutputOutput.write.Goals as goal
 
 pub returns-then-bytes : goal.returns-then-bytes
@@ -8,7 +9,7 @@ returns-then-bytes g c =
     let s = c.args.self.now in
     let v = c.self-then-bytes.view_is in
     let m = ap (λ p. p.0) v in
-    let passed = Gathers-long g.O.Output.step g.O.Output.space g.row.N s.0 s.1 c.args.bytes.now
+    let passed = Buffers-long g.O.Output.step g.O.Output.space g.row.N s.0 s.1 c.args.bytes.now
     c.self-then-bytes.inside.output c.write.new.self in
     elim c.if-bytes-pending.branch [
       | goal.then-bytes-pending w ↦

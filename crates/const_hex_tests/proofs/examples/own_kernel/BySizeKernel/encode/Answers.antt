@@ -2,7 +2,7 @@
 use Rattle.std.proofs.Common.{◌≡◌, ◌*◌, ◌+◌, length, arith}
 use Rattle.const_hex.specs.Texts.{hex_text}
 use Rattle.const_hex_arch.proofs.lemmas.Runs.{Writes-append, Writes_space}
-use Rattle.const_hex_arch.proofs.lemmas.Steps.{parts}
+use Rattle.const_hex_arch.proofs.lemmas.Blocks.{parts}
 use Rattle.const_hex_arch.proofs.lemmas.Texts.{hex_text-append, length-hex_text}
 use Rattle.const_hex_tests.proofs.examples.own_kernel.BySizeKernel.encode.Goals as goal
 

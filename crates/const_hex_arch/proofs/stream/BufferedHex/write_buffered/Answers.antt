@@ -1,7 +1,8 @@
+-- Proofs of open goals: `c` has the facts that are known at a goal, `g` the type parameters and their traits' members.
 use Rattle.std.proofs.Common.{rules, ap, ◌∙◌, None}
 use Rattle.const_hex_arch.specs.{output_sink, sink_name}
 use Rattle.const_hex_arch.proofs.lemmas.Streams.{Streams-from_writes, Streams-at, StreamsWhole-of}
-use Rattle.const_hex_arch.proofs.stream.BufferedHex.gather.Goals as goal
+use Rattle.const_hex_arch.proofs.stream.BufferedHex.write_buffered.Goals as goal
 
 pub returns : goal.returns
 returns g c =

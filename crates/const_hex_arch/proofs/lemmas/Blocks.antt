@@ -1,4 +1,9 @@
--- Texts that are worked through in steps, and texts of which the first and the last bytes are taken.
+-- Inputs that are processed block by block (`long.rt`, `plain.rt`), and short inputs that are processed as their first
+-- bytes and their last bytes (`short.rt`).
+--
+-- `u` is the input, `old` and `new` are the output before and after, and `r` is what one block writes. `i` bytes are
+-- done, `n` are those of a block, `m` is the length of its text, and `d` is the fact that the first `i` are done. `up`
+-- asks for uppercase.
 use Rattle.std.proofs.Common.{◌^◌, ◌≡◌, ℕ, ◌+◌, ◌-◌, ◌*◌, ◌<◌, ◌≤◌, ◌↔◌, List, [], ◌∷◌, ◌++◌, length, take, drop, slice_index, slice_index_or, refl, ap, ◌∙◌, arith, take-add, take-append-drop, drop-drop, length-take, length-append, Option, IsAscii, Bool, false, IsTrue, sym, ◌/◌, ◌%◌, get_or, append-nil, length-drop, replicate, zero, suc}
 use Rattle.std.proofs.lemmas.Bool.{false≢true}
 use Rattle.std.proofs.lemmas.Grind.{common_steps}
@@ -7,7 +12,7 @@ use Rattle.std.proofs.lemmas.List.Elements.{All-take, All-drop}
 use Rattle.std.proofs.lemmas.Str.{IsAscii-take}
 use Rattle.std.proofs.lemmas.Slice.{take-put_mid, drop-put_mid}
 use borrow.Rule.Slice.PartMut.{put_mid}
-use Rattle.const_hex_arch.specs.{IsDigit, hex_text, AllDigits, Spells, Partial, HasSpace, less_space, Writes, hex_digit}
+use Rattle.const_hex_arch.specs.{IsDigit, hex_text, AllDigits, Spells, Partial, HasSpace, remaining_space, Writes, hex_digit}
 use Rattle.const_hex_arch.proofs.lemmas.LaneValues.{add8}
 use Rattle.const_hex_arch.proofs.lemmas.Runs.{Writes-append, Writes_space}
 use Rattle.const_hex_arch.proofs.lemmas.Digits.{digits_append, digits_parts}
@@ -15,15 +20,16 @@ use Rattle.const_hex_arch.proofs.lemmas.FirstInvalid.{none_decoded, Partial-afte
 use Rattle.const_hex_arch.proofs.lemmas.Texts.{Spells-append, Spells-parts, Spells-digits, hex_text-append, length-hex_text, hex_text-nil, hex_text-one}
 use lib.Lanes.{zip2}
 
+-- a list from its first n elements and the others
 pub parts : (n : ℕ) {u front back : List ℕ} → front ≡ take n u → back ≡ drop n u → front ++ back ≡ u
 parts n {u} f b = rw (f, b) (take-append-drop n u)
 
--- ---- digits
+-- ---- texts of digits
 
 -- the first bytes are digits, and then n more
-pub digits_step : (u : List ℕ) (i n end : ℕ) → end ≡ i + n → AllDigits (take i u) → AllDigits (take n (drop i u))
+pub digits_block : (u : List ℕ) (i n end : ℕ) → end ≡ i + n → AllDigits (take i u) → AllDigits (take n (drop i u))
     → AllDigits (take end u)
-digits_step u i n end q d e = rw (q, take-add i n u) ((digits_append (take i u) (take n (drop i u))).1 (d, e))
+digits_block u i n end q d e = rw (q, take-add i n u) ((digits_append (take i u) (take n (drop i u))).1 (d, e))
 
 -- the first i bytes are digits, and so are all bytes, from those after e, which is not past i
 pub digits_last : (u : List ℕ) (i e : ℕ) → e ≤ i → AllDigits (take i u)
@@ -53,7 +59,7 @@ later_ascii xs ys h k =
 -- the text of the first n bytes of the rest is written
 pub text_written : {S : Type 0} {step : S → List ℕ → S → Type 0} {space : S → Option ℕ} {up : Bool} {bytes u : List ℕ}
     {old mid new : S} {front back : List ℕ} (n : ℕ)
-    → ((s : S) (p : List ℕ) (t : S) → step s p t → space t ≡ less_space (space s) (length p))
+    → ((s : S) (p : List ℕ) (t : S) → step s p t → space t ≡ remaining_space (space s) (length p))
     → IsWritten step space up bytes old mid u → front ≡ take n u → back ≡ drop n u → Writes step mid (hex_text up front) new
     → IsWritten step space up bytes old new back
 text_written {S} {step} {space} {up} {bytes} {u} {old} {mid} {new} {front} {back} n shrinks d f b w =
@@ -65,7 +71,7 @@ text_written {S} {step} {space} {up} {bytes} {u} {old} {mid} {new} {front} {back
       ascii = later_ascii (hex_text up front) (hex_text up back) (rw (← whole, hex_text-append) at d.ascii);
     }
 
--- two bytes
+-- a list of two bytes
 pub two_bytes : (u : List ℕ) → length u ≡ 2 → u ≡ slice_index_or u 0 0 ∷ slice_index_or u 1 0 ∷ []
 two_bytes [] h = cc h
 two_bytes (a ∷ []) h = absurd (omega (arith, h))
@@ -81,10 +87,10 @@ pub record IsDecoded (u old new : List ℕ) (i : ℕ) : Type 0 where
   pub rest : drop i new ≡ drop i old
 
 -- n bytes more, of m bytes of text
-pub decoded_step : {u old new : List ℕ} {i end : ℕ} (r : List ℕ) (n m : ℕ) → IsDecoded u old new i
+pub decoded_block : {u old new : List ℕ} {i end : ℕ} (r : List ℕ) (n m : ℕ) → IsDecoded u old new i
     → (end ≡ i + n) × (end ≤ length new) × (m ≡ 2 * n) × (length r ≡ n)
     → Spells (take m (drop (2 * i) u)) r → IsDecoded u old (put_mid i n new r) end
-decoded_step {u} {old} {new} {i} {end} r n m d sizes s =
+decoded_block {u} {old} {new} {i} {end} r n m d sizes s =
     let q : 2 * end ≡ 2 * i + m = omega arith in
     let bytes : take end (put_mid i n new r) ≡ take i new ++ r = take-put_mid i n new r end (omega arith) d.within in
     let past : drop end (put_mid i n new r) ≡ drop end new = drop-put_mid i n new r end (omega arith) d.within (omega arith) in
@@ -107,22 +113,22 @@ decoded_less {u} {old} {new} {i} e d h = record {
   rest = refl;
 }
 
--- a step that wrote nothing
-pub kept_step : (new r : List ℕ) (i n : ℕ) → r ≡ take n (drop i new) → put_mid i n new r ≡ new
-kept_step new r i n e = rw e (ap (λ x. take i new ++ x) (take-append-drop n (drop i new)) ∙ take-append-drop i new)
+-- a block that changed nothing
+pub unchanged_block : (new r : List ℕ) (i n : ℕ) → r ≡ take n (drop i new) → put_mid i n new r ≡ new
+unchanged_block new r i n e = rw e (ap (λ x. take i new ++ x) (take-append-drop n (drop i new)) ∙ take-append-drop i new)
 
--- a step anywhere in the text that fails, and wrote nothing
-pub refused_step : {u old new r : List ℕ} {i : ℕ} {b : Bool} (j n m k : ℕ) → IsDecoded u old new i
+-- a block anywhere in the text that is rejected, and changed nothing
+pub rejected_block : {u old new r : List ℕ} {i : ℕ} {b : Bool} (j n m k : ℕ) → IsDecoded u old new i
     → length u ≡ 2 * length old → IsTrue b ↔ AllDigits (take m (drop k u)) → r ≡ take n (drop j new) → b ≡ false
     → Partial old u (put_mid j n new r)
-refused_step {u} {old} {new} {r} {i} j n m k d size test e is_false =
+rejected_block {u} {old} {new} {r} {i} j n m k d size test e is_false =
     let rest = none_decoded (drop i new) (drop (2 * i) u) (λ a.
     let all = (digits_parts (2 * i) u).1 (Spells-digits _ _ d.front, a) in
     false≢true (sym is_false ∙ test.1 (All-take IsDigit m (drop k u) (All-drop IsDigit k u all)))) in
-    rw (kept_step new r j n e)
+    rw (unchanged_block new r j n e)
     (Partial-after old u new i (2 * i) (omega arith) (omega arith) d.same_length d.within d.front (rw (← d.rest) rest))
 
--- the remainder by another call
+-- ---- the remainder, which another call decodes
 module _ {u old new : List ℕ} {i : ℕ} (r : List ℕ) (d : IsDecoded u old new i) (size : length u ≡ 2 * length old)
     (long : length r ≡ length new - i) where
   whole : put_mid i (length new - i) new r ≡ take i new ++ r
@@ -131,14 +137,14 @@ module _ {u old new : List ℕ} {i : ℕ} (r : List ℕ) (d : IsDecoded u old ne
   pub spells_rest : Spells (take (length u - 2 * i) (drop (2 * i) u)) r → Spells u (put_mid i (length new - i) new r)
   spells_rest s = rw whole (rw take-append-drop at (Spells-append _ _ _ _ d.front (rw take_rest at s)))
 
-  pub refused_rest : Partial (take (length new - i) (drop i new)) (take (length u - 2 * i) (drop (2 * i) u)) r
+  pub rejected_rest : Partial (take (length new - i) (drop i new)) (take (length u - 2 * i) (drop (2 * i) u)) r
       → Partial old u (put_mid i (length new - i) new r)
-  refused_rest p =
+  rejected_rest p =
       let front : length (take i new) ≡ i = omega (arith, length-take i new) in
       let all : length (take i new ++ r) ≡ length old = omega (arith, length-append (take i new) r) in
-      let behind : Partial (drop i old) (drop (2 * i) u) r = rw (take_rest new i, take_rest u (2 * i), d.rest) at p in
+      let remainder : Partial (drop i old) (drop (2 * i) u) r = rw (take_rest new i, take_rest u (2 * i), d.rest) at p in
       rw whole (Partial-after old u (take i new ++ r) i (2 * i) refl (omega arith) all (omega arith)
-      (rw (take_at (take i new) r i front) d.front) (rw (drop_at (take i new) r i front) behind))
+      (rw (take_at (take i new) r i front) d.front) (rw (drop_at (take i new) r i front) remainder))
 
 -- the text of the first k bytes, and of the others
 pub hex_text-parts : (up : Bool) (k : ℕ) (bs : List ℕ) → k ≤ length bs
@@ -151,12 +157,12 @@ hex_text-parts up k bs h =
     rw (← hex_text-append, take-append-drop) in
     rw whole (take_at _ _ _ long, drop_at _ _ _ long)
 
--- ---- digits
+-- ---- texts of digits, as the first n and the last n bytes
 
--- the first n and the last n bytes
-pub digits_pair : (n : ℕ) (u : List ℕ) → n ≤ length u → length u ≤ 2 * n
+-- they may overlap
+pub digits_first_and_last : (n : ℕ) (u : List ℕ) → n ≤ length u → length u ≤ 2 * n
     → AllDigits (take n u ++ drop (length u - n) u) ↔ AllDigits u
-digits_pair n u h k =
+digits_first_and_last n u h k =
     let start = length u - n in
     let pair = digits_append (take n u) (drop start u) in (
       λ d.
@@ -165,47 +171,47 @@ digits_pair n u h k =
       λ d. pair.1 (All-take IsDigit n u d, All-drop IsDigit start u d),
     )
 
--- these in a step, and digits after them
-pub digits_ends : (n : ℕ) (u step : List ℕ) → n ≤ length u → length u ≤ 2 * n
-    → take (2 * n) step ≡ take n u ++ drop (length u - n) u
-    → AllDigits (drop (2 * n) step) → AllDigits step ↔ AllDigits u
-digits_ends n u step h k e rest =
-    let all = digits_parts (2 * n) step in
-    let pair = digits_pair n u h k in (λ d. pair.0 (rw e at (all.0 d).0), λ d. all.1 (rw e (pair.1 d), rest))
+-- the same for a block that has them, and other digits after them
+pub digits_first_and_last_padded : (n : ℕ) (u block : List ℕ) → n ≤ length u → length u ≤ 2 * n
+    → take (2 * n) block ≡ take n u ++ drop (length u - n) u
+    → AllDigits (drop (2 * n) block) → AllDigits block ↔ AllDigits u
+digits_first_and_last_padded n u block h k e rest =
+    let all = digits_parts (2 * n) block in
+    let pair = digits_first_and_last n u h k in (λ d. pair.0 (rw e at (all.0 d).0), λ d. all.1 (rw e (pair.1 d), rest))
 
--- the first bytes, and digits in the other lanes
-lanes_filled : (front : List ℕ) (m : ℕ) → ((k : ℕ) → get_or front k 0 < 256)
+-- the bytes, padded with digits up to the number of lanes
+padded_lanes : (front : List ℕ) (m : ℕ) → ((k : ℕ) → get_or front k 0 < 256)
     → zip2 add8 (front ++ replicate m 0) (replicate (length front) 0 ++ replicate m 48) ≡ front ++ replicate m 48
-lanes_filled [] zero h = refl
-lanes_filled [] (suc m) h = cc (lanes_filled [] m h)
-lanes_filled (x ∷ front) m h =
+padded_lanes [] zero h = refl
+padded_lanes [] (suc m) h = cc (padded_lanes [] m h)
+padded_lanes (x ∷ front) m h =
     let small : x < 256 = h 0 in
     let same : (x + 0) % 2 ^ 8 ≡ x = omega arith in
-    cc (same, lanes_filled front m (λ k. h (suc k)))
+    cc (same, padded_lanes front m (λ k. h (suc k)))
 
-pub ends_filled_up : (n N : ℕ) (front zeros : List ℕ) → length front ≡ n → n ≤ N → zeros ≡ take n (replicate N 0)
+pub padded_first_and_last : (n N : ℕ) (front zeros : List ℕ) → length front ≡ n → n ≤ N → zeros ≡ take n (replicate N 0)
     → ((k : ℕ) → get_or front k 0 < 256)
     → zip2 add8 (front ++ drop n (replicate N 0)) (zeros ++ drop n (replicate N 48)) ≡ front ++ replicate (N - n) 48
-ends_filled_up n N front zeros long h e small =
-    rw (e, take-replicate, drop-replicate, drop-replicate, ← long) (lanes_filled front (N - length front) small)
+padded_first_and_last n N front zeros long h e small =
+    rw (e, take-replicate, drop-replicate, drop-replicate, ← long) (padded_lanes front (N - length front) small)
 
 -- the first n and the last n bytes are bytes
-pub ends_small : (n : ℕ) (u : List ℕ) → n ≤ length u → ((k : ℕ) → get_or u k 0 < 256) → (k : ℕ)
+pub first_and_last_are_bytes : (n : ℕ) (u : List ℕ) → n ≤ length u → ((k : ℕ) → get_or u k 0 < 256) → (k : ℕ)
     → get_or (take n u ++ drop (length u - n) u) k 0 < 256
-ends_small n u l h k = grind (arith, common_steps, h k, h (length u - n + (k - n)))
+first_and_last_are_bytes n u l h k = grind (arith, common_steps, h k, h (length u - n + (k - n)))
 
 -- what the first d and the last d digits decode to, put into place
-pub spells_ends : (h d n : ℕ) (u step bytes ends : List ℕ) → d ≡ 2 * h → length u ≡ 2 * n → h ≤ n → n ≤ 2 * h
-    → take (2 * d) step ≡ take d u ++ drop (length u - d) u → Spells step bytes → ends ≡ take d bytes → length ends ≡ d
+pub spells_first_and_last : (h d n : ℕ) (u block bytes ends : List ℕ) → d ≡ 2 * h → length u ≡ 2 * n → h ≤ n → n ≤ 2 * h
+    → take (2 * d) block ≡ take d u ++ drop (length u - d) u → Spells block bytes → ends ≡ take d bytes → length ends ≡ d
     → Spells u (take (n - h) (take h ends) ++ drop (length ends - h) ends)
-spells_ends h d n u step bytes ends two long least most e s f k =
+spells_first_and_last h d n u block bytes ends two long least most e s f k =
     let start = length u - d in
     let both = take d u ++ drop start u in
     let front : take start both ≡ take start u = grind (arith, common_steps) in
     let back : drop d both ≡ drop start u = grind (arith, common_steps) in
     let first : take (n - h) ends ≡ take (n - h) (take h ends) = grind (arith, common_steps) in
     let half : length ends - h ≡ h = omega arith in
-    let spelled : Spells both ends = rw (e, ← f) at (Spells-parts step bytes d (2 * d) refl s).0 in
+    let spelled : Spells both ends = rw (e, ← f) at (Spells-parts block bytes d (2 * d) refl s).0 in
     rw half
     (rw take-append-drop at (Spells-append _ _ _ _
     (rw (front, first) at (Spells-parts both ends (n - h) start (omega arith) spelled).0)
@@ -221,10 +227,10 @@ pub none_filled : {up : Bool} {u new : List ℕ} → length new ≡ 2 * length u
 none_filled {up} {u} {new} e = record { within = omega arith; size = e; front = sym (hex_text-nil up) }
 
 -- the text of n bytes more
-pub filled_step : {up : Bool} {u new : List ℕ} {i end : ℕ} (r : List ℕ) (n m : ℕ) → IsFilled up u new i → end ≡ i + n
+pub filled_block : {up : Bool} {u new : List ℕ} {i end : ℕ} (r : List ℕ) (n m : ℕ) → IsFilled up u new i → end ≡ i + n
     → end ≤ length u → m ≡ 2 * n
     → r ≡ hex_text up (take n (drop i u)) → IsFilled up u (put_mid (2 * i) m new r) end
-filled_step {up} {u} {new} {i} {end} r n m d e h f s =
+filled_block {up} {u} {new} {i} {end} r n m d e h f s =
     grind (arith, common_steps, length-hex_text, length-take, length-drop, take-put_mid, put_mid, take-add, hex_text-append)
 
 -- the digits of one byte more
@@ -232,7 +238,7 @@ pub filled_one : {up : Bool} {u new : List ℕ} {i end : ℕ} (r : List ℕ) (m 
     → end ≡ i + 1 → m ≡ 2 → r ≡ hex_digit up (get_or u i 0 / 16) ∷ hex_digit up (get_or u i 0 % 16) ∷ []
     → IsFilled up u (put_mid (2 * i) m new r) end
 filled_one {up} {u} {new} {i} r m d h e f s =
-    filled_step r 1 m d e (omega arith) f (s ∙ sym (hex_text-one up u i h))
+    filled_block r 1 m d e (omega arith) f (s ∙ sym (hex_text-one up u i h))
 
 pub ruleset fills = (none_filled, filled_one, hex_text-nil)
 
@@ -252,20 +258,20 @@ filled_less {up} {u} {new} {i} e d h = record {
 pub filled_whole : {up : Bool} {u new : List ℕ} {i : ℕ} → IsFilled up u new i → length u ≤ i → new ≡ hex_text up u
 filled_whole {up} {u} {new} {i} d h = rw (← take_all (2 * i) new (omega arith), d.front, take_all i u h)
 
--- the text of the last bytes, and then that of the first h
-pub ends_filled : (up : Bool) (h start m : ℕ) (u old first last : List ℕ) → length old ≡ 2 * length u → h ≤ length u
+-- the text of the last bytes is written, and then that of the first h
+pub filled_first_and_last : (up : Bool) (h start m : ℕ) (u old first last : List ℕ) → length old ≡ 2 * length u → h ≤ length u
     → start ≤ h → m ≡ length old - 2 * start → last ≡ hex_text up (drop start u) → first ≡ hex_text up (take h u)
     → put_mid 0 (2 * h) (put_mid (2 * start) m old last) first ≡ hex_text up u
-ends_filled up h start m u old first last size least most e l f =
+filled_first_and_last up h start m u old first last size least most e l f =
     let begin : length (take (2 * start) old) ≡ 2 * start = omega (arith, length-take (2 * start) old) in
     let text = (hex_text-parts up (h - start) (drop start u) (omega (arith, length-drop start u))).1 in
     let rest : drop (h - start) (drop start u) ≡ drop h u = grind (arith, common_steps) in
     let last_long : length last ≡ 2 * length u - 2 * start = omega (arith, ap length l, length-hex_text up (drop start u), length-drop start u) in
     let mid : put_mid (2 * start) m old last ≡ take (2 * start) old ++ last = grind (arith, common_steps, append-nil, last_long) in
     let sum : 2 * start + 2 * (h - start) ≡ 2 * h = omega arith in
-    let behind : drop (2 * h) (put_mid (2 * start) m old last) ≡ drop (2 * (h - start)) last =
+    let remainder : drop (2 * h) (put_mid (2 * start) m old last) ≡ drop (2 * (h - start)) last =
     rw (mid, ← sum, ← drop-drop (2 * (h - start)) (2 * start) (take (2 * start) old ++ last), drop_at _ _ _ begin) refl in
-    rw (behind, f, l, text, rest) (rw (← hex_text-append, take-append-drop) refl)
+    rw (remainder, f, l, text, rest) (rw (← hex_text-append, take-append-drop) refl)
 
 -- the rest of the text
 pub filled_rest : {up : Bool} {u new : List ℕ} {i : ℕ} (r : List ℕ) → IsFilled up u new i
@@ -273,5 +279,5 @@ pub filled_rest : {up : Bool} {u new : List ℕ} {i : ℕ} (r : List ℕ) → Is
     → put_mid (2 * i) (length new - 2 * i) new r ≡ hex_text up u
 filled_rest {up} {u} {new} {i} r d s =
     filled_whole
-    (filled_step {end = length u} r (length u - i) (length new - 2 * i) d (omega arith) (omega arith) (omega arith) s)
+    (filled_block {end = length u} r (length u - i) (length new - 2 * i) d (omega arith) (omega arith) (omega arith) s)
     (omega arith)

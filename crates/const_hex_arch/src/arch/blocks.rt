@@ -1,6 +1,6 @@
-//! Steps: what is encoded, checked or decoded at once.
+//! Blocks: what is encoded, checked or decoded at once.
 //!
-//! `V` has the `N` lanes of a step.
+//! `V` has the `N` lanes of a block.
 
 ghost use Rattle.std.specs.Prelude.{◌≡◌, ◌*◌, ◌↔◌, IsTrue, false, length};
 ghost use Rattle.const_hex_arch.specs.{hex_text, AllDigits, Spells, AllClear};
@@ -8,9 +8,13 @@ ghost use Rattle.const_hex_arch.specs.{hex_text, AllDigits, Spells, AllClear};
 use crate::arch::lanes::{self, LaneOps};
 use std::simd::prelude::*;
 
-/// Fills the output with two digits for each byte of a step.
+/// Fills the output with two digits for each byte of a block.
 #[inline(always)]
-pub(crate) fn fill_step<const N: usize, V: LaneOps<N>>(bytes: &[u8], upper: bool, output: &mut [u8])
+pub(crate) fn fill_block<const N: usize, V: LaneOps<N>>(
+    bytes: &[u8],
+    upper: bool,
+    output: &mut [u8],
+)
     requires bytes { length bytes.now ≡ N }
     requires output { length output.old ≡ 2 * N }
     ensures { output.new ≡ hex_text upper bytes.now }
@@ -18,67 +22,67 @@ pub(crate) fn fill_step<const N: usize, V: LaneOps<N>>(bytes: &[u8], upper: bool
     V::write_digits(Simd::from_slice(bytes), upper, output);
 }
 
-/// Whether every byte of a step is a digit.
+/// Whether every byte of a block is a digit.
 #[inline(always)]
-pub(crate) fn check_step<const N: usize, V: LaneOps<N>>(text: &[u8]) -> bool
+pub(crate) fn check_block<const N: usize, V: LaneOps<N>>(text: &[u8]) -> bool
     requires { length text.now ≡ N }
     ensures { IsTrue result ↔ AllDigits text.now }
 {
     lanes::are_digits::<N, V>(Simd::from_slice(text))
 }
 
-/// As `check_step`, for the text of two steps, by one test.
-// Not by `lanes::are_all_digits`, which would make the proof of `decode_step` longer.
+/// As `check_block`, for the text of two blocks, by one test.
+// Not by `lanes::are_all_digits`, which would make the proof of `decode_block` longer.
 #[inline(always)]
-pub(crate) fn check_two_steps<const N: usize, V: LaneOps<N>>(text: &[u8]) -> bool
+pub(crate) fn check_two_blocks<const N: usize, V: LaneOps<N>>(text: &[u8]) -> bool
     requires { length text.now ≡ 2 * N }
     ensures { IsTrue result ↔ AllDigits text.now }
 {
-    V::are_clear(error_bits_of_two_steps::<N, V>(text))
+    V::are_clear(error_bits_of_two_blocks::<N, V>(text))
 }
 
-/// As `check_step`, for the text of four steps, by one test.
+/// As `check_block`, for the text of four blocks, by one test.
 #[inline(always)]
-pub(crate) fn check_four_steps<const N: usize, V: LaneOps<N>>(text: &[u8]) -> bool
+pub(crate) fn check_four_blocks<const N: usize, V: LaneOps<N>>(text: &[u8]) -> bool
     requires { length text.now ≡ 4 * N }
     ensures { IsTrue result ↔ AllDigits text.now }
 {
     let (front, back) = text.split_at(2 * N);
-    V::are_clear(error_bits_of_two_steps::<N, V>(front) | error_bits_of_two_steps::<N, V>(back))
+    V::are_clear(error_bits_of_two_blocks::<N, V>(front) | error_bits_of_two_blocks::<N, V>(back))
 }
 
-/// Joined error bits of the text of two steps. They are clear if and only if each byte is a digit.
+/// Joined error bits of the text of two blocks. They are clear if and only if each byte is a digit.
 #[inline(always)]
 #[tactic(auto, using(crate::proofs::lemmas::LaneValues::in_two))]
-fn error_bits_of_two_steps<const N: usize, V: LaneOps<N>>(text: &[u8]) -> Simd<u8, N>
+fn error_bits_of_two_blocks<const N: usize, V: LaneOps<N>>(text: &[u8]) -> Simd<u8, N>
     requires { length text.now ≡ 2 * N }
     ensures { AllClear result ↔ AllDigits text.now }
 {
     lanes::joint_error_bits::<N, V>(Simd::from_slice(text), Simd::from_slice(&text[N..]))
 }
 
-/// Decodes the text of a step into the output and returns true. If some byte is not a digit,
+/// Decodes the text of a block into the output and returns true. If some byte is not a digit,
 /// returns false, and the output is unchanged.
 #[inline(always)]
 #[tactic(auto, using(std::proofs::lemmas::Simd::put_chunk_whole))]
-pub(crate) fn decode_step<const N: usize, V: LaneOps<N>>(text: &[u8], output: &mut [u8]) -> bool
+pub(crate) fn decode_block<const N: usize, V: LaneOps<N>>(text: &[u8], output: &mut [u8]) -> bool
     requires text { length text.now ≡ 2 * N }
     requires output { length output.old ≡ N }
     ensures digits { IsTrue result ↔ AllDigits text.now }
     ensures spells { IsTrue result → Spells text.now output.new }
     ensures unchanged { result ≡ false → output.new ≡ output.old }
 {
-    let are_digits = check_two_steps::<N, V>(text);
+    let are_digits = check_two_blocks::<N, V>(text);
     if are_digits {
         decode_vector::<N, V>(text).copy_to_slice(output);
     }
     are_digits
 }
 
-/// As `decode_step`, for the text of two steps, by one test.
+/// As `decode_block`, for the text of two blocks, by one test.
 #[inline(always)]
-#[tactic(auto, using(crate::proofs::lemmas::Texts::spelled, crate::proofs::lemmas::Steps::parts, std::proofs::lemmas::Simd::put_chunk_whole))]
-pub(crate) fn decode_two_steps<const N: usize, V: LaneOps<N>>(
+#[tactic(auto, using(crate::proofs::lemmas::Texts::spelled, crate::proofs::lemmas::Blocks::parts, std::proofs::lemmas::Simd::put_chunk_whole))]
+pub(crate) fn decode_two_blocks<const N: usize, V: LaneOps<N>>(
     text: &[u8],
     output: &mut [u8],
 ) -> bool
@@ -88,7 +92,7 @@ pub(crate) fn decode_two_steps<const N: usize, V: LaneOps<N>>(
     ensures spells { IsTrue result → Spells text.now output.new }
     ensures unchanged { result ≡ false → output.new ≡ output.old }
 {
-    let are_digits = check_four_steps::<N, V>(text);
+    let are_digits = check_four_blocks::<N, V>(text);
     if are_digits {
         let (text, next) = text.split_at(2 * N);
         let first = decode_vector::<N, V>(text);
@@ -100,7 +104,7 @@ pub(crate) fn decode_two_steps<const N: usize, V: LaneOps<N>>(
     are_digits
 }
 
-/// Decodes the digits of a step.
+/// Decodes the digits of a block.
 // The test has already computed these values for the error bits. The compiler merges both computations.
 #[inline(always)]
 pub(crate) fn decode_vector<const N: usize, V: LaneOps<N>>(text: &[u8]) -> Simd<u8, N>
@@ -111,10 +115,10 @@ pub(crate) fn decode_vector<const N: usize, V: LaneOps<N>>(text: &[u8]) -> Simd<
     lanes::decode::<N, V>(Simd::from_slice(text), Simd::from_slice(&text[N..]))
 }
 
-/// Decodes the digits of a step into the output.
+/// Decodes the digits of a block into the output.
 #[inline(always)]
 #[tactic(auto, using(crate::proofs::lemmas::LaneValues::in_two, std::proofs::lemmas::Simd::put_chunk_whole))]
-pub(crate) fn decode_unchecked_step<const N: usize, V: LaneOps<N>>(text: &[u8], output: &mut [u8])
+pub(crate) fn decode_unchecked_block<const N: usize, V: LaneOps<N>>(text: &[u8], output: &mut [u8])
     requires text { length text.now ≡ 2 * N }
     requires output { length output.old ≡ N }
     requires digits { AllDigits text.now }

@@ -1,7 +1,7 @@
-//! Random inputs, given to const-hex and to this codec under the same names. The only difference that is
+//! Differential test: random inputs to const-hex and to this codec under the same names. The only difference that is
 //! allowed is the position of an invalid character after a prefix: only `check` of const-hex counts the prefix.
 //!
-//! CASES=1000000 in the environment gives the number of inputs.
+//! CASES=1000000 in the environment sets the number of inputs.
 
 #[path = "../../rust/tests/random/mod.rs"]
 mod random;

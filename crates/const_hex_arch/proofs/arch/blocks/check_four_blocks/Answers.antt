@@ -1,0 +1,11 @@
+-- Proofs of open goals: `c` has the facts that are known at a goal, `g` the type parameters and their traits' members.
+use Rattle.std.proofs.Common.{arith}
+use Rattle.const_hex_arch.proofs.lemmas.LaneValues.{joint_test}
+use Rattle.const_hex_arch.proofs.lemmas.Standard.{through}
+use Rattle.const_hex_arch.proofs.lemmas.Blocks.{parts}
+use Rattle.const_hex_arch.proofs.arch.blocks.check_four_blocks.Goals as goal
+
+pub returns : goal.returns
+returns g c =
+    let test = joint_test _ _ _ _ (omega arith) c.error_bits_of_two_blocks.ensures c.error_bits_of_two_blocks-2.ensures in
+    rw (parts _ c.split_at.ensures.front c.split_at.ensures.back) at (through c.are_clear.ensures test)

@@ -1,5 +1,0 @@
-use Rattle.const_hex_arch.proofs.lemmas.LaneText.{of_lanes}
-use Rattle.const_hex_arch.proofs.arch.lanes16.split_half.Goals as goal
-
-pub returns : goal.returns
-returns c = of_lanes 8 c.args.v c.fits-v

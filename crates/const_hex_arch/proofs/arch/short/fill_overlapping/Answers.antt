@@ -1,0 +1,12 @@
+-- Proofs of open goals: `c` has the facts that are known at a goal, `g` the type parameters and their traits' members.
+use Rattle.std.proofs.Common.{◌-◌, ◌*◌, length, arith}
+use Rattle.const_hex_arch.proofs.lemmas.Blocks.{IsFilled, none_filled, filled_block, filled_less, filled_rest}
+use Rattle.const_hex_arch.proofs.arch.short.fill_overlapping.Goals as goal
+
+pub returns : goal.returns
+returns g c =
+    let n = g.row.H in
+    let first : IsFilled c.args.upper c.args.bytes.now _ n =
+    filled_block _ n (2 * n) (none_filled c.requires.size) (omega arith) (omega arith) (omega arith)
+    c.fill_one_vector.ensures in
+    filled_rest _ (filled_less (length c.args.bytes.now - n) first (omega arith)) c.fill_one_vector-2.ensures
