@@ -42,7 +42,11 @@ fn compare_calls<K: Kernel, const UPPER: bool, const PREFIX: bool>(
         let mut sink = RecordingSink::new(line.alloc, fail_at);
         let returned = BufferedHex::<UPPER, PREFIX>::new(bytes).write_with::<K, _>(&mut sink);
         let expected = split_text(line.alloc, text, sizes, fail_at);
-        line.expect_same_text(kernel.name, format_pieces(line.alloc, returned, &sink), expected);
+        line.expect_same_text(
+            kernel.name,
+            format_pieces(line.alloc, returned, &sink),
+            expected,
+        );
         compare_fixed_kernel::<UPPER, PREFIX>(line, bytes, text, fail_at);
     }
 }
@@ -63,7 +67,11 @@ fn compare_fixed_kernel<const UPPER: bool, const PREFIX: bool>(
     let returned = serialize_inner::<UPPER, PREFIX, _>(bytes, &mut sink);
     let sizes = if sizes == "none" { "0" } else { sizes };
     let expected = split_text(alloc, text, sizes, fail_at);
-    line.expect_same_text("serialize_inner", format_pieces(alloc, returned, &sink), expected);
+    line.expect_same_text(
+        "serialize_inner",
+        format_pieces(alloc, returned, &sink),
+        expected,
+    );
 }
 
 /// Compares the pieces in which each kernel writes the bytes.
@@ -77,11 +85,19 @@ fn compare_pieces<K: Kernel>(line: &mut Line<'_>, text: &str, kernel: KernelCase
     let mut sink = RecordingSink::new(line.alloc, 0);
     K::encode(line.input, false, &mut SinkOutput::new(&mut sink));
     let expected = split_text(line.alloc, text, part_of_result(line, kernel.part), 0);
-    line.expect_same_text(kernel.name, format_pieces(line.alloc, Ok(()), &sink), expected);
+    line.expect_same_text(
+        kernel.name,
+        format_pieces(line.alloc, Ok(()), &sink),
+        expected,
+    );
 }
 
 /// The pieces that a sink received, with a `|` after each, and a `!` if it failed.
-fn format_pieces(alloc: Global, returned: Result<(), SinkError>, sink: &RecordingSink) -> AllocResult<String> {
+fn format_pieces(
+    alloc: Global,
+    returned: Result<(), SinkError>,
+    sink: &RecordingSink,
+) -> AllocResult<String> {
     let mut text = String::new(alloc);
     for piece in &sink.pieces {
         write!(text, "{piece}|")?;

@@ -80,7 +80,11 @@ fn read_array<const N: usize>(line: &mut Line<'_>)
     );
 }
 
-fn decode_to_slice_with_kernel<K: Kernel>(line: &mut Line<'_>, size: usize, kernel: KernelCase) -> AllocResult<()> {
+fn decode_to_slice_with_kernel<K: Kernel>(
+    line: &mut Line<'_>,
+    size: usize,
+    kernel: KernelCase,
+) -> AllocResult<()> {
     let mut output = vec![in line.alloc; 0xEEu8; size]?;
     let returned = decode_to_slice_with::<K>(line.input, &mut output);
     line.expect_output(kernel.name, returned, &output, line.result);
@@ -161,7 +165,11 @@ where
     };
     match deserialize::<T>(line.alloc, &value) {
         Ok(bytes) => line.expect_bytes("deserialize", Ok(bytes), line.result),
-        Err(JsonError::Hex(error)) => line.expect_bytes::<T>("deserialize", Err(error), line.result),
+        Err(JsonError::Hex(error)) => line.expect_bytes::<T>(
+            "deserialize",
+            Err(error),
+            line.result,
+        ),
         Err(JsonError::NotText) => line.expect_eq("deserialize", "!NotText", line.result),
     }
 }

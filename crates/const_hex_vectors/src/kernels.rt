@@ -60,7 +60,10 @@ pub(crate) fn decoded_before_error(line: &mut Line<'_>) -> AllocResult<()> {
     Ok(())
 }
 
-fn compare_decoded_before_error<K: Kernel>(line: &mut Line<'_>, kernel: KernelCase) -> AllocResult<()> {
+fn compare_decoded_before_error<K: Kernel>(
+    line: &mut Line<'_>,
+    kernel: KernelCase,
+) -> AllocResult<()> {
     let start = prefix_length(line.input);
     let bytes = decode_by_std(line.alloc, line.input.get(start..).unwrap_or(&[]))?;
     let mut text = line.input.to_vec(line.alloc)?;

@@ -13,7 +13,7 @@ mod lanes;
 mod line;
 mod memory;
 
-use crate::line::{AllocResult, Line, unescape, parse_cell};
+use crate::line::{AllocResult, Line, parse_cell, unescape};
 use const_hex::{Kernel, Lanes16, Lanes32, Plain};
 use std::alloc::Global;
 use std::env::Env;

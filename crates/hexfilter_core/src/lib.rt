@@ -7,9 +7,9 @@
 mod callers;
 mod error;
 mod groups;
+mod location;
 mod mode;
 mod options;
-mod location;
 mod process;
 mod runs;
 mod scanner;
@@ -17,8 +17,8 @@ mod stage;
 mod transfer;
 
 pub use crate::error::RunError;
+pub use crate::location::Location;
 pub use crate::mode::{Groups, Mode, Reading};
 pub use crate::options::{Request, UsageError, UsageErrorKind, request_of};
-pub use crate::location::Location;
 pub use crate::process::{Host, program};
 pub use crate::runs::run;

@@ -7,9 +7,9 @@ ghost use Rattle.hexfilter_core.specs.Runs.{EndsIf, Mode, Prints, WritesBeginnin
 ghost use Rattle.hexfilter_core.specs.Options.{Help, Run, UsageError, Version, request_for};
 
 use crate::error::RunError;
+use crate::location::Location;
 use crate::mode::Mode;
 use crate::options::{Request, UsageError, UsageErrorKind, request_of};
-use crate::location::Location;
 use crate::runs::run;
 use crate::transfer::{flush, write_piece};
 use std::io::{Eprint, Error, ErrorKind, Read, Write};

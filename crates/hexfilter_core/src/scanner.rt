@@ -6,8 +6,8 @@ ghost use Rattle.hexfilter_core.specs.Stages.{HasAdded, HasScanned};
 ghost use Rattle.hexfilter_core.specs.Dumps.{IsLocationAfter, column_after, is_whitespace, text_of_byte};
 
 use crate::groups::put;
-use crate::mode::Reading;
 use crate::location::Location;
+use crate::mode::Reading;
 use std::simd::prelude::*;
 
 /// The number of bytes that are compared at once.

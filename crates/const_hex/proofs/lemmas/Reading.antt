@@ -60,10 +60,9 @@ sized_accepts n t (Ok bs) h = (
   λ _. and_from _ _ (eq-eqb _ _ h.0) (list_all-from_AllPass _ (body_of t) (Spells-digits (body_of t) bs h.1.1)),
   λ _. refl,
 )
-sized_accepts n t (Err e) h =
-    (
-      λ is_ok. absurd (cc is_ok),
-      λ accepted. absurd (grind (arith, digits_not_invalid, body-parity, is_text-parts n t accepted)),
-    )
+sized_accepts n t (Err e) h = (
+  λ is_ok. absurd (cc is_ok),
+  λ accepted. absurd (grind (arith, digits_not_invalid, body-parity, is_text-parts n t accepted)),
+)
 
 pub ruleset checked = (Reads-digits, Spells-not_invalid)

@@ -4,7 +4,7 @@ use crate::examples::files::{write_line, write_text};
 use crate::examples::json_rpc::{code_of, error_message};
 use crate::examples::own_kernel::BySize;
 use crate::examples::readers::{read_both, read_salt, read_shared};
-use crate::examples::sinks::{write_packets, send_json};
+use crate::examples::sinks::{send_json, write_packets};
 use crate::examples::store::canonical;
 use crate::examples::streams::{
     check_chunk, check_chunks, decode_chunks, decode_stream, decode_where_it_fits,

@@ -40,8 +40,8 @@ impl Write for FailingWriter {
     fn write(&mut self, buf: &[u8]) -> io::Result<usize> {
         self.writes = self.writes.saturating_add(1);
         match self.fault {
-            InjectedFault::Fail(first, last, kind)
-                if first <= self.writes && self.writes <= last => { Err(io::Error::from(kind)) }
+            InjectedFault::Fail(first, last, kind) if first <= self.writes && self.writes <= last =>
+                { Err(io::Error::from(kind)) }
             InjectedFault::AcceptNothing(call) if call == self.writes => Ok(0),
             _ => {
                 let count = buf.len().min(1000);

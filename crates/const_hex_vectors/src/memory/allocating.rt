@@ -101,7 +101,12 @@ fn decode_pointers(rt: &impl Print, alloc: Global, count: &mut usize) {
 }
 
 /// Each text is a block of 32 bytes, one of 16, and a remainder.
-fn call_with_kernel<K: Kernel>(rt: &impl Print, alloc: Global, count: &mut usize, _kernel: KernelCase) {
+fn call_with_kernel<K: Kernel>(
+    rt: &impl Print,
+    alloc: Global,
+    count: &mut usize,
+    _kernel: KernelCase,
+) {
     let (mut invalid, upper) = (DIGITS, [b'A'; 114]);
     invalid[100] = b'g';
     expect_allocating!(rt, count, AllocError;

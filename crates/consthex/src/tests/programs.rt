@@ -10,7 +10,7 @@ ghost use Rattle.const_hex.specs.declared.error.FromHexError.{FromHexError};
 use crate::mode::USAGE;
 use crate::process::{program, program_with};
 use crate::tests::Testing;
-use crate::tests::devices::{InjectedFault, FailingReader, FailingWriter};
+use crate::tests::devices::{FailingReader, FailingWriter, InjectedFault};
 use std::cell::Cell;
 use std::env::{Env, FillError};
 use std::fmt::Display;
@@ -149,7 +149,10 @@ fn whole_runs(rt: HostRuntime) {
 
 /// Runs the program, and compares everything that a case states.
 fn assert_run(rt: &impl Testing, (arguments, input, written, status, line): Case<'_>) {
-    let (mut rest, mut output) = (input, FailingWriter::new(rt.alloc(), InjectedFault::NoFault));
+    let (mut rest, mut output) = (
+        input,
+        FailingWriter::new(rt.alloc(), InjectedFault::NoFault),
+    );
     let host = Host::new(arguments, true);
     assert_exit_and_stderr(rt, host, &mut rest, &mut output, (status, line));
     assert_eq!(rt;

@@ -8,7 +8,7 @@ use crate::error::RunError;
 use crate::mode::Mode;
 use crate::runs::run;
 use crate::tests::Testing;
-use crate::tests::devices::{InjectedFault, FailingReader, FailingWriter};
+use crate::tests::devices::{FailingReader, FailingWriter, InjectedFault};
 use std::alloc::{AllocError, Global};
 use std::io::{self, ErrorKind, Read};
 

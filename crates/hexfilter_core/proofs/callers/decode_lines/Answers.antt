@@ -8,8 +8,7 @@ use Rattle.hexfilter_core.proofs.callers.decode_lines.Goals as goal
 pub returns : goal.returns
 returns g c = λ b i location result_eq.
     let (x, y, read, (bytes, fails, same), wrote) = c.run.ensures.text (InvalidHexCharacter b i) location result_eq in
-    let (p, at, here) = fails.located in
-    (
+    let (p, at, here) = fails.located in (
       p,
       fails.front,
       fails.rest,

@@ -5,8 +5,7 @@ use Rattle.const_hex.proofs.codec.body.locate_invalid.Goals as goal
 pub returns : goal.returns
 returns g c = λ n.
     let found = c.find_first_invalid-byte.ensures in
-    let body = c.strip_prefix-body.ensures.body in
-    (
+    let body = c.strip_prefix-body.ensures.body in (
       c.find_first_invalid-byte.result.1,
       rw body at (found.invalid (rw (← body) at n)),
       c.from.ensures ∙ (rw body at found.byte),
