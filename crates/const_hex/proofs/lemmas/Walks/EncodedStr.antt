@@ -191,7 +191,7 @@ module _ {M : Type 1} (𝓤 : Ura M) (𝓛 : Logic 𝓤) (𝓜 : Model 𝓤 𝓛
       (fact 𝓤 (IfErr r (λ x. x ≡ InvalidStringLength)))))))) (id⊢ 𝓤 _) $
       await ! tt $ pick !
       (λ r. split ! $ split ! $ move ! (2 ∷ []) $ pick !
-      (λ ws'. split ! $ drop ! $ split ! $ heard ! _ (λ fits. split ! $ heard ! _ (λ lent. heard ! _ (λ error.
+      (λ ws'. split ! $ drop ! $ split ! $ heard ! _ (λ fits. split ! $ heard ! _ (λ lent. heard ! _ (λ invalid_length.
       -- [the tokens; the result; how the slice ends; the locals]
       move ! (1 ∷ []) $ peeks ! Returned (Is Returned) (shows 𝓛 Returned) r (v' ∷ []) (λ repr'.
       let text_laws = of_field (str-field loan) (str-laws loan) refl (copy_shared (str-field loan) (str-copy loan)) in
@@ -212,5 +212,5 @@ module _ {M : Type 1} (𝓤 : Ura M) (𝓛 : Logic 𝓤) (𝓜 : Model 𝓤 𝓛
       use0 𝓛 (raw (fact 𝓤 (IsOk r ↔ (length o.now ≡ m)))) (fact_i 𝓤 _ _ (subst (λ k. IsOk r ↔ (k ≡ m)) long fits)) $
       frame ! $
       use0 𝓛 (raw (fact 𝓤 (IfOk r (λ w. w.now ≡ hex_text up x.now)))) (fact_i 𝓤 _ _ ended.0) $ frame ! $
-      use0 𝓛 (raw (fact 𝓤 (IfErr r (λ x. x ≡ InvalidStringLength)))) (fact_i 𝓤 _ _ error) $ frame ! $
+      use0 𝓛 (raw (fact 𝓤 (IfErr r (λ x. x ≡ InvalidStringLength)))) (fact_i 𝓤 _ _ invalid_length) $ frame ! $
       done !))))))))))))))))))
