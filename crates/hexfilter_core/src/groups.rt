@@ -63,7 +63,7 @@ fn put_short(groups: Groups, text: &[u8], output: &mut [u8]) -> (usize, usize)
 {
     let mut done = 0;
     let mut end = 0;
-    'blocks: while text.len() - done > BLOCK {
+    'groups: while text.len() - done > BLOCK {
         let (taken, put) = put_block(groups, &text[done..], &mut output[end..]);
         done += taken;
         end += put;

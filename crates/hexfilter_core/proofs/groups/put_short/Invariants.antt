@@ -3,12 +3,12 @@ use Rattle.std.proofs.Common.{◌*◌, ◌≤◌, ◌-◌, length, take}
 use Rattle.hexfilter_core.specs.Dumps.{PutsInto}
 use Rattle.hexfilter_core.proofs.groups.put_short.Given as goal
 
-abbrev pub invariant-blocks : goal.invariant-blocks
-invariant-blocks l = record {
+abbrev pub invariant-groups : goal.invariant-groups
+invariant-groups l = record {
   within : l.done ≤ length l.text;
   space : l.end ≤ 2 * l.done;
   groups : PutsInto l.groups l.groups.size (take l.done l.text) (take l.end l.output) l.groups.size;
 }
 
-abbrev pub decreases-blocks : goal.decreases-blocks
-decreases-blocks l = length l.text - l.done
+abbrev pub decreases-groups : goal.decreases-groups
+decreases-groups l = length l.text - l.done
