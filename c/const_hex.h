@@ -53,11 +53,13 @@
  *  - No other thread writes an argument while the function runs, and none reads what the function writes.
  *    The verified machine code has one exception: if something else changes the text meanwhile, such as a
  *    process that shares the memory, the function still returns and writes only to its own arguments, but the
- *    result is unspecified. This is tested and not verified.
+ *    result is unspecified. This is not verified, but tested with one character of 200 that changes, and canaries
+ *    beside the output.
  *
- * The next four sections are about the machine code as it is linked for Linux on x86-64 and AArch64. For macOS, BSD
+ * The next three sections are about the machine code as it is linked for Linux on x86-64 and AArch64. For macOS, BSD
  * and, with MinGW for x86-64, Windows it is the same source. Elsewhere the library is portable.c, whose source is
- * verified against the contracts below, which are comments in ACSL. c/README.md says what holds for each.
+ * verified, for a signed char and an int of 32 bits, against the contracts below, which are comments in ACSL.
+ * c/README.md says what holds for each.
  *
  * FORMAL VERIFICATION
  *
@@ -65,16 +67,18 @@
  * every function meets its contract: it is memory-safe, terminates, and returns and writes what the contract
  * says, for all inputs. The contracts are in crates/const_hex_c; this header states them in prose.
  *
- * The machine code, which the folders c/asm and rust/src/asm contain as assembly, is verified too, against this
- * header, by the separate tool in machine_code: every function, on x86-64 with both kernels that it may call (for
- * SSE4.2 and for AVX2), for every length that an object can have and every position of a decoder. This is a proof
- * about the shared library as it is linked; a program that libconst_hex.a is linked into can be proved in the same
- * way. That this header says in prose what the contracts say is tested, by test vectors, and not proved.
+ * The machine code, which the folders c/asm and rust/src/asm contain as assembly, is verified too, by the separate
+ * tool in machine_code, against its own contracts, which state this header as formulas: every function, on x86-64
+ * with both kernels that it may call (for SSE4.2 and for AVX2), for every length that an object can have and every
+ * position of a decoder. This is a proof about the shared library as it is linked; a program that libconst_hex.a is
+ * linked into can be proved in the same way. That this header says in prose what both contracts say is tested, by
+ * test vectors, and not proved.
  *
  * CONSTANT TIME
  *
  * For valid input, branches and memory addresses do not depend on the bytes or digits, but only on lengths,
- * sizes, flags and pointers, on whether text has a prefix, and on where its chunks are split.
+ * sizes, flags and pointers, on whether text has a prefix, on where its chunks are split, on the CPU, and on whether
+ * an earlier call has detected its features.
  * This is verified in the machine code, on x86-64 with both kernels and on AArch64. It does not hold for
  * const_hex_error_message, nor for invalid text: the error states the position of the invalid character, and
  * timing reveals it too. How long an instruction takes is up to the CPU. No memory is wiped.
@@ -82,15 +86,17 @@
  * PLATFORMS
  *
  * On Linux tested with glibc and musl on x86-64, and on AArch64 under QEMU only; for macOS assembled and linked, and
- * not run; on BSD not tried. On x86-64 the CPU must support x86-64-v2 (SSE4.2 and what came with it, since about
- * 2009): on an older one a function may stop the program with an illegal instruction. What encodes, checks and decodes
- * digits has a second build for x86-64-v3 (AVX2 and what came with it), which is used if the CPU supports it. The first
- * call detects that and stores the result in one byte; nothing else is kept between calls.
+ * not run; on BSD not tried. On x86-64 the CPU must support x86-64-v2 (SSE4.2 and what came with it, introduced about
+ * 2009; some CPUs lacked it until 2013): on another one a function may stop the program with an illegal instruction.
+ * What encodes, checks and decodes digits has a second build for x86-64-v3 (AVX2 and what came with it), which is
+ * used if the CPU supports it. The first call detects that and stores the result in one byte; nothing else is kept
+ * between calls.
  *
- * A function uses at most 2,048 bytes of stack, which the tool machine_code checks, and calls no other library. The
- * object files have no unwind tables: a debugger or profiler that stops inside a function may not find its caller.
- * They have no IBT, SHSTK and BTI properties: a program that links them statically runs without these protections,
- * and where a system enforces them, as OpenBSD does, a call may stop the program.
+ * A function uses at most 2,048 bytes of stack, which the tool machine_code checks (on Windows windows.c adds some
+ * 200 by gcc 12, which it does not check), and calls no other library. The object files have no unwind tables: a
+ * debugger or profiler that stops inside a function may not find its caller. They have no IBT, SHSTK and BTI
+ * properties: a program that links them statically runs without these protections, and where a system enforces them,
+ * as OpenBSD does, a call may stop the program.
  *
  * BUILDING
  *

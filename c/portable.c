@@ -6,14 +6,16 @@
  * A program needs this file and const_hex.h, and nothing else: no function of libc is called,
  * though a compiler may call its own division, or turn a loop into a call of memcpy or memset.
  *
- * No table is looked up, and no branch depends on a digit, but on whether a character is one. The
- * comments in ACSL say what each function does. Frama-C proves them, as README.md shows.
+ * No table is looked up. Except in const_hex_error_message, no branch depends on a byte or a digit, but
+ * on lengths, sizes, flags and NULL, on whether characters are digits or a prefix, and on a decoder's
+ * position and status. The comments in ACSL say what each function does. Frama-C proves them, as
+ * README.md shows.
  */
 #include "const_hex.h"
 
-/* Declassifies a value, on which branches may depend: whether characters are digits, and whether
- * two are a prefix. tests/constant_time.c defines this macro for memcheck, and tests that no branch
- * and no address depends on anything else that is secret. */
+/* Declassifies a value, on which branches may depend: whether characters are digits, whether two
+ * are a prefix, and the status of a decoder. tests/constant_time.c defines this macro for memcheck,
+ * and tests that no branch and no address depends on anything else that is secret. */
 #ifndef PUBLIC
 #define PUBLIC(value) (value)
 #endif

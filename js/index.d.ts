@@ -81,14 +81,14 @@ declare const decodes: unique symbol;
 /** A string that `decode` accepts: `isHex` narrows a string to this type. */
 export type HexString = string & { readonly [decodes]: true };
 
-/** Returns whether `decode` accepts the text. */
+/** Returns whether `decode` accepts the text. Throws a TypeError for anything but text or bytes. */
 export function isHex<Given extends string>(text: Given): text is Given & HexString;
 export function isHex(text: Text): boolean;
 
 /** Clears what earlier calls left in the module's memory: at most the last 48 KiB of inputs and outputs. */
 export function wipe(): void;
 
-/** `encode` and `decode` under names that other packages have, too, where `0x` and an odd length may count otherwise. */
+/** `encode` and `decode`. Other packages' functions of these names treat `0x` and odd lengths differently. */
 export { encode as bytesToHex, decode as hexToBytes };
 
 /** The error for text that cannot be decoded. */
