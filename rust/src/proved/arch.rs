@@ -4,6 +4,8 @@
 use crate::std_shim::prelude::*;
 
 #[cfg(all(target_arch = "wasm32", target_feature = "simd128"))]
+mod blocks;
+#[cfg(all(target_arch = "wasm32", target_feature = "simd128"))]
 pub mod by_length;
 pub mod check_first;
 #[cfg(all(target_arch = "wasm32", target_feature = "simd128"))]
@@ -15,10 +17,9 @@ mod long;
 pub mod plain;
 #[cfg(all(target_arch = "wasm32", target_feature = "simd128"))]
 mod short;
-#[cfg(all(target_arch = "wasm32", target_feature = "simd128"))]
-mod steps;
 
-/// The kernel of every call that does not name one. It is named here and nowhere else.
+/// The kernel of every call that does not name one. It is named here and nowhere else. On x86-64 it is made for builds
+/// with AVX2, and slower than `Lanes16` without it.
 pub type FixedKernel = crate::kernel::TargetKernel;
 
 /// Encodes bytes as digits, and decodes digits to bytes.
@@ -30,9 +31,9 @@ pub trait Kernel {
     /// their output unchanged.
     const USE_CHECK_FN: bool;
 
-    /// How many bytes of text `encode` in Rattle passes to its output at once: 1 if the kernel works byte by byte,
-    /// and otherwise an even number up to 64. Other numbers are rounded down to one of these, and 0 counts as 1. A kernel
-    /// with an `encode` of its own may write other pieces.
+    /// How many bytes of text `encode` in Rattle passes to its output at once: 1 if the kernel works byte by
+    /// byte, and otherwise an even number up to 64. Other numbers are rounded down to one of these, and 0 counts as 1.
+    /// A kernel with an `encode` of its own may write other pieces.
     const PIECE: usize;
 
     /// Fills the output with two digits for each byte, in order. The output must have exactly the

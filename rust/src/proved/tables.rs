@@ -86,7 +86,7 @@ pub const fn value_at(b: u8) -> u8 {
 
 /// Whether a byte is a digit, without a look-up.
 // Constant time: `is_ascii_hexdigit` would be compiled to branches on the byte. Three times a decimal digit, or five
-// times the place of a letter, is below 30.
+// times the place of a letter, is below 30. For smaller bytes the subtraction wraps, and the product is far above.
 #[inline(always)]
 pub fn is_digit(byte: u8) -> bool {
     let decimal = u32::from(byte).wrapping_sub(48);
@@ -97,12 +97,12 @@ pub fn is_digit(byte: u8) -> bool {
 /// Both digits of a byte: with `PAIRS` by one look-up in a table of pairs, and else by two in a table of digits.
 #[inline(always)]
 pub(crate) const fn digits_at<const PAIRS: bool>(upper: bool, b: u8) -> [u8; 2] {
-    let at = 2 * b as usize;
+    let index = 2 * b as usize;
     if !PAIRS {
         [digit_at(upper, b / 16), digit_at(upper, b % 16)]
     } else if upper {
-        [PAIRS_UPPER[at], PAIRS_UPPER[at + 1]]
+        [PAIRS_UPPER[index], PAIRS_UPPER[index + 1]]
     } else {
-        [PAIRS_LOWER[at], PAIRS_LOWER[at + 1]]
+        [PAIRS_LOWER[index], PAIRS_LOWER[index + 1]]
     }
 }

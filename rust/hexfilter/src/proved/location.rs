@@ -16,7 +16,7 @@ impl Location {
     /// The location of the first character.
     pub(crate) const FIRST: Location = Location { line: 1, column: 1 };
 
-    /// The location after this byte, if it stands at `self`.
+    /// The location after this byte, if the byte is at `self`.
     pub(crate) fn after(self, byte: u8) -> Location {
         if byte == b'\n' {
             return Location {

@@ -9,7 +9,7 @@ pub enum Mode {
     /// Two digits for each byte, in groups. If the separator is a newline, these are lines, and one follows
     /// the last, too.
     Encode {
-        /// Whether `0x` stands before the digits, also if there are none.
+        /// Whether `0x` is written before the digits, also if there are none.
         prefix: bool,
         /// Whether the digits are in uppercase. The prefix stays `0x`.
         upper: bool,

@@ -28,8 +28,8 @@ impl<K: Kernel> Kernel for CheckFirst<K> {
         K::check(input)
     }
 
-    // Not `always`: `decode_body` calls this in a branch that is never taken for most kernels. With
-    // its body in that branch, the decoders would be too large to be inlined.
+    // Not `always`: `decode_body` calls this in a branch that is never taken for most kernels. LLVM counts that branch
+    // before it removes it, and with this body in it, the decoders would be too large to be inlined.
     #[inline]
     fn decode_checked(input: &[u8], output: &mut [u8]) -> bool {
         if !K::check(input) {

@@ -12,14 +12,15 @@ pub trait LaneOps<const N: usize> {
     /// Fills the output with two digits for each lane, in order.
     fn write_digits(v: Simd<u8, N>, upper: bool, output: &mut [u8]);
 
-    /// The limit of each lane. If the lane is a digit, its value is at most the limit.
+    /// The limit of each lane, by a table look-up of its low nibble. If the lane is a digit, its value is at
+    /// most the limit.
     fn look_up_limits(v: Simd<u8, N>) -> Simd<u8, N>;
 
-    /// One byte for each two values, the higher half first.
+    /// One byte for each two nibbles, the high one first.
     fn merge(first: Simd<u8, N>, second: Simd<u8, N>) -> Simd<u8, N>;
 
-    /// Whether every mark has the bits 7, 6, 4 and 3 clear.
-    fn are_unmarked(marks: Simd<u8, N>) -> bool;
+    /// Whether the bits 7, 6, 4 and 3 of every lane are clear.
+    fn are_clear(error_bits: Simd<u8, N>) -> bool;
 }
 
 /// The operations on vectors, by multiplications.
@@ -47,26 +48,26 @@ pub(crate) fn unhex<const N: usize>(v: Simd<u8, N>) -> Simd<u8, N> {
 }
 
 /// `min(lane - 48, limit)` for each lane. If the lane is a digit, this is its value. Otherwise it
-/// is a number by which [`marks`] rejects the lane.
+/// is a number by which [`error_bits`] rejects the lane.
 #[inline(always)]
 pub(crate) fn values<const N: usize, V: LaneOps<N>>(v: Simd<u8, N>) -> Simd<u8, N> {
     (v - Simd::splat(0x30)).simd_min(V::look_up_limits(v))
 }
 
-/// A mark for each lane: the lane less 48, less its value. The lane is a digit if and only if the bits
-/// 7, 6, 4 and 3 (the mask `0xD8`) of its mark are clear. Marks of several vectors can be joined with `|`
-/// and tested at once.
+/// The error bits of each lane: the lane less 48, less its value. The lane is a digit if and only if
+/// the bits 7, 6, 4 and 3 (the mask `0xD8`) of this number are clear. The error bits of several vectors can
+/// be joined with `|` and tested at once.
 // `(v - 48).saturating_sub(limits)` is the same number. But then the limits of all vectors would
-// stay in registers beside the values until the marks are tested, and SSE has only 16 registers.
+// stay in registers beside the values until the error bits are tested, and SSE has only 16 registers.
 #[inline(always)]
-pub(crate) fn marks<const N: usize, V: LaneOps<N>>(v: Simd<u8, N>) -> Simd<u8, N> {
+pub(crate) fn error_bits<const N: usize, V: LaneOps<N>>(v: Simd<u8, N>) -> Simd<u8, N> {
     v - Simd::splat(0x30) - values::<N, V>(v)
 }
 
 /// Whether every lane is a digit.
 #[inline(always)]
 pub(crate) fn are_digits<const N: usize, V: LaneOps<N>>(v: Simd<u8, N>) -> bool {
-    V::are_unmarked(marks::<N, V>(v))
+    V::are_clear(error_bits::<N, V>(v))
 }
 
 /// Whether every lane of both vectors is a digit, by one test.
@@ -75,20 +76,20 @@ pub(crate) fn are_all_digits<const N: usize, V: LaneOps<N>>(
     first: Simd<u8, N>,
     second: Simd<u8, N>,
 ) -> bool {
-    V::are_unmarked(joint_marks::<N, V>(first, second))
+    V::are_clear(joint_error_bits::<N, V>(first, second))
 }
 
-/// The marks of two vectors, joined.
+/// The error bits of two vectors, joined.
 #[inline(always)]
-pub(crate) fn joint_marks<const N: usize, V: LaneOps<N>>(
+pub(crate) fn joint_error_bits<const N: usize, V: LaneOps<N>>(
     first: Simd<u8, N>,
     second: Simd<u8, N>,
 ) -> Simd<u8, N> {
-    marks::<N, V>(first) | marks::<N, V>(second)
+    error_bits::<N, V>(first) | error_bits::<N, V>(second)
 }
 
 /// Decodes two vectors of digits to one vector of bytes. If some lane is not a digit, the result is
-/// unspecified: test the marks before you use it.
+/// unspecified: test the error bits before you use it.
 #[inline(always)]
 pub(crate) fn decode<const N: usize, V: LaneOps<N>>(
     first: Simd<u8, N>,
@@ -99,7 +100,7 @@ pub(crate) fn decode<const N: usize, V: LaneOps<N>>(
 
 /// As [`decode`], by [`unhex`], which looks up no limits, for lanes that were tested before.
 #[inline(always)]
-pub(crate) fn decode_digits<const N: usize, V: LaneOps<N>>(
+pub(crate) fn decode_unchecked<const N: usize, V: LaneOps<N>>(
     first: Simd<u8, N>,
     second: Simd<u8, N>,
 ) -> Simd<u8, N> {

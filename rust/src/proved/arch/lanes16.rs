@@ -9,29 +9,29 @@ use crate::proved::arch::by_length::ByLength;
 use crate::proved::arch::lanes::{self, LaneOps, Multiplying};
 use crate::std_shim::simd::prelude::*;
 
-/// For each low half of a byte the limit: no digit with this low half has a greater value.
-// `byte - 48` is the value of `0` to `9`, and more than the value of a letter. For a low half that
+/// For each low nibble of a byte the limit: no digit with this low nibble has a greater value.
+// `byte - 48` is the value of `0` to `9`, and more than the value of a letter. For a low nibble that
 // a letter has (1 to 6), the limit is the value of the letter, so the minimum of both is the value
-// of every digit. The mark is `byte - 48 - value`: 0 for `0` to `9`, 7 for `A` to `F` and 39 for
-// `a` to `f`, none of which has a bit of 0xD8. Every other byte leaves a mark that has one. For a
-// low half that only a decimal digit has (0, 7, 8, 9), the limit is one more than its value. With
-// the value itself, `P`, `W`, `X` and `Y` would leave the mark 32, and pass as digits.
+// of every digit. The error bits are `byte - 48 - value`: 0 for `0` to `9`, 7 for `A` to `F` and 39 for
+// `a` to `f`, none of which has a bit of 0xD8. Every other byte leaves a number that has one. For a
+// low nibble that only a decimal digit has (0, 7, 8, 9), the limit is one more than its value. With
+// the value itself, `P`, `W`, `X` and `Y` would leave the number 32, and pass as digits.
 const LIMITS: [u8; 16] = [1, 10, 11, 12, 13, 14, 15, 8, 9, 10, 0, 0, 0, 0, 0, 0];
 
 /// The digits in lowercase, and in uppercase.
 const DIGITS: &[[u8; 16]; 2] = &[*b"0123456789abcdef", *b"0123456789ABCDEF"];
 
-/// The digit of each value, in each lane.
+/// The digits in order of their values: a table for look-ups by `swizzle_dyn`.
 #[inline(always)]
-pub(crate) fn digits_row(upper: bool) -> [u8; 16] {
+pub(crate) fn digit_table(upper: bool) -> [u8; 16] {
     DIGITS[usize::from(upper)]
 }
 
-/// Half of a row, in both halves of a vector.
+/// The lanes twice, one copy in each half of a vector.
 #[inline(always)]
-fn in_both_halves(lanes: [u8; 16]) -> u8x32 {
+fn repeat_lanes(lanes: [u8; 16]) -> u8x32 {
     let half = u8x16::from_array(lanes);
-    join(half, half)
+    concat_lanes(half, half)
 }
 
 /// Two digits for each lane, in order: the text of the first 8 lanes, and the text of the last 8.
@@ -69,9 +69,8 @@ pub fn unhex(v: u8x16) -> u8x16 {
 }
 
 /// The kernel for vectors of 16 lanes. It encodes 16 bytes, checks 16 characters and decodes 32
-/// characters at a time. The remainder is encoded, checked and decoded together with what stands
-/// before it, as one more vector that overlaps the last one. If the remainder of a text has an
-/// invalid character, the pairs before that are decoded.
+/// characters at a time. The remainder is encoded, checked and decoded together with what is
+/// before it, as one more vector that overlaps the last one.
 pub type Lanes16 = ByLength<16, Multiplying>;
 
 impl LaneOps<16> for Multiplying {
@@ -91,41 +90,41 @@ impl LaneOps<16> for Multiplying {
 
     #[inline(always)]
     fn merge(first: u8x16, second: u8x16) -> u8x16 {
-        pack(join(first, second))
+        pack(concat_lanes(first, second))
     }
 
-    // In lanes of 64 bits: for AArch64, LLVM joins those of 8 bits by five instructions more.
+    // Reduced as lanes of 64 bits: for AArch64, LLVM takes five instructions more for lanes of 8 bits.
     #[inline(always)]
-    fn are_unmarked(marks: u8x16) -> bool {
-        u64x2::from_le_bytes(marks & u8x16::splat(0xD8)).reduce_or() == 0
+    fn are_clear(error_bits: u8x16) -> bool {
+        u64x2::from_le_bytes(error_bits & u8x16::splat(0xD8)).reduce_or() == 0
     }
 }
 
 /// Two digits for each lane, in order.
 #[inline(always)]
 pub(crate) fn encode_lanes(v: u8x16, upper: bool) -> u8x32 {
-    in_both_halves(digits_row(upper)).swizzle_dyn_within::<16>(split_lanes(v))
+    repeat_lanes(digit_table(upper)).swizzle_dyn_within::<16>(split_nibbles(v))
 }
 
 /// As `encode_lanes`, for 8 lanes.
 #[inline(always)]
-pub(crate) fn encode_half(v: u8x8, upper: bool) -> u8x16 {
-    u8x16::from_array(digits_row(upper)).swizzle_dyn(split_half(v))
+pub(crate) fn encode_8_lanes(v: u8x8, upper: bool) -> u8x16 {
+    u8x16::from_array(digit_table(upper)).swizzle_dyn(split_8_nibbles(v))
 }
 
-/// As `split_lanes`, for 8 lanes.
+/// As `split_nibbles`, for 8 lanes.
 #[inline(always)]
-fn split_half(v: u8x8) -> u8x16 {
+fn split_8_nibbles(v: u8x8) -> u8x16 {
     let wide: u16x8 = v.cast();
     ((wide * u16x8::splat(4097)) >> u16x8::splat(4)).to_le_bytes()
 }
 
-/// Both halves of each lane, the upper one first.
+/// The two nibbles of each lane, the high one first.
 // Each byte is widened to 16 bits and multiplied by 4097 = 0x1001. That adds a copy 12 bits higher,
-// of which only the lower half fits: 0x00B4 becomes 0x40B4. Shifted right by 4 it is 0x040B, in
-// memory the bytes 0x0B and 0x04: the upper half first.
+// of which only the low nibble fits: 0x00B4 becomes 0x40B4. Shifted right by 4 it is 0x040B, in
+// memory the bytes 0x0B and 0x04: the high nibble first.
 #[inline(always)]
-fn split_lanes(v: u8x16) -> u8x32 {
+fn split_nibbles(v: u8x16) -> u8x32 {
     let wide: u16x16 = v.cast();
     ((wide * u16x16::splat(4097)) >> u16x16::splat(4)).to_le_bytes()
 }
@@ -143,7 +142,7 @@ fn decode_flagged(text: [u8x16; 2]) -> (u8x16, bool) {
 
 /// The lanes of both vectors, in order.
 #[inline(always)]
-pub(crate) fn join(first: u8x16, second: u8x16) -> u8x32 {
+pub(crate) fn concat_lanes(first: u8x16, second: u8x16) -> u8x32 {
     first.shuffle(
         second,
         [
@@ -153,8 +152,8 @@ pub(crate) fn join(first: u8x16, second: u8x16) -> u8x32 {
     )
 }
 
-/// One byte for each two lanes, which must be values.
-// Two values, the upper half first, are read as one number of 16 bits, high + 256 * low. Multiplied
+/// One byte for each two lanes, which must be nibbles.
+// Two nibbles, the high one first, are read as one number of 16 bits, high + 256 * low. Multiplied
 // by 4097 = 0x1001, its upper byte is 16 * high + low: 0x040B becomes 0xB40B. The shift leaves
 // 0xB4.
 #[inline(always)]

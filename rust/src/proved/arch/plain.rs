@@ -22,7 +22,7 @@ impl<const PAIRS: bool> Kernel for ByteByByte<PAIRS> {
 
     #[inline(always)]
     fn fill(input: &[u8], upper: bool, output: &mut [u8]) {
-        // By this length, which cannot overflow, LLVM needs no test of an index in Rust.
+        // In the Rust that is made of this, LLVM leaves out the tests of indices by this length, which cannot overflow.
         let text = &mut output[..input.len().saturating_mul(2)];
         for i in 0..input.len() {
             text[2 * i..2 * i + 2].copy_from_slice(&digits_at::<PAIRS>(upper, input[i]));

@@ -35,10 +35,10 @@ pub(crate) const fn is_prefix(first: u8, second: u8) -> bool {
     (distance % 0x2000 == 0) & (distance < 0x4000)
 }
 
-/// Whether both bytes are digits.
+/// Whether both bytes of a pair are digits.
 // Only NIL has the highest bit set, so one test of the OR suffices.
 #[inline(always)]
-pub(crate) fn are_digits(first: u8, second: u8) -> bool {
+pub(crate) fn is_digit_pair(first: u8, second: u8) -> bool {
     value_at(first) | value_at(second) < 128
 }
 
@@ -52,8 +52,8 @@ pub(crate) fn find_invalid_character<K: Kernel>(text: &[u8]) -> FromHexError {
 
 /// The first byte after the prefix that is not a digit, and its position in the whole text. If there is
 /// none, a NUL character and the length of the text.
-// Not inlined, and only the text is passed: so the search is compiled once, and the public decoders keep only the text
-// for it.
+// Not inlined, so the search is compiled once for each kernel. It takes only the text and strips the prefix again, so
+// that the public decoders keep nothing else for it. It returns a pair, which fits into registers.
 #[cold]
 #[inline(never)]
 fn locate_invalid<K: Kernel>(text: &[u8]) -> (char, usize) {
@@ -75,6 +75,7 @@ pub(crate) const fn invalid_character(byte: u8, index: usize) -> FromHexError {
 /// length of the text.
 #[inline(always)]
 pub(crate) fn find_first_invalid<K: Kernel>(text: &[u8]) -> (u8, usize) {
+    // From here on, the calls of the kernel take less time than the table.
     let start = if text.len() < 128 {
         0
     } else {
@@ -84,8 +85,9 @@ pub(crate) fn find_first_invalid<K: Kernel>(text: &[u8]) -> (u8, usize) {
 }
 
 /// An index before which all bytes are digits, found by binary search: the kernel checks the first half of the text,
-/// then the first half of the half that has an invalid byte, and so on.
-// Not inlined: so `machine_code` proves it once, and uses its contract at the call. It cannot prove a call in a loop.
+/// then the first half of the half that has an invalid byte, and so on, until 1/64 of the text is left.
+// Not inlined: so the tool `machine_code` proves its machine code once, and uses its contract at the call. It has no
+// loop, since the tool cannot prove a call in one.
 #[inline(never)]
 fn skip_halves<K: Kernel>(text: &[u8]) -> usize {
     let start = skip_if_digits::<K>(text, 0, text.len() / 2);
@@ -132,10 +134,10 @@ fn skip_digits_by_four(text: &[u8], start: usize) -> usize {
     if text.len() >= 4 {
         let last = text.len() - 4;
         'fours: while index <= last {
-            if !are_digits(text[index], text[index + 1]) {
+            if !is_digit_pair(text[index], text[index + 1]) {
                 break;
             }
-            if !are_digits(text[index + 2], text[index + 3]) {
+            if !is_digit_pair(text[index + 2], text[index + 3]) {
                 return index + 2;
             }
             index += 4;

@@ -215,7 +215,7 @@ fn left_over(pending: Option<u8>, digits: &[u8], count: usize) -> Option<u8> {
 fn decode_next<K: Kernel>(pending: Option<u8>, digits: &[u8], output: &mut [u8]) -> bool {
     match pending {
         Some(high) => decode_after::<K>(high, digits, output),
-        None => decode_digits::<K>(digits, output),
+        None => decode_pairs_and_last::<K>(digits, output),
     }
 }
 
@@ -226,7 +226,7 @@ fn decode_after<K: Kernel>(high: u8, digits: &[u8], output: &mut [u8]) -> bool {
     match digits {
         [low, rest @ ..] => {
             let (first, others) = output.split_at_mut(1);
-            decode_body::<K>(&[high, *low], first) && decode_digits::<K>(rest, others)
+            decode_body::<K>(&[high, *low], first) && decode_pairs_and_last::<K>(rest, others)
         }
         [] => true,
     }
@@ -235,7 +235,7 @@ fn decode_after<K: Kernel>(high: u8, digits: &[u8], output: &mut [u8]) -> bool {
 /// Decodes the digits into the output and returns true. The last digit of an odd number is only
 /// tested. Returns false if some byte is not a digit.
 #[inline(always)]
-fn decode_digits<K: Kernel>(digits: &[u8], output: &mut [u8]) -> bool {
+fn decode_pairs_and_last<K: Kernel>(digits: &[u8], output: &mut [u8]) -> bool {
     let (pairs, last) = digits.split_at(2 * output.len());
     decode_body::<K>(pairs, output) && check_last(last)
 }
