@@ -159,7 +159,7 @@ def test_honest_builds_are_read(make, tmp_path):
 def test_symbols_of_debug_information_have_no_address(tmp_path):
     """Assemblers for AArch64 mark data there, too, at distances from the start of the section."""
     make = with_source(".section .debug_info; .skip 12345; mark: .byte 0")
-    assert 12345 not in library.read(make(tmp_path).read_bytes()).starts
+    assert 12345 not in library.read(make(tmp_path).read_bytes()).symbol_addresses
 
 
 def test_a_program_for_avx2_alone_is_read():
