@@ -16,8 +16,8 @@ pub fn cases(size: usize) -> Vec<Case> {
     };
     with_names_of_hex!(const_hex, "const-hex", cases);
     with_names_of_hex!(const_hex_proved, "const-hex-proved", cases);
-    cases.decoding("check", "const-hex", |text, _| const_hex::check(text));
-    cases.decoding("check", "const-hex-proved", |text, _| {
+    cases.add_decoding("check", "const-hex", |text, _| const_hex::check(text));
+    cases.add_decoding("check", "const-hex-proved", |text, _| {
         const_hex_proved::check(text)
     });
     macro_rules! known_lengths {
@@ -33,7 +33,7 @@ pub fn cases(size: usize) -> Vec<Case> {
     }
     known_lengths!(1 2 3 4 8 12 16 17 20 24 32 33 48 64 65 128 256 2048);
     with_names_of_hex!(hex, "hex", cases);
-    of_data_encoding(&mut cases);
+    add_data_encoding(&mut cases);
     cases.list
 }
 
@@ -49,7 +49,7 @@ struct Cases {
 
 impl Cases {
     /// Adds a case that calls `run` on the bytes and on a buffer for the text.
-    fn encoding<T>(
+    fn add_encoding<T>(
         &mut self,
         call: &str,
         library: &'static str,
@@ -60,7 +60,7 @@ impl Cases {
     }
 
     /// Adds a case for each kind of text, which calls `run` on the text and on a buffer for the bytes.
-    fn decoding<T: 'static, E: 'static>(
+    fn add_decoding<T: 'static, E: 'static>(
         &mut self,
         call: &str,
         library: &'static str,
@@ -113,16 +113,16 @@ impl Cases {
 /// The calls of a crate that has the names of `hex`. `encode_hex` is that of its trait `ToHex`.
 macro_rules! with_names_of_hex {
     ($library:ident, $name:literal, $cases:ident) => {{
-        $cases.encoding("encode_to_slice", $name, |bytes, text| {
+        $cases.add_encoding("encode_to_slice", $name, |bytes, text| {
             $library::encode_to_slice(bytes, text).unwrap()
         });
-        $cases.encoding("encode", $name, |bytes, _| $library::encode(bytes));
-        $cases.decoding("decode_to_slice", $name, |text, bytes| {
+        $cases.add_encoding("encode", $name, |bytes, _| $library::encode(bytes));
+        $cases.add_decoding("decode_to_slice", $name, |text, bytes| {
             $library::decode_to_slice(text, bytes)
         });
-        $cases.decoding("decode", $name, |text, _| $library::decode(text));
+        $cases.add_decoding("decode", $name, |text, _| $library::decode(text));
         #[allow(deprecated)]
-        $cases.encoding("encode_hex", $name, |bytes, _| {
+        $cases.add_encoding("encode_hex", $name, |bytes, _| {
             $library::ToHex::encode_hex::<String>(&bytes)
         });
     }};
@@ -132,12 +132,12 @@ use with_names_of_hex;
 /// The calls with arrays, whose lengths the compiler knows.
 macro_rules! with_arrays {
     ($library:ident, $name:literal, $cases:ident, $size:literal) => {{
-        $cases.encoding("encode_to_slice of an array", $name, |bytes, text| {
+        $cases.add_encoding("encode_to_slice of an array", $name, |bytes, text| {
             let bytes: &[u8; $size] = bytes.try_into().unwrap();
             let text: &mut [u8; 2 * $size] = text.try_into().unwrap();
             $library::encode_to_slice(bytes, text).unwrap()
         });
-        $cases.decoding("decode_to_array", $name, |text, _| {
+        $cases.add_decoding("decode_to_array", $name, |text, _| {
             let text: &[u8; 2 * $size] = text.try_into().unwrap();
             $library::decode_to_array::<_, $size>(text)
         });
@@ -145,13 +145,13 @@ macro_rules! with_arrays {
 }
 use with_arrays;
 
-fn of_data_encoding(cases: &mut Cases) {
+fn add_data_encoding(cases: &mut Cases) {
     use data_encoding::{HEXLOWER, HEXLOWER_PERMISSIVE};
     let name = "data-encoding";
-    cases.encoding("encode_to_slice", name, |bytes, text| {
+    cases.add_encoding("encode_to_slice", name, |bytes, text| {
         HEXLOWER.encode_mut(bytes, text)
     });
-    cases.decoding("decode_to_slice", name, |text, bytes| {
+    cases.add_decoding("decode_to_slice", name, |text, bytes| {
         HEXLOWER_PERMISSIVE.decode_mut(text, bytes)
     });
 }

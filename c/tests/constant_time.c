@@ -1,5 +1,5 @@
 /*
- * Calls each function of portable.c with bytes or digits that are marked as undefined for valgrind's memcheck, at each
+ * Calls each function of SOURCE, which is portable.c or a mutant of it, with bytes or digits that are marked as undefined for valgrind's memcheck, at each
  * length up to 200. It reports each branch and each address that depends on one, except through PUBLIC.
  */
 #include <stddef.h>
@@ -12,7 +12,7 @@ static size_t public(size_t value) {
   return value;
 }
 #define PUBLIC(value) public(value)
-#include PORTABLE
+#include SOURCE
 
 enum { MAX_LENGTH = 200 };
 

@@ -1,6 +1,6 @@
 # Tests of portable.c.
 set(PORTABLE ${PROJECT_SOURCE_DIR}/portable.c)
-# With what finds a read or a write outside, and what C does not define.
+# With AddressSanitizer and UndefinedBehaviorSanitizer: out-of-bounds accesses and undefined behavior fail the test.
 set(SANITIZE -fsanitize=address,undefined -fno-sanitize-recover=all)
 foreach(name check table)
   program(sanitized_${name} ${name}.c ${SANITIZE})
@@ -16,7 +16,7 @@ foreach(row cc clang x86_64-w64-mingw32-gcc "arm-none-eabi-gcc -mcpu=cortex-m0 -
     -o ${compiler}.o)
 endforeach()
 
-# portable.c with another text in place of one, as a file of this name.
+# Writes NAME.c: portable.c with `from` replaced by `to`.
 function(mutant name from to)
   file(READ ${PORTABLE} code)
   string(REPLACE "${from}" "${to}" wrong "${code}")
@@ -34,18 +34,18 @@ function(constant_time name source)
     return()
   endif()
   program(constant_time_${name} constant_time.c)
-  target_compile_definitions(constant_time_${name} PRIVATE PORTABLE="${source}")
+  target_compile_definitions(constant_time_${name} PRIVATE SOURCE="${source}")
   target_compile_options(constant_time_${name} PRIVATE -gdwarf-4)
   test(constant_time.${name} NEEDS valgrind COMMAND valgrind -q --expensive-definedness-checks=yes --error-exitcode=9
     $<TARGET_FILE:constant_time_${name}> PROPERTIES ${ARGN})
 endfunction()
 constant_time(portable ${PORTABLE})
-set(NAMED PASS_REGULAR_EXPRESSION "depends on uninitialised|Use of uninitialised")
+set(MEMCHECK_ERROR PASS_REGULAR_EXPRESSION "depends on uninitialised|Use of uninitialised")
 mutant(table "unsigned is_letter =" "return \"0123456789abcdef0123456789ABCDEF\"[value + 16 * upper];\n  unsigned is_letter =")
 mutant(branch "unsigned decimal =" "if (byte <= '9') return byte - '0';\n  unsigned decimal =")
 mutant(prefix "unsigned pair =" "if (first != '0') return false;\n  unsigned pair =")
 foreach(name table branch prefix)
-  constant_time(${name} ${HERE}/${name}.c ${NAMED})
+  constant_time(${name} ${HERE}/${name}.c ${MEMCHECK_ERROR})
 endforeach()
 
 # Frama-C proves each function, with pointers of 64 and of 32 bits, and not a mutant. It takes gcc's preprocessor.

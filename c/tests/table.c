@@ -33,12 +33,15 @@ static size_t repeat(char *bytes, size_t length, size_t times) {
   return times * length;
 }
 
+/* The kind of an error that only other languages have. */
+#define OTHER_ERROR 4
+
 /* The error that a cell shows, or no kind. */
 static struct const_hex_error error_of(const char *cell) {
   static const char *const names[] = {"", "!OddLength", "!InvalidStringLength",
                                       "!InvalidHexCharacter"};
-  struct const_hex_error error = {*cell == '!' ? 4 : 0, 0, 0};
-  for (uint32_t kind = 1; kind < 4; kind++) {
+  struct const_hex_error error = {*cell == '!' ? OTHER_ERROR : 0, 0, 0};
+  for (uint32_t kind = 1; kind < OTHER_ERROR; kind++) {
     if (strncmp(cell, names[kind], strlen(names[kind])) == 0) {
       error.kind = kind;
     }

@@ -154,6 +154,7 @@ export function check(input) {
 export const isHex = (input) => isValid(sourceOf(input));
 
 export function wipe() {
+    // The constants, between the stack and the decoder, stay.
     new Uint8Array(memory.buffer).fill(0, 0, STACK_SIZE).fill(0, DECODER);
 }
 

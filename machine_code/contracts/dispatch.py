@@ -58,7 +58,7 @@ class Thunk(Function):
     level = "dispatch"
     is_in_module = False
     callee_suffixes = ("_nonnull",)
-    is_unrolled = uses_static = is_every_input_valid = True
+    is_unrolled = uses_dispatch_byte = is_every_input_valid = True
 
     def __init__(self, function, parameters):
         self.function = function
@@ -82,7 +82,7 @@ class Thunk(Function):
             self.prove_argument(state, index, actual, expected)
         state.havoc_arguments(len(self.arguments))
         state.callee_result = fresh_secret(64)
-        state.stores_before_call = len(state.static_stores)
+        state.stores_before_call = len(state.dispatch_byte_stores)
         yield state, state.callee_result
 
     def prove_argument(self, state, index, actual, expected):
@@ -92,7 +92,7 @@ class Thunk(Function):
     def prove_postcondition(self, state):
         require(state.callee_result is not None, "no call")
         state.prove(state.result(64) == state.callee_result, "the result is not the callee's")
-        is_byte_unchanged = len(state.static_stores) == state.stores_before_call
+        is_byte_unchanged = len(state.dispatch_byte_stores) == state.stores_before_call
         require(is_byte_unchanged, "a store to the dispatcher's byte after the call")
 
 
@@ -109,13 +109,13 @@ class KernelDispatcher(Thunk):
     def prove_callee(self, state, suffix):
         """Proves that the callee has the stored level or, if none was stored, that of the CPU."""
         level = self.levels[suffix]
-        if not state.static_stores:
-            is_stored = z3.Or(*[loaded == level for loaded in state.static_loads])
+        if not state.dispatch_byte_stores:
+            is_stored = z3.Or(*[loaded == level for loaded in state.dispatch_byte_loads])
             return state.prove(is_stored, "the kernel is not the stored one")
         for other in self.levels.values():
-            is_not_stored = z3.Or(*[loaded != other for loaded in state.static_loads])
+            is_not_stored = z3.Or(*[loaded != other for loaded in state.dispatch_byte_loads])
             state.prove(is_not_stored, "a level is stored again")
-        for stored in state.static_stores:
+        for stored in state.dispatch_byte_stores:
             state.prove(stored == level, "the level of another kernel is stored")
         state.prove(level_of_cpu() == level, "the kernel is not the one for this CPU")
 
@@ -149,7 +149,7 @@ class NullErrorThunk(Thunk):
         return state.DISPATCHER_STACK_SIZE, state.STACK_SIZE
 
     def prove_callee(self, state, suffix):
-        require(not state.static_stores, "a store to the dispatcher's byte before the call")
+        require(not state.dispatch_byte_stores, "a store to the dispatcher's byte before the call")
 
     def prove_argument(self, state, index, actual, expected):
         if index < len(self.arguments) - 1 or not self.is_null:

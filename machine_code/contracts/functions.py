@@ -116,7 +116,7 @@ class Function:
     is_in_module = has_result = True
     # A function takes only callees with a smaller depth by their contracts. Kernels have 0.
     call_depth = 3
-    uses_static = False  # the dispatcher's byte, which is no secret
+    uses_dispatch_byte = False  # the dispatcher's byte, which is no secret
     is_every_input_valid = False
     is_digit = staticmethod(is_digit)
     # The regions that it may access. Some are functions of the size of a pointer.

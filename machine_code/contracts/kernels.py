@@ -129,18 +129,18 @@ class CheckOfModule(Check):
 
 def prove_decoded(state, offset, data):
     """Proves that bytes at an offset of the output are what the text decodes to, without an invalid
-    character before. The first digit of the first byte may be one that waits in a decoder."""
-    is_waiting = state.waiting is not None
-    is_first = is_waiting and state.is_valid(offset == 0)
-    state.prove(z3.Or(not is_waiting, is_first, offset != 0), "whether it is the first byte")
-    start = state.digits_start - is_waiting
+    character before. The first digit of the first byte may be one that is pending in a decoder."""
+    has_pending = state.pending is not None
+    is_first = has_pending and state.is_valid(offset == 0)
+    state.prove(z3.Or(not has_pending, is_first, offset != 0), "whether it is the first byte")
+    start = state.digits_start - has_pending
     end = simplify(start + 2 * (offset + len(data)))
     prove_digits(state, end, "written before its digits are checked")
     for index, number in enumerate(data):
         position = start + 2 * (offset + index)
         high, low = state.byte_of_input(position), state.byte_of_input(position + 1)
         if is_first and index == 0:
-            high = state.waiting
+            high = state.pending
         state.prove_equal(number, decoded(high, low), f"a wrong byte at {offset} + {index}")
 
 

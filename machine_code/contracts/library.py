@@ -236,8 +236,8 @@ class Text(Exported):
         return prefix_cases(state)
 
     def count(self, state):
-        """The number of bytes that the digits decode to, with a digit that waits in a decoder."""
-        return simplify(z3.LShR(N - state.digits_start + (state.waiting is not None), 1))
+        """The number of bytes that the digits decode to, with a digit that is pending in a decoder."""
+        return simplify(z3.LShR(N - state.digits_start + (state.pending is not None), 1))
 
     def errors(self, state):
         """The errors beside an invalid character, in the order in which they are checked: the
@@ -327,7 +327,7 @@ class Decode(Text):
 
 
 class DecoderFinish(Exported):
-    """decoder_finish(decoder, error): whether no digit waits for the second one of its byte, and
+    """decoder_finish(decoder, error): whether no first digit of a byte is pending, and
     there was no error."""
 
     function = "decoder_finish"
@@ -352,7 +352,7 @@ class DecoderFinish(Exported):
 
 
 # The fields of a decoder: the position in the text; a character, which is the only secret; and 0, 1
-# if the character is a digit that waits for the second one of its byte, or more after an error.
+# if the character is a pending digit, the first of its byte, or more after an error.
 Decoder = namedtuple("Decoder", "position character status")
 
 
@@ -384,13 +384,13 @@ def from_size_t(state, term):
 
 
 # The conditions for what a decoder may be: at the start; after one digit, which may be the first
-# character of a prefix; later, where no digit waits, or one; or after an error.
-DecoderStates = namedtuple("DecoderStates", "start one_digit complete waiting failed")
+# character of a prefix; later, where no digit is pending, or one; or after an error.
+DecoderStates = namedtuple("DecoderStates", "start one_digit complete pending failed")
 
 
 class DecoderUpdate(Text):
     """decoder_update(decoder, text, length, bytes, bytes_size, written, error): the bytes that a
-    chunk's digits decode to, with a digit before that waits."""
+    chunk's digits decode to, with a pending digit before."""
 
     function = "decoder_update"
     name = "every decoder and chunk"
@@ -401,13 +401,13 @@ class DecoderUpdate(Text):
 
     def decoder_states(self, decoder):
         """The conditions under which a decoder is in each of its states."""
-        waits = z3.And(decoder.status == 1, is_digit(decoder.character))
+        is_pending = z3.And(decoder.status == 1, is_digit(decoder.character))
         later = z3.UGE(decoder.position, 2)
         return DecoderStates(
             start=z3.And(decoder.position == 0, decoder.status == 0),
-            one_digit=z3.And(decoder.position == 1, waits),
+            one_digit=z3.And(decoder.position == 1, is_pending),
             complete=z3.And(later, decoder.status == 0),
-            waiting=z3.And(later, waits),
+            pending=z3.And(later, is_pending),
             failed=z3.UGT(decoder.status, 1),
         )
 
@@ -421,26 +421,26 @@ class DecoderUpdate(Text):
             z3.UGE(N, 1), is_prefix(decoder.character, state.byte_of_input(bv64(0)))
         )
         yield from prefix_cases(state.branch(states.start))
-        # Whether a digit waits, and where the digits of this chunk begin.
-        for condition, is_waiting, digits_start in (
+        # Whether a digit is pending, and where the digits of this chunk begin.
+        for condition, has_pending, digits_start in (
             (z3.And(states.one_digit, ends_prefix), False, 1),
             (z3.And(states.one_digit, z3.Not(ends_prefix)), True, 0),
             (states.complete, False, 0),
-            (states.waiting, True, 0),
+            (states.pending, True, 0),
             (states.failed, False, 0),
         ):
             if path := state.branch(condition):
-                path.waiting = decoder_at_call(path).character if is_waiting else None
+                path.pending = decoder_at_call(path).character if has_pending else None
                 path.digits_start = bv64(digits_start)
                 yield path
 
-    def waits(self, state):
-        """Whether a digit waits for the next chunk."""
-        return N - state.digits_start + (state.waiting is not None) - 2 * self.count(state) == 1
+    def leaves_pending(self, state):
+        """Whether a digit is pending for the next chunk."""
+        return N - state.digits_start + (state.pending is not None) - 2 * self.count(state) == 1
 
     def may_decide_select(self, state, offset):
-        """Whether it is the digit of this chunk that waits for the next one."""
-        return state.is_valid(z3.And(self.waits(state), offset == N - 1))
+        """Whether it is the digit of this chunk that is pending for the next one."""
+        return state.is_valid(z3.And(self.leaves_pending(state), offset == N - 1))
 
     def errors(self, state):
         decoder = decoder_at_call(state)
@@ -455,14 +455,16 @@ class DecoderUpdate(Text):
         decoder = decoder_at_call(state)
         position = saturating_add(state, decoder.position, N)
         prove_object(state, "decoder", in_size_t(state, position))
-        waits = self.waits(state)
-        prove_object(state, "decoder", z3.If(waits, bv8(1), bv8(0)), offset=state.POINTER_SIZE + 1)
-        if path := state.branch(z3.And(waits, N == 0)):
+        is_pending = self.leaves_pending(state)
+        prove_object(
+            state, "decoder", z3.If(is_pending, bv8(1), bv8(0)), offset=state.POINTER_SIZE + 1
+        )
+        if path := state.branch(z3.And(is_pending, N == 0)):
             prove_object(path, "decoder", decoder.character, offset=state.POINTER_SIZE)
-        if path := state.branch(z3.And(waits, N != 0)):
-            path.prove(z3.UGT(N, path.digits_start), "what waits is not among the digits")
+        if path := state.branch(z3.And(is_pending, N != 0)):
+            path.prove(z3.UGT(N, path.digits_start), "the pending digit is not among the digits")
             prove_object(path, "decoder", path.byte_of_input(N - 1), offset=state.POINTER_SIZE)
-        # A character that waits is a digit, as proved. So a case covers the next call, too.
+        # A character that is_pending is a digit, as proved. So a case covers the next call, too.
         decoder = decoder_in(state)._replace(character=bv8(ord("0")))
         is_covered = z3.Or(*self.decoder_states(decoder))
         state.prove(is_covered, "the decoder is in a state that no case covers")

@@ -28,7 +28,7 @@ class Code:
         self.level = level or symbol.rpartition("_")[2]
         self.start = self.image.symbols[symbol]
         # The offset of the dispatcher's byte, once it is accessed.
-        self.static_offset = None
+        self.dispatch_byte_offset = None
         self.callees = {
             self.image.symbols[name]: summary
             for name, summary in summaries.items()
@@ -49,16 +49,16 @@ class Code:
         """An address of the file as a term: its offset from the unknown load address."""
         return self.constants.base + (address - self.image.base_address)
 
-    def is_static(self, offset, count):
+    def is_dispatch_byte(self, offset, count):
         """Whether an access is to the dispatcher's byte, which all threads share. A function may
         access only one such byte."""
         if count != 1 or not z3.is_bv_value(offset):
             return False
         if not self.image.is_dispatch_byte(self.image.base_address + offset.as_long()):
             return False
-        if self.static_offset is None:
-            self.static_offset = offset.as_long()
-        return self.static_offset == offset.as_long()
+        if self.dispatch_byte_offset is None:
+            self.dispatch_byte_offset = offset.as_long()
+        return self.dispatch_byte_offset == offset.as_long()
 
     def name_at(self, address):
         """The symbol, the offset from it, and the instruction at an address, for messages."""

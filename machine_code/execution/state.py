@@ -39,7 +39,7 @@ from solver.questions import (
 
 class Region:
     """Some bytes of memory at an unknown base that is a multiple of `align`. Only the region of
-    a file's constants has `data`. The names "input", "output" and "static" are special; each other
+    a file's constants has `data`. The names "input", "output" and "dispatch byte" are special; each other
     region is an object, whose bytes the state knows.
     """
 
@@ -50,10 +50,12 @@ class Region:
         self.data = data
         self.base = public(name, 64)
         self.is_writable = is_writable and data is None and name != "input"
-        self.is_object = data is None and name not in ("input", "output", "static")
+        self.is_object = data is None and name not in ("input", "output", "dispatch byte")
 
 
-STATIC = Region("static", bv64(1))  # the dispatcher's byte, which keeps its value between calls
+DISPATCH_BYTE = Region(
+    "dispatch byte", bv64(1)
+)  # the dispatcher's byte, which keeps its value between calls
 MAX_VALUES = 64  # of the offset of a constant, or of an indirect jump's target
 
 
@@ -70,7 +72,7 @@ class State:
     # Whether the upper halves of the YMM registers are zero, so that `vzeroupper` is not needed.
     is_upper_half_clean = True
     digits_start = bv64(0)  # the index in the input at which the digits begin, after a prefix
-    waiting = None  # a decoder's digit that waits for the second digit of its byte
+    pending = None  # the first digit of a byte, which a decoder keeps for the next chunk
     # The last loop that was entered, unless a function was called since by its contract, and the
     # number of instructions since its header.
     loop, steps = None, 0
@@ -87,7 +89,7 @@ class State:
         self.reads, self.writes = [], []
         # Whether a read is of digits alone. Two keys are the same only if their terms are.
         self.reads_of_digits = {}
-        self.static_loads, self.static_stores = [], []  # the values
+        self.dispatch_byte_loads, self.dispatch_byte_stores = [], []  # the values
         self.return_targets = {}  # addresses, by the names that stand for them on the stack
         self.loops = {}  # that were entered, by the addresses of their headers
 
@@ -230,9 +232,9 @@ class State:
         )
         is_aligned = not aligned or self.is_valid(address & count - 1 == 0)
         require(is_aligned, "an access may be misaligned")
-        may_be_static = region is self.code.constants and self.contract.uses_static
-        if may_be_static and self.code.is_static(offset, count):
-            region = STATIC
+        may_be_dispatch_byte = region is self.code.constants and self.contract.uses_dispatch_byte
+        if may_be_dispatch_byte and self.code.is_dispatch_byte(offset, count):
+            region = DISPATCH_BYTE
         return region, offset
 
     def load(self, address, count, aligned=False):
@@ -243,10 +245,10 @@ class State:
         if region.name == "input":
             self.reads.append((offset, count))
             return [self.byte_of_input(offset + index) for index in range(count)]
-        if region.name == "static":
+        if region.name == "dispatch byte":
             # Another thread may have written it since it was read before.
-            self.static_loads.append(fresh_public(8))
-            return self.static_loads[-1:]
+            self.dispatch_byte_loads.append(fresh_public(8))
+            return self.dispatch_byte_loads[-1:]
         require(region.is_object, f"{region.name} is read")
         start = self._constant_offset(region, offset)
         data = [self.cells.get((region.name, start + index)) for index in range(count)]
@@ -304,8 +306,8 @@ class State:
         require(region.is_writable, f"{region.name} is written")
         if region.is_object:
             self.put_cells(region.name, self._constant_offset(region, offset), data)
-        elif region.name == "static":
-            self.static_stores += data
+        elif region.name == "dispatch byte":
+            self.dispatch_byte_stores += data
         else:
             self.contract.prove_store(self, offset, data)
             self.writes.append((offset, len(data)))

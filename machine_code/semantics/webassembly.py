@@ -153,8 +153,8 @@ class State(CommonState):
 
     # Memory
     def _locate(self, address, count, aligned):
-        """An address without the base of a region is one of the data segment, whose address is
-        known."""
+        """As in State. An absolute address, which has the base of no region, is one of the data
+        segment: it becomes relative to that."""
         if self.regions.keys().isdisjoint(free_constants(address)):
             address = self.code.runtime_address(address)
         return super()._locate(address, count, aligned)

@@ -305,7 +305,7 @@ def pop_number(state):
 
 def pop(state, operand):
     """Pops a register."""
-    require(operand.kind == "general" and operand.size == 8, "an unsupported operand size")
+    require(operand.kind == "general" and operand.size == 8, "an unsupported operand")
     state.general[operand.name] = pop_number(state)
 
 

@@ -104,9 +104,9 @@ def insert(size):
 
     def handler(state, dest, *sources):
         # The legacy form inserts into its destination, the VEX-encoded form into a source.
-        *vector, src, index = sources
+        *first_source, src, index = sources
         require(index.value < dest.size // size, "an unsupported index")
-        data = state.data(vector[0] if vector else dest)
+        data = state.data(first_source[0] if first_source else dest)
         start = index.value * size
         state.put_vector(dest, data[:start] + state.data(src, size) + data[start + size :])
 

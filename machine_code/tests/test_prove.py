@@ -87,6 +87,7 @@ def test_callees_are_proved(tmp_path):
 
 
 def test_only_proofs_use_hints():
+    """Hints are not trusted: only proofs.py, which proves what they infer, imports them."""
     files = FOLDER.glob("*/*.py")
     assert [file.name for file in files if "\nfrom hints" in file.read_text()] == ["proofs.py"]
 

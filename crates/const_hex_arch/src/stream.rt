@@ -1,4 +1,4 @@
-//! The text of bytes, written to a sink in large pieces.
+//! The text of bytes, written to a sink in large pieces. The full text is the prefix, if there is one, and the digits.
 
 ghost use Rattle.std.specs.Prelude.{◌≡◌, ◌≤◌, false, is_ok, length};
 ghost use Rattle.const_hex_arch.specs.{full_text, text_length, StreamsWhole, hex_bytes};

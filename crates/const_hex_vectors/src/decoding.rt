@@ -1,4 +1,4 @@
-//! The lines of texts that are decoded. The contracts show that the other decoders return the same.
+//! The lines of texts that are decoded: each function that main.rt names runs one operation of the table. The contracts show that the other decoders return the same.
 
 ghost use Rattle.std.specs.Prelude.{◌≤◌};
 
@@ -124,10 +124,10 @@ fn decode_chunks<K: Kernel>(
 pub(crate) fn read_digits(line: &mut Line<'_>) {
     expect_bool(line, "check_raw", check_raw(line.input));
     expect_bool(line, "const_check_raw", const_check_raw(line.input));
-    for_each_kernel!(check_with_kernel(line));
+    for_each_kernel!(check_raw_with_kernel(line));
 }
 
-fn check_with_kernel<K: Kernel>(line: &mut Line<'_>, kernel: KernelCase) {
+fn check_raw_with_kernel<K: Kernel>(line: &mut Line<'_>, kernel: KernelCase) {
     expect_bool(line, kernel.name, K::check(line.input));
 }
 

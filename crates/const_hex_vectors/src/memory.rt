@@ -14,13 +14,13 @@ use crate::memory::inputs::Inputs;
 use std::alloc::AllocError;
 
 pub(crate) fn make_calls(rt: &(impl Print + AllocGlobal)) {
-    let (alloc, mut out_of_memory) = (rt.alloc(), 0);
+    let (alloc, mut failed_allocations) = (rt.alloc(), 0);
     match Inputs::new(alloc) {
         Ok(inputs) => {
             nonallocating::make_calls(rt, alloc, &inputs);
-            allocating::make_calls(rt, alloc, &inputs, &mut out_of_memory);
+            allocating::make_calls(rt, alloc, &inputs, &mut failed_allocations);
         }
-        Err(AllocError) => out_of_memory = 1,
+        Err(AllocError) => failed_allocations = 1,
     }
-    let _ = println!(rt; "{out_of_memory} out of memory");
+    let _ = println!(rt; "{failed_allocations} out of memory");
 }

@@ -35,7 +35,7 @@ class WithoutWaiting(DecoderUpdate):
     """A contract without the case of a digit that waits."""
 
     def decoder_states(self, decoder):
-        return super().decoder_states(decoder)._replace(waiting=z3.BoolVal(False))
+        return super().decoder_states(decoder)._replace(pending=z3.BoolVal(False))
 
 
 @pytest.mark.parametrize(

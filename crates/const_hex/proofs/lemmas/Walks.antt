@@ -1,6 +1,8 @@
 -- A walk is a manual proof by symbolic execution: it executes a function's MIR statement by statement, in separation
 -- logic. It is needed for a starred clause (`after`), which says what a buffer or a slice holds once a borrow that was
 -- returned has ended. The generated proofs of the borrow checker do not cover this.
+-- `wired` says that this program has the code of the function and of those that it calls. `F.met`, which is generated,
+-- proves that F meets its contract.
 --
 -- `LentText` is the walk for a function that returns the text inside the struct that one call returns:
 -- `Buffer::format`, `format_upper`, `format_slice`, `format_slice_upper`. It keeps the clauses of that call, whatever

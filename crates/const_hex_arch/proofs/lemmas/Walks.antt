@@ -7,6 +7,8 @@
 --
 -- `𝓤` is the resource algebra of the separation logic `𝓛`, `𝓜` is the memory model, and `𝓡` is the running program.
 -- Each line that ends in `$` applies a rule to the symbolic state.
+-- `wired` says that this program has the code of the function and of those that it calls. `F.met`, which is generated,
+-- proves that F meets its contract.
 --
 -- What breaks the walk: it refers to the function's locals by number, and to its statements in
 -- their order. So every edit of the body of `decode_chunk` breaks it. An edit of a function that it

@@ -33,7 +33,7 @@ pub fn write_nothing<W: Write>(writer: &mut W) -> io::Result<()>
     sink.finish()
 }
 
-/// Writes the text of some bytes and a newline. Returns the writer's error if it fails.
+/// Writes `0x`, the lowercase text of some bytes, and a newline. Returns the writer's error if it fails.
 pub fn write_line<W: Write>(bytes: &[u8], writer: &mut W) -> io::Result<()>
     ensures { OnOk result (Appends (W.contents writer.old) (W.contents writer.new)
         (full_text true false bytes.now ++ 10 ∷ [])) }

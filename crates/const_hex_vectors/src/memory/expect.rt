@@ -9,10 +9,10 @@ macro_rules! expect_returns {
     };
 }
 
-/// The same for calls that allocate, and return this error if an allocation fails.
+/// The same for calls that allocate, and return this error if an allocation fails: such calls are counted.
 macro_rules! expect_allocating {
-    ($rt:ident, $count:ident, $error:expr; $($call:expr => $expected:expr,)+) => {
-        $($crate::memory::expect::expect_items($rt, stringify!($call), $call, $expected, $error, $count);)+
+    ($rt:ident, $failed_allocations:ident, $error:expr; $($call:expr => $expected:expr,)+) => {
+        $($crate::memory::expect::expect_items($rt, stringify!($call), $call, $expected, $error, $failed_allocations);)+
     };
 }
 
@@ -34,7 +34,7 @@ pub(crate) fn expect_items<T, B, E>(
     returned: Result<B, E>,
     expected: Result<&[T], E>,
     out_of_memory: E,
-    count: &mut usize,
+    failed_allocations: &mut usize,
 )
 where
     T: PartialEq,
@@ -44,7 +44,7 @@ where
     let is_right = match (&returned, &expected) {
         (Ok(items), Ok(expected)) => items.as_slice() == *expected,
         (Err(error), _) if *error == out_of_memory => {
-            *count = count.saturating_add(1);
+            *failed_allocations = failed_allocations.saturating_add(1);
             true
         }
         (Err(error), Err(expected)) => error == expected,

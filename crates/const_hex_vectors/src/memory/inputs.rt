@@ -13,9 +13,9 @@ pub(crate) const LOWER: &[u8] = b"6b697769";
 
 pub(crate) const UPPER: &[u8] = b"6B697769";
 
-pub(crate) const TEXT: &[u8] = b"0x6b697769";
+pub(crate) const LOWER_PREFIXED: &[u8] = b"0x6b697769";
 
-pub(crate) const PREFIXED: &[u8] = b"0x6B697769";
+pub(crate) const UPPER_PREFIXED: &[u8] = b"0x6B697769";
 
 /// A text of odd length, and one with invalid characters.
 pub(crate) const ODD: &[u8] = b"0x1";

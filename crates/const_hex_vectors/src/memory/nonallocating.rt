@@ -46,8 +46,8 @@ fn decode_odd_with<K: Kernel>(rt: &impl Print, alloc: Global, _kernel: KernelCas
 fn read_arrays(rt: &impl Print, alloc: Global, inputs: &Inputs) {
     let hash = Hash32::from_bytes([0xAB; 32]);
     expect_returns!(rt;
-        <[i8; 4]>::from_hex(alloc, TEXT) => Ok([107, 105, 119, 105]),
-        <[u8; 4]>::from_hex(alloc, TEXT) => Ok(*b"kiwi"), Hash32::from_hex(alloc, HASH) => Ok(hash),
+        <[i8; 4]>::from_hex(alloc, LOWER_PREFIXED) => Ok([107, 105, 119, 105]),
+        <[u8; 4]>::from_hex(alloc, LOWER_PREFIXED) => Ok(*b"kiwi"), Hash32::from_hex(alloc, HASH) => Ok(hash),
         <[u8; 4]>::from_hex(alloc, INVALID) => Err(InvalidStringLength), Hash32::from_hex(alloc, ODD) => Err(OddLength),
         Hash32::from_value(alloc, &inputs.hash) => Ok(hash),
         Hash32::from_value(alloc, &inputs.odd) => Err(JsonError::Hex(OddLength)),

@@ -62,7 +62,7 @@ location_after_newline x p line located e = λ short.
     rw (location_after-append start x (10 ∷ []))
     (omega (arith, short, e, before.0, few, size), refl)
 
--- the line is the number of newlines
+-- the line advances by one for each newline
 line_from_newlines : (p : Location) (x : List ℕ) → (location_after p x).line ≡ p.line + count_by (λ b. b == 10) x
 unfolding location_after
 line_from_newlines p [] = omega arith
