@@ -185,7 +185,7 @@ static void read_chunks(const struct line *line) {
   }
 }
 
-/* A decoder reports an invalid character before an odd length. */
+/* Checks and decodes a text, whole and in chunks. */
 static void read_text(const struct line *line) {
   size_t length = line->length;
   size_t count = count_before(line, length);
@@ -196,6 +196,7 @@ static void read_text(const struct line *line) {
   for (size_t size = count > 0 ? count - 1 : 0; size <= count + 2; size++) {
     decode(line, text, size);
   }
+  /* With both errors, a decoder of chunks reports the invalid character, and the others the odd length. */
   if (line->error.kind != CONST_HEX_ODD_LENGTH || const_hex_check_raw(line->input, length)) {
     read_chunks(line);
   }

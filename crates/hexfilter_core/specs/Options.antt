@@ -39,12 +39,12 @@ abbrev pub find : List ℕ → List (List (List ℕ) × Options) → Result Opti
 find key [] = Err UnknownOption
 find key (row ∷ rows) = if list_any (λ k. bytes_eq key k) row.0 then Ok row.1 else find key rows
 
--- a value: the number that decimal digits write, or an ASCII character that is neither a digit nor a newline
+-- the number that decimal digits write, if it is below 2^64
 abbrev pub number : List ℕ → Result ℕ UsageErrorKind
 number v = if nat_lt 0 (length v) && all_ascii_digits v && nat_lt (digits_value 10 v) (2 ^ 64) then Ok
     (digits_value 10 v) else Err InvalidNumber
 
--- a character of ASCII that is neither a digit nor a newline
+-- an ASCII character that is neither a hexadecimal digit nor a newline
 unfoldable pub is_separator : ℕ → Bool
 is_separator b = nat_lt b 128 && not (b == 10) && not (is_ascii_hexdigit b)
 
@@ -95,7 +95,7 @@ with_word o i a =
 abbrev pub with_argument : Options → ℕ → List ℕ → Result Options UsageErrorKind
 with_argument o i a = and_then (with_word o i a) (λ p. if p.wrapped && p.grouped then Err GroupsInLines else Ok p)
 
--- what so many arguments ask for. Lines are written, and not read
+-- the request of the options, after `count` arguments. --wrap has no effect where text is decoded
 abbrev pub request : Options → ℕ → Result Request UsageError
 request o count =
     let groups : Groups =

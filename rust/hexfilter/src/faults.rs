@@ -57,7 +57,7 @@ fn mode(options: &str) -> Mode {
     }
 }
 
-/// What a run returns, writes and calls. An error is that of a read or of a write, and has a kind.
+/// What a run returns, writes and calls. An error has a kind, and is of a read (true) or of a write (false).
 type Outcome = (Option<(bool, ErrorKind)>, Vec<u8>, String);
 
 /// The options, the input, the calls if none fails, and the output. Text with an error is read no further.

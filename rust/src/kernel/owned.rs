@@ -40,8 +40,8 @@ pub fn encode_append(input: &[u8], prefix: bool, upper: bool, text: &mut Vec<u8>
     }
 }
 
-/// Appends the bytes of digits, and returns true. Returns false if some byte is not a digit, and the vector has the
-/// same bytes as before then. An odd last digit is not read; there is none, since `strip_even` has tested it.
+/// Appends the bytes of digits, and returns true. If some byte is not a digit, returns false, and the vector's contents
+/// are unchanged. The number of digits is even, as `strip_even` has tested.
 #[inline]
 pub fn decode_append(digits: &[u8], bytes: &mut Vec<u8>) -> bool {
     let count = digits.len() / 2;

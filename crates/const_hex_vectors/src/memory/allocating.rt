@@ -105,7 +105,7 @@ fn decode_pointers(rt: &impl Print, alloc: Global, failed_allocations: &mut usiz
     );
 }
 
-/// Each text is a block of 32 bytes, one of 16, and a remainder.
+/// The bytes are a block of 32, one of 16, and a remainder of 9.
 fn call_with_kernel<K: Kernel>(
     rt: &impl Print,
     alloc: Global,
