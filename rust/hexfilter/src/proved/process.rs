@@ -14,15 +14,14 @@ use crate::std_shim::process::ExitCode;
 /// What `--help` prints.
 const HELP: &str = "\
 Usage: hexfilter [OPTION]... [FILE]
-Writes FILE as hexadecimal text, or decodes such a text. Without FILE, or if FILE
+Writes FILE as hexadecimal text, or decodes such text. Without FILE, or if FILE
 is -, reads standard input. Writes to standard output.
 
-  -d, --decode             decode the text, which has to be digits alone: offsets
-                           and words in host order, as od and hexdump print
-                           them by default, decode to other bytes
+  -d, --decode             decode the text: digits alone, or after one 0x
       --check              only test whether the text can be decoded
   -i, --ignore-whitespace  leave out spaces, tabs and ends of lines before the
-                           text is decoded
+                           text is decoded. The offsets and words that od and
+                           hexdump print without options decode to wrong bytes
   -u, --upper              write digits in uppercase
   -p, --prefix             write 0x before the digits
   -w, --wrap COLUMNS       write lines of COLUMNS characters (0: no lines)
