@@ -15,7 +15,7 @@ import z3
 from execution import paths
 from execution.terms import bv64, fresh_public, simplify
 from semantics.webassembly_blocks import NO_FALL_THROUGH, Operands
-from solver.questions import Rejected, free_constants, is_public
+from solver.queries import Rejected, free_constants, is_public
 
 # Direct jumps and calls, and instructions that never fall through, on every processor.
 DIRECT_JUMP = re.compile(r"j|call|bl?$|b\.|cbn?z|tbn?z")
@@ -30,7 +30,7 @@ def successors(instruction):
         targets = operands.targets
     else:
         is_jump = DIRECT_JUMP.match(instruction.mnemonic)
-        targets = [o.value for o in operands[-1:] if is_jump and o.kind == "immediate"]
+        targets = [last.value for last in operands[-1:] if is_jump and last.kind == "immediate"]
     falls_through = instruction.mnemonic not in NEVER_FALLS_THROUGH
     return [instruction.address + instruction.size] * falls_through + targets
 
@@ -87,12 +87,13 @@ class Invariant:
         self.is_upper_half_clean = entry.is_upper_half_clean and end.is_upper_half_clean
         self.read_end, self.written_end = _lowest_offset(end.reads), _lowest_offset(end.writes)
         new_facts = end.facts[len(entry.facts) :]
-        unknown = {self._increment_name(name) for name in increments if name not in self.steps}
-        moving = {self._increment_name(name) for name, step in self.steps.items() if step}
+        # The induction variables are the registers with a constant step that is not 0.
+        induction = {self._increment_name(name) for name, step in self.steps.items() if step}
+        irregular = {self._increment_name(name) for name in increments if name not in self.steps}
         facts = [
             fact.term
             for fact in new_facts
-            if fact.constants & moving and not fact.constants & unknown
+            if fact.constants & induction and not fact.constants & irregular
         ]
         # Conditions on the registers at the end of an iteration, which also hold at its beginning.
         self.facts = [fact for fact in facts if entry.is_valid(self.at(fact, bv64(-1)))]
@@ -184,7 +185,7 @@ class Unproved:
     def truth_for_valid_input(self, condition):
         """Declassifies nothing."""
 
-    def fits(self, term):
+    def is_upper_half_zero(self, term):
         return True
 
     def store(self, address, data, aligned=False):

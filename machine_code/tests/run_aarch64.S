@@ -1,5 +1,6 @@
 // enter(state): loads the registers, jumps to the code, and saves the registers where the code jumps back. A state has 31
-// general registers, the stack pointer, 32 vectors, the flags, and whether a jump was taken.
+// general registers, the stack pointer, 32 vectors, the flags, and whether a jump was taken. `host` has the registers of
+// the caller. tpidr_el0, which the code does not use, keeps x0 until there is a register for the address of the state.
         .section .stubs, "awx"
         .globl enter, jump_to_code, not_taken, taken
         .macro each_register instruction
