@@ -18,6 +18,7 @@
 #define rust c
 #include "../../rust/src/asm/dispatch.s"
 
+	/* `error` is the register with the last argument. The local error is at rsp, and 24 bytes align the stack. */
 	.macro or_null name, error
 	exported \name
 	function \name

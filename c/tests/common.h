@@ -71,7 +71,7 @@ static inline bool is_rest_unchanged(char *area, size_t size, size_t written) {
 
 static unsigned long checks, failures;
 
-/* Counts a check, and prints the first 20 that fail. */
+/* Counts a check, and prints the first 20 that fail, with a length and another number. */
 static inline void expect(bool is_true, const char *what, size_t length, size_t detail) {
   checks++;
   if (!is_true && failures++ < 20) {

@@ -49,8 +49,8 @@ const MAX_LOOP_LENGTH = Buffer ? 16 : 96;
 const MIN_BUFFER_LENGTH = Buffer ? 2 ** 17 : Infinity;
 
 // These getters of the prototype ignore properties of an array itself or of a subclass.
-const { prototype: typedArray } = Object.getPrototypeOf(Uint8Array);
-const getterOf = (name) => Object.getOwnPropertyDescriptor(typedArray, name).get;
+const { prototype: typedArrayPrototype } = Object.getPrototypeOf(Uint8Array);
+const getterOf = (name) => Object.getOwnPropertyDescriptor(typedArrayPrototype, name).get;
 const [typeOf, lengthOf] = [getterOf(Symbol.toStringTag), getterOf('length')];
 const [bufferOf, offsetOf] = [getterOf('buffer'), getterOf('byteOffset')];
 
@@ -97,14 +97,14 @@ export function decode(input) {
 export function decodeInto(input, target) {
     if (typeOf.call(target) !== 'Uint8Array') throw new TypeError('the target is not a Uint8Array');
     const length = lengthOf.call(target);
-    if (length === 0) typedArray.keys.call(target); // Throws if the target's buffer is detached or too short.
+    if (length === 0) typedArrayPrototype.keys.call(target); // Throws if the target's buffer is detached or too short.
     const source = sourceOf(input);
     loadDecoder(0, 0);
     const output = decodeSource(source, true);
     try {
         if (!output || !isComplete()) throw errorOf(source, length);
         if (output.length !== length) throw new HexError(INVALID_LENGTH);
-        typedArray.set.call(target, output);
+        typedArrayPrototype.set.call(target, output);
         return target;
     } finally {
         if (output !== cachedView) output?.fill(0);
@@ -303,9 +303,9 @@ function bytesIn(value, message) {
     // Copying throws if the array's buffer is detached or too short.
     if (length <= BYTES_CHUNK) return { value, length };
     try {
-        if (type) typedArray.keys.call(value); // Throws if the array's buffer is detached or too short.
+        if (type) typedArrayPrototype.keys.call(value); // Throws if the array's buffer is detached or too short.
         const view = ArrayBuffer.isView(value) ? value : new DataView(value);
-        const get = (name) => Reflect.get(type ? typedArray : DataView.prototype, name, view);
+        const get = (name) => Reflect.get(type ? typedArrayPrototype : DataView.prototype, name, view);
         const array = new Uint8Array(get('buffer'), get('byteOffset'), get('byteLength'));
         return { value: array, length: array.length };
     } catch (cause) {

@@ -25,6 +25,7 @@ impl Log {
     }
 }
 
+/// A reader that logs its calls, with the bytes that are left.
 struct Input<'a>(&'a RefCell<Log>, &'a [u8]);
 
 impl Read for Input<'_> {
@@ -34,6 +35,7 @@ impl Read for Input<'_> {
     }
 }
 
+/// A writer that logs its calls, with the bytes that are written.
 struct Output<'a>(&'a RefCell<Log>, Vec<u8>);
 
 impl Write for Output<'_> {
@@ -48,7 +50,7 @@ impl Write for Output<'_> {
     }
 }
 
-/// Parses the options.
+/// The mode that command-line options ask for.
 fn mode(options: &str) -> Mode {
     let arguments: Vec<String> = options.split_whitespace().map(String::from).collect();
     match request_of(&arguments) {

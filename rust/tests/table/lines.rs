@@ -5,10 +5,11 @@ use const_hex_proved::FromHexError::{self, *};
 
 /// A test vector.
 pub struct Line {
+    /// The whole line, for messages.
     pub text: String,
-    /// What the line tests.
+    /// What the line tests, such as `read-into`.
     pub operation: String,
-    /// The length of the output, if the line has one.
+    /// The length of the output, or how often the cells are repeated, if the line has a number.
     pub number: Option<usize>,
     /// The bytes or the text that are passed.
     pub input: Vec<u8>,
