@@ -173,6 +173,7 @@ function load() {
     }
 }
 
+/** Returns stand-ins for the exports of the module, whose functions throw an error. */
 function unusable(reason, cause) {
     const fail = () => { throw new Error(`const-hex-proved does not run here: ${reason}`, { cause }); };
     const names = ['encode', 'decoder_update', 'decoder_finish'];
@@ -205,6 +206,7 @@ function copyBytes(array, length, destination) {
     }
 }
 
+/** Sets the decoder in the memory; two zeros are a new one. */
 function loadDecoder(positionWord, pendingWord) {
     decoderWords[0] = positionWord;
     decoderWords[1] = pendingWord;
@@ -248,6 +250,7 @@ function decodeChunk(source, index) {
 /** Returns whether the chunks that the decoder in the memory has read form a complete text. */
 const isComplete = () => const_hex_decoder_finish(DECODER, ERROR) === 1;
 
+/** Returns whether a source can be decoded, without an output. */
 function isValid(source) {
     loadDecoder(0, 0);
     let index = 0;
@@ -329,6 +332,7 @@ function errorOf(source, targetLength) {
     return new HexError(kind, kind === INVALID_CHARACTER ? { index, byte } : undefined);
 }
 
+/** Returns how many bytes a string has in UTF-8. */
 function utf8Length(string) {
     let length = 0;
     for (let index = 0; index < string.length; ) {
@@ -341,6 +345,7 @@ function utf8Length(string) {
 
 const ESCAPES = { '\0': '0', '\t': 't', '\n': 'n', '\r': 'r', "'": "'", '\\': '\\' };
 
+/** Returns the message for an invalid character. */
 function describe({ byte, index }) {
     const character = String.fromCharCode(byte);
     const escape = `\\${ESCAPES[character] ?? `u{${byte.toString(16)}}`}`;

@@ -131,8 +131,8 @@ function longTexts() {
 /** Compares the results for digits with an invalid character inserted at an index. */
 function compareInvalid(digits, index) {
     for (const invalid of ['g', '\u00e9', '\u0130', '\u20ac', '\u{1f95d}', '\ud800', '\udc00']) {
-        for (const end of ['', '0', '\u00e9']) {
-            const text = digits.slice(0, index) + invalid + digits.slice(index) + end;
+        for (const suffix of ['', '0', '\u00e9']) {
+            const text = digits.slice(0, index) + invalid + digits.slice(index) + suffix;
             const expected = errorAt(text, index, utf8(invalid));
             for (const form of [text, utf8(text)]) compare(form, expected);
             compareInto(text, utf8(text).length >> 1, expected);

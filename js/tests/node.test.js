@@ -50,7 +50,7 @@ test('where the module does not run, the import succeeds, and each function says
 
 // Another version of rustc makes another module. Debian 12 has this one.
 const rustc = spawnSync('rustc', ['--version'], { encoding: 'utf8' }).stdout ?? '';
-const skip = rustc.startsWith('rustc 1.63.0') ? false : 'rustc 1.63.0 with the target wasm32-unknown-unknown is missing';
+const skip = !rustc.startsWith('rustc 1.63.0') && 'rustc 1.63.0 with the target wasm32-unknown-unknown is missing';
 test('src/const_hex.wasm is what cargo makes', { skip }, () => {
     execFileSync(process.execPath, ['build.js', '--module', '--check'], { cwd: new URL('..', import.meta.url) });
 });
@@ -151,7 +151,7 @@ test('options are properties of the object itself', async () => {
     }
 });
 
-// A program that handles keys. It notes and prints the complement of each array, which is no copy of a key in its memory.
+// A program that handles keys. It notes and prints the complement of each array, which is no copy of a key in memory.
 // V8 keeps arrays of at most 64 bytes on its heap, until their `buffer` is read.
 const PROGRAM_WITH_KEYS = `
     import * as hex from ${JSON.stringify(new URL('../dist/const_hex.js', import.meta.url))};

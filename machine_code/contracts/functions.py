@@ -18,8 +18,8 @@ ODD_LENGTH = 1
 INVALID_LENGTH = 2
 INVALID_CHARACTER = 3
 OUT_OF_MEMORY = 4  # which no function of the library sets
-FOUND = 2  # the internal kind of an invalid character
-FAILED = 2  # the state of a decoder after an invalid character
+FOUND = 2  # the kind of an invalid character in the result of decoder_fail
+FAILED = 2  # the status of a decoder after an invalid character
 
 
 def size_max(state):

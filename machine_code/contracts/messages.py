@@ -154,7 +154,7 @@ class ErrorMessage(NulTerminated):
     function = "error_message"
     name = "every error"
     symbol = "const_hex_error_message"
-    regions = Region("error", bv64(16), 8, is_writable=False), Region("output", SIZE)
+    regions = Region("error", bv64(16), align=8, is_writable=False), Region("output", SIZE)
     # An empty output may have any address.
     arguments = base("error"), z3.If(SIZE == 0, secret("any", 64), base("output")), SIZE
     requires = (base("output") != 0,)

@@ -109,7 +109,9 @@ class State(CommonState):
     # Calls by a contract
     def arguments(self, count):
         """The first `count` arguments, at the first instruction of a function."""
-        return [self.zero_extended_i32(self.general[self.local(index)]) for index in range(count)]
+        return [
+            self.zero_extended_i32(self.general[self.local_name(index)]) for index in range(count)
+        ]
 
     return_address = pop_frame
 
@@ -117,11 +119,11 @@ class State(CommonState):
         """A callee changes no local or operand of its caller."""
 
     # Registers: the globals, and the locals and the operand stack of the function that runs
-    def local(self, number):
+    def local_name(self, number):
         """The name of a local."""
         return f"local {self.address // FUNCTION_SPACING}.{number}"
 
-    def operand(self, height):
+    def operand_name(self, height):
         """The name of the operand at a height of the operand stack."""
         return f"operand {self.address // FUNCTION_SPACING}.{height}"
 
@@ -183,11 +185,11 @@ def define(name, operand_types, function, result_count=1):
         lowest = height - len(operand_types)
         operands = []
         for index, type_ in enumerate(operand_types, lowest):
-            operand = state.pop(state.operand(index))
+            operand = state.pop(state.operand_name(index))
             operands.append(state.zero_extended_i32(operand) if type_ == "n" else operand)
         result = function(state, immediates, *operands)
         if result_count:
-            state.put(state.operand(lowest), result)
+            state.put(state.operand_name(lowest), result)
 
     HANDLERS[name] = handler
     STACK_EFFECTS[name] = operand_types, result_count
@@ -244,26 +246,26 @@ define("v128.const", "", lambda state, immediates: immediates)
 
 
 # Variables
-def get_variable(name):
-    """Pushes the value of a local or a global."""
+def get_variable(name_of):
+    """Pushes the value of a local or a global, whose register a function names."""
 
     def handler(state, height, immediates, targets):
-        state.put(state.operand(height), state.get(name(state, *immediates)))
+        state.put(state.operand_name(height), state.get(name_of(state, *immediates)))
 
     return handler
 
 
-def set_variable(name, pop_or_get):
+def set_variable(name_of, pop_or_get):
     """Sets a local or a global to the operand on top, which is popped or kept."""
 
     def handler(state, height, immediates, targets):
-        value = pop_or_get(state, state.operand(height - 1))
-        state.put(name(state, *immediates), value)
+        value = pop_or_get(state, state.operand_name(height - 1))
+        state.put(name_of(state, *immediates), value)
 
     return handler
 
 
-def global_(state, number):
+def global_name(state, number):
     """The name of a global."""
     return f"global {number}"
 
@@ -271,13 +273,13 @@ def global_(state, number):
 # Control
 def br_if(state, height, immediates, targets):
     """A conditional branch."""
-    condition = state.zero_extended_i32(state.pop(state.operand(height - 1))) != 0
+    condition = state.zero_extended_i32(state.pop(state.operand_name(height - 1))) != 0
     return Branch(simplify(condition), targets[0])
 
 
 def br_table(state, height, immediates, targets):
     """A branch by an index; the last target is the default."""
-    index = state.zero_extended_i32(state.pop(state.operand(height - 1)))
+    index = state.zero_extended_i32(state.pop(state.operand_name(height - 1)))
     *labels, default = targets
     require(state.is_declassified or is_public(index), "a branch depends on bytes that are secret")
     cases = [(index == number, target) for number, target in enumerate(labels)]
@@ -287,7 +289,7 @@ def br_table(state, height, immediates, targets):
 def select(state, height, immediates, targets):
     """Counts as a branch, since an engine may compile it to one: it runs again on the two paths,
     where the condition is known. The contract may exempt bytes of the input from that."""
-    operands = [state.operand(height - below) for below in (3, 2, 1)]
+    operands = [state.operand_name(height - below) for below in (3, 2, 1)]
     condition = simplify(state.zero_extended_i32(state.get(operands[-1])) != 0)
     is_known = any(state.is_valid(condition == truth) for truth in (True, False))
     if not is_known and not _may_decide_select(state, condition):
@@ -311,7 +313,7 @@ def call(state, height, immediates, targets):
     """A call of a function of the module."""
     function = state.code.image.functions[immediates[0]]
     lowest = height - len(function.parameters)
-    arguments = [state.pop(state.operand(index)) for index in range(lowest, height)]
+    arguments = [state.pop(state.operand_name(index)) for index in range(lowest, height)]
     state.enter_function(function, arguments, state.symbolic_return_address(state.next))
     return function.address
 
@@ -319,7 +321,7 @@ def call(state, height, immediates, targets):
 def return_(state, height, immediates, targets):
     """Passes the result, if there is one, to the caller, and returns."""
     if state.code.image.code_at(state.address).results:
-        state.put("result", state.pop(state.operand(height - 1)))
+        state.put("result", state.pop(state.operand_name(height - 1)))
     return state.pop_frame()
 
 
@@ -329,18 +331,18 @@ def trap(state, *operands):
 
 
 HANDLERS |= {
-    "local.get": get_variable(State.local),
-    "local.set": set_variable(State.local, State.pop),
-    "local.tee": set_variable(State.local, State.get),
-    "global.get": get_variable(global_),
-    "global.set": set_variable(global_, State.pop),
+    "local.get": get_variable(State.local_name),
+    "local.set": set_variable(State.local_name, State.pop),
+    "local.tee": set_variable(State.local_name, State.get),
+    "global.get": get_variable(global_name),
+    "global.set": set_variable(global_name, State.pop),
     "br": lambda state, height, immediates, targets: targets[0],
     "br_if": br_if,
     "br_table": br_table,
     "select": select,
     "call": call,
     # Not an instruction of the module: it follows a call, and pushes the result.
-    "result": lambda state, height, *_: state.put(state.operand(height), state.pop("result")),
+    "result": lambda state, height, *_: state.put(state.operand_name(height), state.pop("result")),
     "return": return_,
     "unreachable": trap,
 }

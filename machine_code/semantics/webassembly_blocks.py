@@ -37,7 +37,7 @@ class FunctionDecoder:
     def __init__(self, code, function):
         self.code, self.function = code, function
         self.decoded = []
-        function_label = Label(len(function.results))
+        function_label = Label(height=len(function.results))
         self.labels = [function_label]
         self.height = 0
         self.is_reachable = True

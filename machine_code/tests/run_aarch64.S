@@ -16,7 +16,7 @@ host_tpidr: .quad 0
 host:   .skip 256 + 512
 enter:  adr x1, state
         mrs x2, tpidr_el0
-        stp x0, x2, [x1]
+        stp x0, x2, [x1]        // state, host_tpidr
         adr x0, host
         mov x2, sp
         str x2, [x0, #248]

@@ -19,7 +19,7 @@ from build import (
 )
 from contracts.names import FUNCTIONS
 from execution import proofs
-from reading import library
+from reading import image, library
 
 # Version scripts for the linker, and assembly.
 VERSIONS = "V1 { global: const_hex_*; local: *; };"
@@ -156,13 +156,13 @@ MISTAKES = {
 
 @pytest.mark.parametrize("make", HONEST.values(), ids=HONEST)
 def test_honest_builds_are_read(make, tmp_path):
-    file, contracts = proofs.functions_to_prove(make(tmp_path).read_bytes())
+    file, functions = proofs.functions_to_prove(make(tmp_path).read_bytes())
+    is_x86_64 = file.machine == image.X86_64
     assert {f"const_hex_{name}" for name in FUNCTIONS} <= file.symbols.keys()
-    assert len(contracts) == (45 if file.machine == 62 else 37)
-    assert all(file.code_at(file.symbols[name]) for name, _ in contracts)
-    assert [file.is_dispatch_byte(address) for address in file.dispatch_bytes] == [True] * (
-        file.machine == 62
-    )
+    assert len(functions) == (45 if is_x86_64 else 37)
+    assert all(file.code_at(file.symbols[symbol]) for symbol, _ in functions)
+    dispatch_bytes = [file.is_dispatch_byte(address) for address in file.dispatch_bytes]
+    assert dispatch_bytes == [True] * is_x86_64
 
 
 def test_symbols_of_debug_information_have_no_address(tmp_path):

@@ -35,8 +35,8 @@ type Case = (&'static str, Leak, fn(&mut Data));
 
 /// The cases of some calls, whose results are not optimized away.
 macro_rules! cases {
-    ($data:ident: $($call:expr => $found:expr;)+) => {
-        [$((stringify!($call), $found, |$data| { let _ = black_box($call); }),)+]
+    ($data:ident: $($call:expr => $leak:expr;)+) => {
+        [$((stringify!($call), $leak, |$data| { let _ = black_box($call); }),)+]
     };
 }
 

@@ -95,7 +95,8 @@ class Processor:
 
     def __init__(self, content, level):
         linked = library.read(content)
-        self.code = Code(content, min(linked.symbols), {}, level)
+        any_symbol = min(linked.symbols)
+        self.code = Code(content, any_symbol, {}, level)
         self.code.constants.base = bv64(TEXT_ADDRESS + linked.base_address)
         for start in sorted(linked.symbol_addresses):
             self.code.instruction(start)  # which decodes those after it, too

@@ -143,14 +143,15 @@ def pattern(lines):
     return text
 
 
-def edited(build, function, old, new):
+def edited(build, function, old="", new=""):
     """The committed object or module, in which lines of a function, a constant or a macro are
-    replaced."""
+    replaced, if any."""
     text = text_of(build)
     search = re.compile(pattern(old)).search
     match = next(filter(None, (search(text, *span) for span in spans_of(build, function))), None)
     assert match, f"{function} has no {old}"
     lines = re.sub(r"\{(\w)\}", lambda name: match[name[1]], new.replace("; ", "\n"))
+    # Without old lines, the new ones are inserted.
     text = text[: match.start()] + lines + "\n" * (not old) + text[match.end() :]
     if build == WASM:
         return linked_module(text)

@@ -46,6 +46,6 @@ class WithoutPendingDigit(DecoderUpdate):
     ],
 )
 def test_contract_that_misses_a_state(contract, message):
-    content = edited("functions_x86_64", contract.function, "", "")
+    content = edited("functions_x86_64", contract.function)
     with pytest.raises(Rejected, match=message):
         prove(content, contract.function, contracts=[contract])

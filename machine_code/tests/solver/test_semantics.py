@@ -42,7 +42,7 @@ MORE_INSTRUCTIONS = {
 def processor(build):
     """A processor with the instructions of a kernel and more, or of the functions for C."""
     if build.startswith("functions_"):
-        return Processor(edited(build, "version", "", ""), build)
+        return Processor(edited(build, "version"), build)
     level = build.removeprefix("x86_64_")
     text = f'{text_of(level)}\n.section .text.more, "ax"\n{MORE_INSTRUCTIONS[build]}\n'
     return Processor(linked(text, compiler_for(level)), level)
