@@ -37,8 +37,8 @@ class Loop:
         self.unchanged_vectors = list(invariant.unchanged_vectors)
         self.is_upper_half_clean = bool(invariant.is_upper_half_clean)
         # Up to where the input is read, and the output is written.
-        self.read_end = invariant.at(invariant.read_end, self.iterations)
-        self.written_end = invariant.at(invariant.written_end, self.iterations)
+        self.read_end = invariant.term_after(invariant.read_end, self.iterations)
+        self.written_end = invariant.term_after(invariant.written_end, self.iterations)
 
     def prove_invariant(self, state, k):
         """Proves the invariant in a state that is at the loop header after k iterations."""
