@@ -46,8 +46,8 @@ static void messages(void) {
 static void null_buffers(void) {
   struct const_hex_error error = UNSET;
   struct const_hex_decoder decoder = {{0, 0}};
-  size_t written = 99;
-  size_t newly_written = 99;
+  size_t written = UNSET_COUNT;
+  size_t newly_written = UNSET_COUNT;
   expect(!const_hex_encode(NULL, 0, NULL, 0, 0) &&
              const_hex_encode(NULL, 0, NULL, 0, CONST_HEX_NO_NUL),
          "encode", 0, 0);
@@ -74,7 +74,7 @@ static void lengths_that_wrap(void) {
   char *bytes = canary_buffer(areas.decoded, 4096);
   for (size_t less = 0; less <= 80; less += 2) {
     struct const_hex_error exact = UNSET, decode = UNSET, check = UNSET;
-    size_t written = 99;
+    size_t written = UNSET_COUNT;
     expect(!const_hex_decode_exact(text, size_max - 1 - less, bytes, 4096, &exact) &&
                exact.kind == CONST_HEX_INVALID_LENGTH,
            "decode_exact", less, 0);

@@ -79,8 +79,9 @@ static inline void expect(bool is_true, const char *what, size_t length, size_t 
   }
 }
 
-/* No function writes this error. */
+/* An error that no function writes, and a count that a call has to overwrite. */
 static const struct const_hex_error UNSET = {9, 9, 9};
+enum { UNSET_COUNT = 99 };
 
 /* Whether a function returned true and left the error unset, or returned false and wrote the expected one. */
 static inline bool has_outcome(bool result, struct const_hex_error error,

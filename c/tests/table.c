@@ -93,9 +93,9 @@ struct output {
   struct const_hex_error error;
 };
 
-/* The output before a call, which has to overwrite `written`. */
+/* The output before a call. */
 static struct output new_output(size_t size) {
-  struct output output = {false, 99, size, canary_buffer(areas.decoded, size), UNSET};
+  struct output output = {false, UNSET_COUNT, size, canary_buffer(areas.decoded, size), UNSET};
   return output;
 }
 

@@ -4,6 +4,7 @@ import * as hex from '../dist/const_hex.js';
 const { check, decode, decodeInto, decoder, decoderStream, encode, encoderStream, HexError, isHex } = hex;
 const TABLE = new URL('../../crates/const_hex_vectors/data/vectors.tsv', import.meta.url);
 const CHUNK = 32768; // The characters that are decoded at a time. Half as many bytes are encoded.
+const CANARY = 0xee; // The bytes of a target before a call.
 const utf8 = (string) => new TextEncoder().encode(string);
 const stringOf = (bytes) => new TextDecoder('utf-8', { ignoreBOM: true }).decode(bytes);
 const KIWI = utf8('kiwi');
@@ -52,9 +53,9 @@ function compare(text, expected) {
 
 /** Does the same for `decodeInto`, which leaves the target unchanged after an error. */
 function compareInto(text, length, expected) {
-    const target = new Uint8Array(length).fill(0xee);
+    const target = new Uint8Array(length).fill(CANARY);
     equal(resultOf(() => decodeInto(text, target)), expected, text);
-    if (expected.startsWith('!')) equal(target.every((byte) => byte === 0xee), true, text);
+    if (expected.startsWith('!')) equal(target.every((byte) => byte === CANARY), true, text);
 }
 
 /** Decodes a text that is split at these indices, and returns the digits of all bytes. */
@@ -224,7 +225,7 @@ function overlap() {
         const text = utf8(`0x${digits}`);
         equal(digitsOf(decodeInto(text, text.subarray(1, 1 + digits.length / 2))), digits);
     }
-    const target = new Uint8Array(4).fill(0xee);
+    const target = new Uint8Array(4).fill(CANARY);
     decodeInto('6b69', target.subarray(1, 3));
     equal(digitsOf(target), 'ee6b69ee');
 }
