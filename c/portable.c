@@ -207,8 +207,8 @@ size_t const_hex_error_message(const struct const_hex_error *error, char *messag
 
 /* ---- Encoding ---- */
 
-/* The size of the prefix and of the NUL terminator. Flags are tested by division, which provers of
- * ACSL know better than &: flags / 2 % 2 is the bit CONST_HEX_PREFIX, and flags / 4 % 2 the bit
+/* The size of the prefix and of the NUL terminator. Flags are tested by divisions, which the provers
+ * handle better than &: flags / 2 % 2 is the bit CONST_HEX_PREFIX, and flags / 4 % 2 the bit
  * CONST_HEX_NO_NUL. */
 /*@ assigns \nothing;
     ensures \result == const_hex_size(0, flags); */

@@ -84,7 +84,7 @@ class State:
         self.general, self.vectors = {}, {}
         self.regions = {}  # by their names
         self.object_bytes = {}  # the bytes of objects, by the name of the region and the offset
-        # The offset and the unknown byte of each place that was read in the input, by the id of the
+        # Of each offset of the input that was read, the offset and the unknown byte, by the id of the
         # offset in z3.
         self.input_bytes = {}
         # The offset and the size of each read of the input and of each write to the output.
