@@ -17,7 +17,7 @@ from contracts.names import VERSION
 from programs import COMMITTED, WASM, edited, lines_of, program, text_of
 
 FOLDER = pathlib.Path(__file__).parent / "mutants"
-# Templates. The first two have space for some instructions, the forms, and for the version.
+# Templates: of const_hex_version, with some instructions, which are the forms that are tested, and the version,
 FORM = """
     .intel_syntax noprefix
     .globl const_hex_version; const_hex_version: {0}; mov eax, {1}; ret
@@ -30,7 +30,7 @@ FORM_ON_AARCH64 = """
     .section .rodata; .balign 16; table: .skip 32
     .section .text.other, "ax"; other: ret
 """
-# A body for const_hex_error_message.
+# and of const_hex_error_message, with its body.
 MESSAGE = """
     .intel_syntax noprefix
     .section .text.const_hex_error_message, "ax"; .globl const_hex_error_message
@@ -59,15 +59,15 @@ MODULE = """(module (memory (export "memory") 1 1) (global (mut i32) (i32.const 
 
 def functions(target, old="", new="", within=None):
     """A mutant of a function in the committed assembly, or in the module."""
-    build, _, call = target.rpartition(" ")
+    build, _, function = target.rpartition(" ")
     contracts = FUNCTIONS if build == WASM else COMMITTED[build][1]
-    return edited(build, within or call, old, new), call, contracts
+    return edited(build, within or function, old, new), function, contracts
 
 
 def programs(target, **changes):
     """A mutant of a small kernel."""
-    level, call = target.split()
-    return program(level, call, **changes), call, KERNELS
+    level, function = target.split()
+    return program(level, function, **changes), function, KERNELS
 
 
 def forms(level, code):
@@ -79,18 +79,18 @@ def forms(level, code):
     return content, "version", [contract]
 
 
-def messages(call, code):
+def messages(function, code):
     """A mutant of const_hex_error_message."""
-    return linked(MESSAGE.format(code)), call, MESSAGES
+    return linked(MESSAGE.format(code)), function, MESSAGES
 
 
 def dispatchers(target, old, new):
     """A mutant of a dispatcher."""
-    call, name = target.split(", ")
+    function, name = target.split(", ")
     contracts = [
         each
         for each in (*NULL_ERROR_WRAPPERS, *KERNEL_DISPATCHERS)
-        if (each.function, each.name) == (call, name)
+        if (each.function, each.name) == (function, name)
     ]
     text = text_of("dispatch")
     if not contracts[0].callable_arguments:
@@ -98,17 +98,17 @@ def dispatchers(target, old, new):
         text = lines_of((ASM / "dispatch.S").read_text().replace(INCLUDED, of_rust))
     old, new = (lines.replace("; ", "\n") for lines in (old, new))
     assert old in text, old
-    return linked(VARIABLE + text.replace(old, new)), call, contracts
+    return linked(VARIABLE + text.replace(old, new)), function, contracts
 
 
-def modules(call, old="", new="", **changes):
+def modules(function, old="", new="", **changes):
     """A mutant of the small module."""
     text = MODULE
     for before, after in zip(old.split("\n"), new.split("\n")):
         assert before in text, before
         text = text.replace(before, after)
     lines = collections.defaultdict(str, {"data": "\\00" * 600} | changes)
-    return linked_module(text.format_map(lines)), call, FUNCTIONS
+    return linked_module(text.format_map(lines)), function, FUNCTIONS
 
 
 def all_mutants():

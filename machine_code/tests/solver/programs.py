@@ -96,13 +96,13 @@ COMMITTED = {
 WASM = "wasm"
 
 
-def program(level, call, **changes):
+def program(level, function, **changes):
     """A program with a small kernel, with instructions inserted at the named places."""
     lines = collections.defaultdict(str, {"store": "mov [rsi], al"} | changes)
     is_aarch64 = level == "aarch64"
-    body = ((CHECK_ON_AARCH64 if is_aarch64 else PROGRAMS[call]) + AFTER).format_map(lines)
+    body = ((CHECK_ON_AARCH64 if is_aarch64 else PROGRAMS[function]) + AFTER).format_map(lines)
     syntax = "" if is_aarch64 else ".intel_syntax noprefix\n"
-    name = f"const_hex_1_0_0_{call}" if is_aarch64 else f"const_hex_1_0_0_{call}_{level}"
+    name = f"const_hex_1_0_0_{function}" if is_aarch64 else f"const_hex_1_0_0_{function}_{level}"
     text = f'{syntax}.section .text.{name}, "ax"\n.globl {name}\n{name}:\n{body}'
     return linked(text, compiler_for(level))
 
@@ -158,10 +158,10 @@ def edited(build, function, old="", new=""):
     return linked(text, compiler_for(build))
 
 
-def prove(content, call, contracts=KERNELS, name=None):
+def prove(content, function, contracts=KERNELS, name=None):
     """Proves the first contract of a function, or the one with a name."""
     contract = next(
-        each for each in contracts if each.function == call and name in (None, each.name)
+        each for each in contracts if each.function == function and name in (None, each.name)
     )
     # A module has no wrappers for a NULL error.
     suffix = "_nonnull" if content.startswith(library.WASM_MAGIC) else ""
