@@ -48,7 +48,7 @@ def prove(monkeypatch, capsys):
             return 1
 
         monkeypatch.setattr(proofs, "prove", prove)
-        monkeypatch.setattr(proofs.questions, "unsat_queries", [])
+        monkeypatch.setattr(proofs.queries, "unsat_queries", [])
         monkeypatch.setattr(sys, "argv", ["prove", *map(str, arguments)])
         return script.main(), capsys.readouterr().out
 

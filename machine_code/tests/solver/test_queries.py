@@ -115,7 +115,7 @@ def test_all_values():
 
 def test_nothing_is_valid_beyond_the_resource_limit(monkeypatch):
     """2^61 - 1 is a prime, which takes a solver long to find."""
-    monkeypatch.setattr(questions, "BITVECTOR_RLIMIT", 1000)
+    monkeypatch.setattr(queries, "BITVECTOR_RLIMIT", 1000)
     x, y = z3.BitVecs("test_x test_y", 64)
     are_factors = [z3.And(z3.UGT(number, 1), z3.ULT(number, 1 << 32)) for number in (x, y)]
     facts = [fact for each in are_factors for fact in queries.facts_of(each)]
