@@ -44,11 +44,11 @@ int main(void) {
     double least[6] = {1e9, 1e9, 1e9, 1e9, 1e9, 1e9};
     size = sizes[i];
     for (int run = 0; run < 20000; run++) {
-      const int one = run % 6;
-      const double found = nanoseconds(calls[one], (int)(40000 / size));
-      if (found < least[one])
-        least[one] = found;
-      if (one == 2)
+      const int which = run % 6;
+      const double found = nanoseconds(calls[which], (int)(40000 / size));
+      if (found < least[which])
+        least[which] = found;
+      if (which == 2)
         encode(); // what is decoded next
     }
     printf("%zu: %.1f %.1f %.1f; %.1f %.1f %.1f\n", size, least[0], least[1], least[2], least[3],

@@ -9,14 +9,14 @@ const CALLS = {
     "Buffer.from(text, 'hex')": ({ text }) => Buffer.from(text, 'hex')[0],
     decode: ({ text }) => decode(text)[0],
 };
-const [ROUNDS, IN_A_ROUND] = [400, 1_000];
+const [ROUNDS, CALLS_PER_ROUND] = [400, 1_000];
 
 let sink = 0;
 
 function timeOf(call, input) {
     const start = process.hrtime.bigint();
-    for (let count = 0; count < IN_A_ROUND; count++) sink ^= call(input);
-    return Number(process.hrtime.bigint() - start) / IN_A_ROUND;
+    for (let count = 0; count < CALLS_PER_ROUND; count++) sink ^= call(input);
+    return Number(process.hrtime.bigint() - start) / CALLS_PER_ROUND;
 }
 
 const rows = {};

@@ -249,7 +249,10 @@ struct const_hex_error {
  * their number, as in '\u{1b}'. Any other byte above 127 is shown as the Unicode character with that number,
  * in UTF-8.
  */
-/*@ // The lengths of a character with its escape sequence, of a number in decimal, and of the whole message.
+/*@ // The kind of error whose message is "out of memory".
+    logic integer const_hex_out_of_memory = 4;
+
+    // The lengths of a character with its escape sequence, of a number in decimal, and of the whole message.
     logic integer const_hex_escaped_length(integer byte) =
         byte == 0 || byte == '\t' || byte == '\n' || byte == '\r' || byte == '\'' || byte == '\\' ? 2 :
         byte < 16 ? 5 :
@@ -266,7 +269,7 @@ struct const_hex_error {
         error->kind == CONST_HEX_INVALID_LENGTH ? 21 :
         error->kind == CONST_HEX_INVALID_CHARACTER && error->byte < 256 ?
             33 + const_hex_escaped_length(error->byte) + const_hex_decimal_length(error->index) :
-        error->kind == 4 ? 13 : 0;
+        error->kind == const_hex_out_of_memory ? 13 : 0;
 */
 /*@ requires \valid_read(error);
     requires \valid(message + (0 .. message_size - 1));

@@ -26,7 +26,7 @@
     assigns \nothing;
     ensures \result == const_hex_digit(value, upper ? 'A' : 'a'); */
 static char digit(unsigned value, bool upper) {
-  unsigned is_letter = (value + 6) / 16;
+  unsigned is_letter = (value + 6) / 16; /* In ASCII 'A' is 7 above '9' + 1, and 'a' is 39. */
   return (char)('0' + value + (upper ? 7 * is_letter : 39 * is_letter));
 }
 
@@ -87,6 +87,9 @@ static bool fail(struct const_hex_error *error, uint32_t kind, uint32_t byte, si
 
 /* The length of the longest message. */
 enum { MAX_MESSAGE = 59 };
+
+/* A kind of error that no function of this library sets. */
+enum { OUT_OF_MEMORY = 4 };
 
 /* Writes a text before what starts at `start`, and returns where it starts. */
 /*@ requires length <= start <= MAX_MESSAGE;
@@ -190,7 +193,7 @@ size_t const_hex_error_message(const struct const_hex_error *error, char *messag
   if (error->kind == CONST_HEX_INVALID_LENGTH) {
     return write_terminated("invalid string length", 21, message, message_size);
   }
-  if (error->kind == 4) {
+  if (error->kind == OUT_OF_MEMORY) {
     return write_terminated("out of memory", 13, message, message_size);
   }
   if (error->kind == CONST_HEX_INVALID_CHARACTER && error->byte < 256) {
@@ -204,7 +207,9 @@ size_t const_hex_error_message(const struct const_hex_error *error, char *messag
 
 /* ---- Encoding ---- */
 
-/* The size of the prefix and of the NUL terminator. */
+/* The size of the prefix and of the NUL terminator. Flags are tested by divisions, which the provers
+ * handle better than &: flags / 2 % 2 is the bit CONST_HEX_PREFIX, and flags / 4 % 2 the bit
+ * CONST_HEX_NO_NUL. */
 /*@ assigns \nothing;
     ensures \result == const_hex_size(0, flags); */
 static size_t size_of_extras(unsigned flags) {
@@ -298,6 +303,7 @@ static size_t decode_pairs(const char *text, size_t start, unsigned char *bytes,
       loop variant to - index; */
   for (size_t index = from; index < to; index++) {
     unsigned high = value(text[position]), low = value(text[position + 1]);
+    /* The values of two digits are at most 30 together, and any other value is above 255. */
     if (PUBLIC(high + low > 30)) {
       return high > 15 ? position : position + 1;
     }
@@ -409,8 +415,8 @@ static size_t chunk_start(const struct const_hex_decoder *decoder, const char *t
   if (decoder->state[0] == 0) {
     return prefix_length(text, length);
   }
-  bool may_end = decoder->state[0] == 1 && length > 0;
-  return may_end && is_prefix(decoder->state[1] % 256, text[0]) ? 1 : 0;
+  bool may_end_prefix = decoder->state[0] == 1 && length > 0;
+  return may_end_prefix && is_prefix(decoder->state[1] % 256, text[0]) ? 1 : 0;
 }
 
 /* Whether there is a pending digit that belongs before a chunk whose digits start at `start`. */

@@ -11,6 +11,7 @@ pub const SIZES: [usize; 20] = [
 
 /// One call of one library, on input of one size.
 pub struct Case {
+    /// The name of the call, such as `encode_to_slice`, with what is invalid.
     pub call: String,
     pub library: &'static str,
     pub size: usize,

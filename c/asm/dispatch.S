@@ -15,9 +15,11 @@
 #define const_hex_1_0_0_fill_lower SYMBOL(const_hex_kernel_fill_lower)
 #define const_hex_1_0_0_fill_upper SYMBOL(const_hex_kernel_fill_upper)
 #define const_hex_1_0_0_read SYMBOL(const_hex_kernel_read)
+/* An argument of the macro there: the functions for C have no portable code. */
 #define rust c
 #include "../../rust/src/asm/dispatch.s"
 
+	/* `error` is the register with the last argument. The local error is at rsp, and 24 bytes align the stack. */
 	.macro or_null name, error
 	exported \name
 	function \name

@@ -21,7 +21,7 @@ static void messages(void) {
       {{CONST_HEX_INVALID_CHARACTER, 0x80, SIZE_MAX},
        SIZE_MAX > 0xffffffff ? "invalid character '\\u{80}' at position 18446744073709551615"
                              : "invalid character '\\u{80}' at position 4294967295"},
-      /* No function sets these. */
+      /* No function sets these kinds and bytes. */
       {{4, 0, 0}, "out of memory"},
       {{CONST_HEX_INVALID_CHARACTER, 0x100, 7}, ""},
       {{CONST_HEX_INVALID_CHARACTER, 0x107A, 7}, ""},
@@ -46,8 +46,8 @@ static void messages(void) {
 static void null_buffers(void) {
   struct const_hex_error error = UNSET;
   struct const_hex_decoder decoder = {{0, 0}};
-  size_t written = 99;
-  size_t newly_written = 99;
+  size_t written = UNSET_COUNT;
+  size_t newly_written = UNSET_COUNT;
   expect(!const_hex_encode(NULL, 0, NULL, 0, 0) &&
              const_hex_encode(NULL, 0, NULL, 0, CONST_HEX_NO_NUL),
          "encode", 0, 0);
@@ -69,19 +69,19 @@ static void null_buffers(void) {
 /* Lengths that no text has, as from a failed read(): an error, before a byte is read or written. A compiler that knew
  * them would warn. */
 static void lengths_that_wrap(void) {
-  const volatile size_t most = SIZE_MAX;
+  const volatile size_t size_max = SIZE_MAX;
   const char *text = memset(buffer_start(areas.text, 4096), '1', 4096);
   char *bytes = canary_buffer(areas.decoded, 4096);
   for (size_t less = 0; less <= 80; less += 2) {
     struct const_hex_error exact = UNSET, decode = UNSET, check = UNSET;
-    size_t written = 99;
-    expect(!const_hex_decode_exact(text, most - 1 - less, bytes, 4096, &exact) &&
+    size_t written = UNSET_COUNT;
+    expect(!const_hex_decode_exact(text, size_max - 1 - less, bytes, 4096, &exact) &&
                exact.kind == CONST_HEX_INVALID_LENGTH,
            "decode_exact", less, 0);
-    expect(!const_hex_decode(text, most - 1 - less, bytes, 4096, &written, &decode) &&
+    expect(!const_hex_decode(text, size_max - 1 - less, bytes, 4096, &written, &decode) &&
                decode.kind == CONST_HEX_INVALID_LENGTH && written == 0,
            "decode", less, 0);
-    expect(!const_hex_check(text, most - less, &check) && check.kind == CONST_HEX_ODD_LENGTH,
+    expect(!const_hex_check(text, size_max - less, &check) && check.kind == CONST_HEX_ODD_LENGTH,
            "check", less, 0);
   }
   expect(is_rest_unchanged(areas.decoded, 4096, 0), "a written buffer", 0, 0);

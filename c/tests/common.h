@@ -71,7 +71,7 @@ static inline bool is_rest_unchanged(char *area, size_t size, size_t written) {
 
 static unsigned long checks, failures;
 
-/* Counts a check, and prints the first 20 that fail. */
+/* Counts a check, and prints the first 20 that fail, with a length and another number. */
 static inline void expect(bool is_true, const char *what, size_t length, size_t detail) {
   checks++;
   if (!is_true && failures++ < 20) {
@@ -79,8 +79,9 @@ static inline void expect(bool is_true, const char *what, size_t length, size_t 
   }
 }
 
-/* No function writes this error. */
+/* An error that no function writes, and a count that a call has to overwrite. */
 static const struct const_hex_error UNSET = {9, 9, 9};
+enum { UNSET_COUNT = 99 };
 
 /* Whether a function returned true and left the error unset, or returned false and wrote the expected one. */
 static inline bool has_outcome(bool result, struct const_hex_error error,

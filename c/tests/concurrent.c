@@ -18,6 +18,7 @@ static void *change(void *nothing) {
   return nothing;
 }
 
+/* Calls one of the functions that read text, in turn. Returns whether it succeeds. */
 static bool read_once(size_t turn, char *bytes) {
   const char *text = (const char *)changing;
   struct const_hex_decoder decoder = {{0, 0}};

@@ -1,6 +1,7 @@
 /*
- * Calls each function of SOURCE, which is portable.c or a mutant of it, with bytes or digits that are marked as undefined for valgrind's memcheck, at each
- * length up to 200. It reports each branch and each address that depends on one, except through PUBLIC.
+ * Calls each function of SOURCE, which is portable.c or a mutant of it, at each length up to 200, with bytes or digits
+ * that are marked as undefined for valgrind's memcheck. This reports each branch and each address that depends on one,
+ * except through PUBLIC.
  */
 #include <stddef.h>
 #include <stdlib.h>
@@ -20,6 +21,7 @@ enum { MAX_LENGTH = 200 };
 unsigned char bytes[MAX_LENGTH];
 char text[CONST_HEX_ENCODED_SIZE(MAX_LENGTH, CONST_HEX_PREFIX)];
 
+/* Encodes undefined bytes. */
 static void encode(size_t length, unsigned flags) {
   for (size_t index = 0; index < length; index++) {
     bytes[index] = (unsigned char)(37 * index + length);
@@ -30,7 +32,7 @@ static void encode(size_t length, unsigned flags) {
   }
 }
 
-/* Whether each function returns the right result. */
+/* Checks and decodes undefined digits after a prefix. Returns whether each function returns the right result. */
 static bool decode(size_t length, const char *prefix) {
   size_t written, start = strlen(prefix);
   bool is_even = length % 2 == 0;

@@ -4,13 +4,14 @@
 #include "common.h"
 #include <ctype.h>
 
-enum { LINE = 1 << 16, CELL = 1 << 21 };
+/* How many bytes a line of the file may have, and how many its cells stand for. */
+enum { MAX_LINE = 1 << 16, MAX_CELL = 1 << 21 };
 
 /* A line of the table: the operation, its number if it has one, the input, and the result: bytes or an error. */
 struct line {
   char *operation;
   size_t number, length, result_length;
-  char input[CELL], result[CELL];
+  char input[MAX_CELL], result[MAX_CELL];
   struct const_hex_error error;
 };
 
@@ -25,7 +26,7 @@ static size_t read_cell(const char *cell, char *bytes) {
   return length;
 }
 
-/* Repeats the first bytes of a buffer. Returns the length of all. */
+/* Repeats the first `length` bytes of a buffer. Returns the length of all. */
 static size_t repeat(char *bytes, size_t length, size_t times) {
   for (size_t turn = 1; turn < times; turn++) {
     memcpy(bytes + turn * length, bytes, length);
@@ -33,7 +34,7 @@ static size_t repeat(char *bytes, size_t length, size_t times) {
   return times * length;
 }
 
-/* The kind of an error that only other languages have. */
+/* Stands for all kinds of errors that only other languages have. */
 #define OTHER_ERROR 4
 
 /* The error that a cell shows, or no kind. */
@@ -52,8 +53,8 @@ static struct const_hex_error error_of(const char *cell) {
 
 /* Reads the next line that is neither empty nor a comment. */
 static bool read_line(FILE *file, struct line *line) {
-  static char text[LINE];
-  while (fgets(text, LINE, file) != NULL) {
+  static char text[MAX_LINE];
+  while (fgets(text, MAX_LINE, file) != NULL) {
     char *operation = strtok(text, "\t\n");
     char *input = strtok(NULL, "\t\n");
     char *result = strtok(NULL, "\t\n");
@@ -72,6 +73,7 @@ static bool read_line(FILE *file, struct line *line) {
   return false;
 }
 
+/* The length of the prefix of a line's text, or 0. */
 static size_t prefix_length(const struct line *line) {
   const char *text = line->input;
   return line->length >= 2 && text[0] == '0' && (text[1] == 'x' || text[1] == 'X') ? 2 : 0;
@@ -91,8 +93,9 @@ struct output {
   struct const_hex_error error;
 };
 
+/* The output before a call. */
 static struct output new_output(size_t size) {
-  struct output output = {false, 99, size, canary_buffer(areas.decoded, size), UNSET};
+  struct output output = {false, UNSET_COUNT, size, canary_buffer(areas.decoded, size), UNSET};
   return output;
 }
 
@@ -115,6 +118,7 @@ static void compare(const struct line *line, struct output output, size_t from, 
          what, from, to);
 }
 
+/* Decodes the text into a buffer of this size, which has to be the number of bytes. */
 static void decode_exact(const struct line *line, const char *text, size_t size,
                          struct const_hex_error expected) {
   struct output output = new_output(size);
@@ -123,7 +127,7 @@ static void decode_exact(const struct line *line, const char *text, size_t size,
   compare(line, output, 0, line->length, expected, "decode_exact");
 }
 
-/* Decodes the text into a buffer of this size, which has to suffice or, for decode_exact, to be the number of bytes. */
+/* The same by both functions. For const_hex_decode the size has to suffice. */
 static void decode(const struct line *line, const char *text, size_t size) {
   static const struct const_hex_error no_space = {CONST_HEX_INVALID_LENGTH, 0, 0};
   size_t length = line->length;
@@ -208,18 +212,19 @@ static void read_into(const struct line *line) {
 
 /* Whether each byte may stand at each index. */
 static void each_byte(const struct line *line) {
-  static char text[LINE];
-  for (size_t at = 0; at < 256 * line->length; at++) {
-    char byte = (char)(at % 256);
+  static char text[MAX_LINE];
+  for (size_t number = 0; number < 256 * line->length; number++) {
+    size_t index = number / 256;
+    char byte = (char)(number % 256);
     memcpy(text, line->input, line->length);
-    text[at / 256] = byte;
+    text[index] = byte;
     bool is_digit = memchr(line->result, byte, line->result_length) != NULL;
-    expect(const_hex_check_raw(text, line->length) == is_digit, "check_raw", at / 256, at % 256);
+    expect(const_hex_check_raw(text, line->length) == is_digit, "check_raw", index, number % 256);
   }
 }
 
-/* Puts what the flags add to the digits. Returns the size. */
-static size_t add_by_flags(const struct line *line, unsigned flags, char *text) {
+/* Writes the text of a line with what the flags ask for. Returns the size. */
+static size_t expected_text(const struct line *line, unsigned flags, char *text) {
   size_t prefix = flags & CONST_HEX_PREFIX ? 2 : 0;
   size_t size = prefix + line->result_length;
   memcpy(text, "0x", prefix);
@@ -231,19 +236,19 @@ static size_t add_by_flags(const struct line *line, unsigned flags, char *text) 
   return flags & CONST_HEX_NO_NUL ? size : size + 1;
 }
 
-/* With all flags, into buffers from one character too small to two too large. */
+/* Encodes with all flags, into buffers from one character too small to two too large. */
 static void write_text(const struct line *line) {
   static char expected[AREA];
   for (unsigned flags = 0; flags < 8; flags++) {
     size_t count = line->length;
-    size_t size = add_by_flags(line, flags, expected);
-    size_t cleared = flags & CONST_HEX_NO_NUL ? 0 : 1;
+    size_t size = expected_text(line, flags, expected);
+    size_t empty_size = flags & CONST_HEX_NO_NUL ? 0 : 1; /* of the empty string, after a failure */
     const void *bytes = memcpy(buffer_start(areas.bytes, count), line->input, count);
     expect(const_hex_encoded_size(count, flags) == size, "encoded_size", count, flags);
     for (size_t text_size = size > 0 ? size - 1 : 0; text_size <= size + 2; text_size++) {
       char *text = canary_buffer(areas.text, text_size);
       bool fits = const_hex_encode(bytes, count, text, text_size, flags);
-      size_t written = fits ? size : min_size(cleared, text_size);
+      size_t written = fits ? size : min_size(empty_size, text_size);
       expect(fits == (text_size >= size) && memcmp(text, fits ? expected : "", written) == 0 &&
                  is_rest_unchanged(areas.text, text_size, written),
              "encode", count, flags);

@@ -6,7 +6,7 @@ CHUNK = 65536
 BYTES = b"".join(b"%d\n" % number for number in range(40000))
 DIGITS = BYTES.hex().encode()
 
-# What unhex reads, its status, and what it writes: bytes, or a message.
+# What unhex reads, its exit status, and what it writes: bytes, or a message.
 TEXTS = [
     (b"", 0, b""),
     (b"0X" + DIGITS + b"\n", 0, BYTES),
@@ -17,14 +17,14 @@ TEXTS = [
 NOT_WRITTEN = b"unhex: the output cannot be written\n"
 
 
-def check(text, status, wanted, output=subprocess.PIPE):
+def check(text, status, expected, output=subprocess.PIPE):
     ran = subprocess.run(
         sys.argv[1:], input=text, stdout=output, stderr=subprocess.PIPE, timeout=60
     )
     message = ran.stderr.replace(b"\r\n", b"\n")
     found = ran.returncode, message if status else ran.stdout
-    if found != (status, wanted):
-        sys.exit(f"{text[:20]}..: {str(found)[:200]}, and not {str((status, wanted))[:200]}")
+    if found != (status, expected):
+        sys.exit(f"{text[:20]}..: {str(found)[:200]}, and not {str((status, expected))[:200]}")
 
 
 for row in TEXTS:

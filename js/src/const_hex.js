@@ -49,8 +49,8 @@ const MAX_LOOP_LENGTH = Buffer ? 16 : 96;
 const MIN_BUFFER_LENGTH = Buffer ? 2 ** 17 : Infinity;
 
 // These getters of the prototype ignore properties of an array itself or of a subclass.
-const { prototype: typedArray } = Object.getPrototypeOf(Uint8Array);
-const getterOf = (name) => Object.getOwnPropertyDescriptor(typedArray, name).get;
+const { prototype: typedArrayPrototype } = Object.getPrototypeOf(Uint8Array);
+const getterOf = (name) => Object.getOwnPropertyDescriptor(typedArrayPrototype, name).get;
 const [typeOf, lengthOf] = [getterOf(Symbol.toStringTag), getterOf('length')];
 const [bufferOf, offsetOf] = [getterOf('buffer'), getterOf('byteOffset')];
 
@@ -97,14 +97,14 @@ export function decode(input) {
 export function decodeInto(input, target) {
     if (typeOf.call(target) !== 'Uint8Array') throw new TypeError('the target is not a Uint8Array');
     const length = lengthOf.call(target);
-    if (length === 0) typedArray.keys.call(target); // Throws if the target's buffer is detached or too short.
+    if (length === 0) typedArrayPrototype.keys.call(target); // Throws if the target's buffer is detached or too short.
     const source = sourceOf(input);
     loadDecoder(0, 0);
     const output = decodeSource(source, true);
     try {
         if (!output || !isComplete()) throw errorOf(source, length);
         if (output.length !== length) throw new HexError(INVALID_LENGTH);
-        typedArray.set.call(target, output);
+        typedArrayPrototype.set.call(target, output);
         return target;
     } finally {
         if (output !== cachedView) output?.fill(0);
@@ -173,6 +173,7 @@ function load() {
     }
 }
 
+/** Returns stand-ins for the exports of the module, whose functions throw an error. */
 function unusable(reason, cause) {
     const fail = () => { throw new Error(`const-hex-proved does not run here: ${reason}`, { cause }); };
     const names = ['encode', 'decoder_update', 'decoder_finish'];
@@ -205,6 +206,7 @@ function copyBytes(array, length, destination) {
     }
 }
 
+/** Sets the decoder in the memory; two zeros are a new one. */
 function loadDecoder(positionWord, pendingWord) {
     decoderWords[0] = positionWord;
     decoderWords[1] = pendingWord;
@@ -248,6 +250,7 @@ function decodeChunk(source, index) {
 /** Returns whether the chunks that the decoder in the memory has read form a complete text. */
 const isComplete = () => const_hex_decoder_finish(DECODER, ERROR) === 1;
 
+/** Returns whether a source can be decoded, without an output. */
 function isValid(source) {
     loadDecoder(0, 0);
     let index = 0;
@@ -303,9 +306,9 @@ function bytesIn(value, message) {
     // Copying throws if the array's buffer is detached or too short.
     if (length <= BYTES_CHUNK) return { value, length };
     try {
-        if (type) typedArray.keys.call(value); // Throws if the array's buffer is detached or too short.
+        if (type) typedArrayPrototype.keys.call(value); // Throws if the array's buffer is detached or too short.
         const view = ArrayBuffer.isView(value) ? value : new DataView(value);
-        const get = (name) => Reflect.get(type ? typedArray : DataView.prototype, name, view);
+        const get = (name) => Reflect.get(type ? typedArrayPrototype : DataView.prototype, name, view);
         const array = new Uint8Array(get('buffer'), get('byteOffset'), get('byteLength'));
         return { value: array, length: array.length };
     } catch (cause) {
@@ -329,6 +332,7 @@ function errorOf(source, targetLength) {
     return new HexError(kind, kind === INVALID_CHARACTER ? { index, byte } : undefined);
 }
 
+/** Returns how many bytes a string has in UTF-8. */
 function utf8Length(string) {
     let length = 0;
     for (let index = 0; index < string.length; ) {
@@ -341,6 +345,7 @@ function utf8Length(string) {
 
 const ESCAPES = { '\0': '0', '\t': 't', '\n': 'n', '\r': 'r', "'": "'", '\\': '\\' };
 
+/** Returns the message for an invalid character. */
 function describe({ byte, index }) {
     const character = String.fromCharCode(byte);
     const escape = `\\${ESCAPES[character] ?? `u{${byte.toString(16)}}`}`;

@@ -4,6 +4,7 @@ import * as hex from '../dist/const_hex.js';
 const { check, decode, decodeInto, decoder, decoderStream, encode, encoderStream, HexError, isHex } = hex;
 const TABLE = new URL('../../crates/const_hex_vectors/data/vectors.tsv', import.meta.url);
 const CHUNK = 32768; // The characters that are decoded at a time. Half as many bytes are encoded.
+const CANARY = 0xee; // The bytes of a target before a call.
 const utf8 = (string) => new TextEncoder().encode(string);
 const stringOf = (bytes) => new TextDecoder('utf-8', { ignoreBOM: true }).decode(bytes);
 const KIWI = utf8('kiwi');
@@ -40,7 +41,7 @@ function errorAt(text, index, [byte]) {
     return utf8(text).length % 2 === 1 ? '!OddLength' : `!InvalidHexCharacter 0x${digitsOf([byte])} ${index}`;
 }
 
-/** Compares each function that reads a text. */
+/** Compares the result of each function that reads a text with the expected one, as the table shows it. */
 function compare(text, expected) {
     const fails = expected.startsWith('!');
     equal(resultOf(() => decode(text)), expected, text);
@@ -50,11 +51,11 @@ function compare(text, expected) {
     compareInto(text, text.length + 1, expected === '!OddLength' ? expected : '!InvalidStringLength');
 }
 
-/** Compares `decodeInto`, which leaves the target unchanged after an error. */
+/** Does the same for `decodeInto`, which leaves the target unchanged after an error. */
 function compareInto(text, length, expected) {
-    const target = new Uint8Array(length).fill(0xee);
+    const target = new Uint8Array(length).fill(CANARY);
     equal(resultOf(() => decodeInto(text, target)), expected, text);
-    if (expected.startsWith('!')) equal(target.every((byte) => byte === 0xee), true, text);
+    if (expected.startsWith('!')) equal(target.every((byte) => byte === CANARY), true, text);
 }
 
 /** Decodes a text that is split at these indices, and returns the digits of all bytes. */
@@ -71,8 +72,8 @@ function cellBytes(cell) {
     return Uint8Array.from(parts, (part) => (part[1] ? Number(`0${part.slice(1)}`) : part.charCodeAt()));
 }
 
-/** Runs the lines of the table, by their first word. Other lines are for what this package does not have, and for long
- * texts, as `longTexts` is. */
+/** By the first word of a line of the table, a function that tests the line. Other lines are for what this package does
+ * not have, and for long texts, as `longTexts` is. */
 const operations = {
     write(bytes, digits) {
         for (const [prefix, upper] of [[false, false], [false, true], [true, false], [true, true]]) {
@@ -128,14 +129,14 @@ function longTexts() {
     }
 }
 
-/** Compares digits with something invalid before an index. */
-function compareBroken(digits, index) {
+/** Compares the results for digits with an invalid character inserted at an index. */
+function compareInvalid(digits, index) {
     for (const invalid of ['g', '\u00e9', '\u0130', '\u20ac', '\u{1f95d}', '\ud800', '\udc00']) {
-        for (const end of ['', '0', '\u00e9']) {
-            const broken = digits.slice(0, index) + invalid + digits.slice(index) + end;
-            const expected = errorAt(broken, index, utf8(invalid));
-            for (const form of [broken, utf8(broken)]) compare(form, expected);
-            compareInto(broken, utf8(broken).length >> 1, expected);
+        for (const suffix of ['', '0', '\u00e9']) {
+            const text = digits.slice(0, index) + invalid + digits.slice(index) + suffix;
+            const expected = errorAt(text, index, utf8(invalid));
+            for (const form of [text, utf8(text)]) compare(form, expected);
+            compareInto(text, utf8(text).length >> 1, expected);
         }
     }
 }
@@ -143,18 +144,19 @@ function compareBroken(digits, index) {
 function invalidCharacters() {
     // Texts up to a length are copied by a loop, and longer ones at once.
     for (const length of [1, 8, 9, 48, 49]) {
-        for (let index = 0; index <= 2 * length; index++) compareBroken(digitsOf(bytesOf(length)), index);
+        for (let index = 0; index <= 2 * length; index++) compareInvalid(digitsOf(bytesOf(length)), index);
     }
     const digits = 'ab'.repeat(CHUNK + 4);
     for (let near = -5; near < 5; near++) {
-        for (const index of [CHUNK + near, 2 * CHUNK + near]) compareBroken(digits, index);
+        for (const index of [CHUNK + near, 2 * CHUNK + near]) compareInvalid(digits, index);
         // In code units the text may be no longer than a chunk, though it is in bytes.
-        compareBroken(digits.slice(0, CHUNK + near), CHUNK + near);
+        compareInvalid(digits.slice(0, CHUNK + near), CHUNK + near);
     }
 }
 
 function arraysAndViews() {
-    class Odd extends Uint8Array {
+    // A subclass whose properties are not those of the array.
+    class Overridden extends Uint8Array {
         get length() { return 2 ** 31; }
         get buffer() { return new ArrayBuffer(9); }
         static get [Symbol.species]() { return Array; }
@@ -165,7 +167,7 @@ function arraysAndViews() {
         new Uint8Array(buffer, 5).set(bytes);
         return new Uint8Array(buffer, 5, bytes.length);
     };
-    for (const make of [copy, share, (data) => data, (data) => new Odd(data),
+    for (const make of [copy, share, (data) => data, (data) => new Overridden(data),
         (data) => new Uint8ClampedArray(data), (data) => Uint8Array.of(0, ...data, 0).subarray(1, -1),
         (data) => new Uint16Array(copy(data)), (data) => new DataView(share(data).buffer, 5, data.length)]) {
         for (const bytes of [KIWI, new Uint8Array(50000).fill(0xab)]) {
@@ -174,7 +176,7 @@ function arraysAndViews() {
             equal(resultOf(() => decode(make(utf8(digits)))), digits, make);
         }
     }
-    equal(Object.entries(decodeInto('6b69', new Odd(2))).join(), '0,107,1,105');
+    equal(Object.entries(decodeInto('6b69', new Overridden(2))).join(), '0,107,1,105');
     const result = decode('6b697769');
     decode('ffffffff');
     equal([result.constructor.name, result.buffer.byteLength, result].join(), 'Uint8Array,4,107,105,119,105');
@@ -223,23 +225,23 @@ function overlap() {
         const text = utf8(`0x${digits}`);
         equal(digitsOf(decodeInto(text, text.subarray(1, 1 + digits.length / 2))), digits);
     }
-    const target = new Uint8Array(4).fill(0xee);
+    const target = new Uint8Array(4).fill(CANARY);
     decodeInto('6b69', target.subarray(1, 3));
     equal(digitsOf(target), 'ee6b69ee');
 }
 
 function failedAllocation() {
     const { Uint8Array } = globalThis;
-    const arrays = Object.getPrototypeOf(Uint8Array.prototype);
-    const { slice } = arrays;
+    const typedArrayPrototype = Object.getPrototypeOf(Uint8Array.prototype);
+    const { slice } = typedArrayPrototype;
     function fail() { throw new RangeError('no memory'); }
     for (const start of ['0x6', '0x6b', '0', '6b6']) {
         for (const next of ['b6', 'b6'.repeat(CHUNK)]) {
             const { push, end } = decoder();
             const first = push(start);
-            [globalThis.Uint8Array, arrays.slice] = [fail, fail];
+            [globalThis.Uint8Array, typedArrayPrototype.slice] = [fail, fail];
             const { message } = outcome(() => push(next));
-            [globalThis.Uint8Array, arrays.slice] = [Uint8Array, slice];
+            [globalThis.Uint8Array, typedArrayPrototype.slice] = [Uint8Array, slice];
             equal(message, 'no memory');
             const text = `${start}b69${start.length % 2 ? '' : '0'}`;
             equal(digitsOf(first) + digitsOf(push(text.slice(start.length))), digitsOf(decode(text)), start);

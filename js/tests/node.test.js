@@ -50,8 +50,8 @@ test('where the module does not run, the import succeeds, and each function says
 
 // Another version of rustc makes another module. Debian 12 has this one.
 const rustc = spawnSync('rustc', ['--version'], { encoding: 'utf8' }).stdout ?? '';
-const other = rustc.startsWith('rustc 1.63.0') ? false : 'rustc 1.63.0 with the target wasm32-unknown-unknown is missing';
-test('src/const_hex.wasm is what cargo makes', { skip: other }, () => {
+const skip = !rustc.startsWith('rustc 1.63.0') && 'rustc 1.63.0 with the target wasm32-unknown-unknown is missing';
+test('src/const_hex.wasm is what cargo makes', { skip }, () => {
     execFileSync(process.execPath, ['build.js', '--module', '--check'], { cwd: new URL('..', import.meta.url) });
 });
 
@@ -81,10 +81,10 @@ test('the memory keeps its size, and wipe clears all that calls left', async () 
 
 test('decodeInto leaves no bytes of a long text in arrays of its own', () => {
     const { Uint8Array } = globalThis;
-    const made = [];
+    const allocated = [];
     const target = new Uint8Array(20000);
     globalThis.Uint8Array = class extends Uint8Array {
-        constructor(...from) { made.push(super(...from)); }
+        constructor(...from) { allocated.push(super(...from)); }
     };
     try {
         for (const text of ['c9'.repeat(20000), `0x${'c9'.repeat(20000)}`]) hex.decodeInto(text, target);
@@ -94,8 +94,8 @@ test('decodeInto leaves no bytes of a long text in arrays of its own', () => {
     } finally {
         Object.assign(globalThis, { Uint8Array });
     }
-    assert(made.length >= 5 && target.every((byte) => byte === 0xc9));
-    for (const { buffer } of made) assert(new Uint8Array(buffer).every((byte) => byte === 0));
+    assert(allocated.length >= 5 && target.every((byte) => byte === 0xc9));
+    for (const { buffer } of allocated) assert(new Uint8Array(buffer).every((byte) => byte === 0));
 });
 
 // A text has the length that it had at the start of the call, even if its buffer grows before or after it is copied.
@@ -115,8 +115,8 @@ test('a shared buffer that grows meanwhile', async () => {
         }));
         assert.equal(resultOf(() => read(loaded, buffer)), expected);
     }
-    const arrays = Object.getPrototypeOf(Uint8Array.prototype);
-    const { set } = arrays;
+    const typedArrayPrototype = Object.getPrototypeOf(Uint8Array.prototype);
+    const { set } = typedArrayPrototype;
     for (const [call, expected] of [
         [(array) => hex.encode(array), '36623639'],
         [(array) => hex.decode(array), '6b69'],
@@ -124,14 +124,14 @@ test('a shared buffer that grows meanwhile', async () => {
     ]) {
         const buffer = new SharedArrayBuffer(4, { maxByteLength: 2 ** 17 });
         Buffer.from(buffer).write('6b69');
-        arrays.set = function (...values) {
+        typedArrayPrototype.set = function (...values) {
             buffer.grow(2 ** 17);
             return Reflect.apply(set, this, values);
         };
         try {
             assert.equal(resultOf(() => call(new Uint8Array(buffer))), expected);
         } finally {
-            arrays.set = set;
+            typedArrayPrototype.set = set;
         }
     }
 });
@@ -151,8 +151,9 @@ test('options are properties of the object itself', async () => {
     }
 });
 
+// A program that handles keys. It notes and prints the complement of each array, which is no copy of a key in memory.
 // V8 keeps arrays of at most 64 bytes on its heap, until their `buffer` is read.
-const KEYS = `
+const PROGRAM_WITH_KEYS = `
     import * as hex from ${JSON.stringify(new URL('../dist/const_hex.js', import.meta.url))};
     const complements = [];
     const note = (array) => complements.push(Array.from(array, (byte) => byte ^ 255));
@@ -178,7 +179,7 @@ const KEYS = `
 
 const noLinux = process.platform !== 'linux' && 'only Linux shows the memory of a process';
 test('no copy of a key is left once it is cleared', { skip: noLinux }, async () => {
-    const child = spawn(process.execPath, ['--input-type=module', '--eval', KEYS]);
+    const child = spawn(process.execPath, ['--input-type=module', '--eval', PROGRAM_WITH_KEYS]);
     try {
         const [printed] = await once(child.stdout, 'data');
         const arrays = JSON.parse(printed).map((complement) => Buffer.from(complement.map((byte) => byte ^ 255)));

@@ -13,7 +13,9 @@ const root = fileURLToPath(new URL('..', import.meta.url));
 const folder = mkdtempSync(join(tmpdir(), 'package-'));
 after(() => rmSync(folder, { recursive: true, force: true, maxRetries: 5 }));
 
+/** Returns what a command prints. */
 const run = (cwd, tool, ...options) => execFileSync(tool, options, { cwd, encoding: 'utf8', stdio: 'pipe' });
+/** Returns why a test that needs a tool is skipped, or false. */
 const without = (tool) => (spawnSync(tool, ['--version']).error ? `${tool} is not installed` : false);
 const page = readFileSync(join(root, 'README.md'), 'utf8');
 const [example, other] = Array.from(page.matchAll(/```js\n(.*?)```/gs), ([, lines]) => lines);

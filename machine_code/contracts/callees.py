@@ -12,7 +12,7 @@ import z3
 
 from contracts.functions import is_digit
 from execution.terms import bv64, bv8, fresh_public, simplify
-from solver.questions import free_constants, is_public, require
+from solver.queries import free_constants, is_public, require
 
 
 def summaries(contracts):
@@ -71,7 +71,7 @@ def check_states(state, text, count):
     the result. The second one is declassified if no valid input leads there."""
     is_input = is_in_region("input", text)
     state_at_i, i = arbitrary_index(state, count)
-    if not state_at_i:
+    if not state_at_i:  # The text is empty.
         return [(state, 1)]
     if is_input:
         characters = state_at_i.load(simplify(text + i), 1)

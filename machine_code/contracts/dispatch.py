@@ -1,6 +1,6 @@
 """The contracts of the dispatchers on x86-64 (rust/src/asm/dispatch.s), which jump to the kernel for
-the CPU, and of the thunks of const_hex.h (c/asm/dispatch.S), which pass a local error to the actual
-function where `error` is NULL.
+the CPU, and of the wrappers of functions of const_hex.h (c/asm/dispatch.S), which pass a local error
+to the wrapped function where `error` is NULL.
 
 The arguments are arbitrary: they arrive unchanged at the callee, except for a NULL error, and the
 result is the callee's. If a contract were weaker, a program could run a kernel that its CPU does not
@@ -15,7 +15,7 @@ from contracts.functions import Function
 from contracts.names import FUNCTIONS, KERNELS, WITH_ERROR
 from execution.terms import bv64, bytes_le, fresh_secret
 from semantics.x86_64 import reported
-from solver.questions import public, require, secret
+from solver.queries import public, require, secret
 
 # The feature bits of x86-64-v2 in the x86-64 psABI, and those that x86-64-v3 adds: the leaf of
 # `cpuid`, the register, and the bits.
@@ -28,8 +28,8 @@ FEATURES_OF_V3 = [
     (7, "rbx", 1 << 3 | 1 << 5 | 1 << 8),  # BMI1, AVX2, BMI2
     (0x80000001, "rcx", 1 << 5),  # LZCNT
 ]
-# The greatest basic and extended leaf, which these two leaves return, have to be at least these.
-GREATEST_LEAVES = {0: 7, 0x80000000: 0x80000001}
+# The least values of the greatest basic and extended leaf, which these two leaves of `cpuid` return.
+MIN_GREATEST_LEAVES = {0: 7, 0x80000000: 0x80000001}
 XCR0_SSE_AVX = 1 << 1 | 1 << 2  # the operating system saves the XMM and the YMM registers
 
 
@@ -44,7 +44,7 @@ def level_of_cpu():
     """The microarchitecture level of the CPU: 3 for x86-64-v3, if the operating system saves its
     registers, 2 for x86-64-v2, or 1."""
     has_leaves = [
-        z3.UGE(reported("cpuid", leaf, "rax"), least) for leaf, least in GREATEST_LEAVES.items()
+        z3.UGE(reported("cpuid", leaf, "rax"), least) for leaf, least in MIN_GREATEST_LEAVES.items()
     ]
     saves_registers = reported("xgetbv", 0, "rax") & XCR0_SSE_AVX == XCR0_SSE_AVX
     has_v3 = z3.And(cpu_has(FEATURES_OF_V3), *has_leaves, saves_registers)
@@ -52,12 +52,12 @@ def level_of_cpu():
     return z3.If(cpu_has(FEATURES_OF_V2), level, 1)
 
 
-class Thunk(Function):
-    """A function that passes its arguments to a callee, and returns the callee's result."""
+class ForwardingFunction(Function):
+    """A function that forwards its arguments to a callee, and returns the callee's result."""
 
     level = "dispatch"
     is_in_module = False
-    callee_suffixes = ("_nonnull",)
+    callee_suffixes = ("_nonnull",)  # what follows its own symbol in those of its callees
     is_unrolled = uses_dispatch_byte = is_every_input_valid = True
 
     def __init__(self, function, parameters):
@@ -86,7 +86,7 @@ class Thunk(Function):
         yield state, state.callee_result
 
     def prove_argument(self, state, index, actual, expected):
-        """Proves that an argument of the call is the thunk's own."""
+        """Proves that an argument of the call is the function's own."""
         state.prove(actual == expected, f"argument {index} is wrong")
 
     def prove_postcondition(self, state):
@@ -96,7 +96,7 @@ class Thunk(Function):
         require(is_byte_unchanged, "a store to the dispatcher's byte after the call")
 
 
-class KernelDispatcher(Thunk):
+class KernelDispatcher(ForwardingFunction):
     """A function of C's kernel, which calls the one for this CPU, which has x86-64-v2. The stored
     byte has the level of that kernel, or 0 at first: then the level comes from `cpuid`, and is
     stored. Another thread may store the byte at any time."""
@@ -104,7 +104,7 @@ class KernelDispatcher(Thunk):
     is_called_by_contract = True
     call_depth = 0
     requires = (cpu_has(FEATURES_OF_V2),)
-    callee_suffixes = levels = {"_v2": 2, "_v3": 3}
+    callee_suffixes = levels = {"_v2": 2, "_v3": 3}  # microarchitecture levels
 
     def prove_callee(self, state, suffix):
         """Proves that the callee has the stored level or, if none was stored, that of the CPU."""
@@ -135,7 +135,7 @@ class RustKernelDispatcher(KernelDispatcher):
         }
 
 
-class NullErrorThunk(Thunk):
+class NullErrorWrapper(ForwardingFunction):
     """A function whose last argument, the error, may be NULL. Then the callee gets a local one."""
 
     def __init__(self, function, parameters, is_null):
@@ -145,7 +145,7 @@ class NullErrorThunk(Thunk):
         self.arguments[-1] = bv64(0) if is_null else public("error", 64)
         self.requires = () if is_null else (public("error", 64) != 0,)
 
-    def stacks(self, state):
+    def stack_sizes(self, state):
         return state.DISPATCHER_STACK_SIZE, state.STACK_SIZE
 
     def prove_callee(self, state, suffix):
@@ -165,10 +165,10 @@ class NullErrorThunk(Thunk):
         state.store(actual, bytes_le(fresh_secret(128)))
 
 
-NULL_ERROR_THUNKS = [
-    NullErrorThunk(name, FUNCTIONS[name].parameters, is_null)
+NULL_ERROR_WRAPPERS = [
+    NullErrorWrapper(name, FUNCTIONS[name].parameters, is_null)
     for name in sorted(WITH_ERROR)
-    for is_null in (0, 1)
+    for is_null in (False, True)
 ]
 KERNEL_DISPATCHERS = [
     dispatcher(name, parameters)

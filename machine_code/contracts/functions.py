@@ -9,7 +9,7 @@ import itertools
 import z3
 
 from execution.terms import bv64, bv8, simplify
-from solver.questions import public, require, secret
+from solver.queries import public, require, secret
 
 # The length that a function gets, and an arbitrary index: what is proved of it holds for all.
 N, INDEX = public("n", 64), public("index", 64)
@@ -17,8 +17,9 @@ N, INDEX = public("n", 64), public("index", 64)
 ODD_LENGTH = 1
 INVALID_LENGTH = 2
 INVALID_CHARACTER = 3
-FOUND = 2  # the internal kind of an invalid character
-FAILED = 2  # the state of a decoder after an invalid character
+OUT_OF_MEMORY = 4  # which no function of the library sets
+FOUND = 2  # the kind of an invalid character in the result of decoder_fail
+FAILED = 2  # the status of a decoder after an invalid character
 
 
 def size_max(state):
@@ -159,8 +160,8 @@ class Function:
         state.prove(is_covered, "the cases of a contract do not cover all initial states")
         return paths
 
-    def stacks(self, state):
-        """The size of its stack, and how much of it belongs to its callees."""
+    def stack_sizes(self, state):
+        """The size of its stack, and how much of it is reserved for its callees."""
         own_size, callees_size = [
             state.CALLEE_STACK_SIZE + depth * state.CALLER_STACK_SIZE
             for depth in (self.call_depth, max(self.call_depth - 1, 0))
@@ -191,7 +192,7 @@ class Function:
         digits."""
         return [
             is_digit(character)
-            for offset, character in state.input.values()
+            for offset, character in state.input_bytes.values()
             if not self.is_every_input_valid and state.is_valid(z3.UGE(offset, state.digits_start))
         ]
 
@@ -222,7 +223,9 @@ def prove_bool_result(state, condition, message):
 def prove_unchanged(state, name):
     """Proves that an object has its bytes of the call."""
     is_unchanged = all(
-        value.eq(state.cells[key]) for key, value in state.entry.cells.items() if key[0] == name
+        value.eq(state.object_bytes[key])
+        for key, value in state.entry.object_bytes.items()
+        if key[0] == name
     )
     require(is_unchanged, f"{name} is changed")
 
@@ -249,7 +252,7 @@ def first_invalid(state):
     """The index of the first invalid character of the text, and the character; or the length and 0,
     and a proof that there is none."""
     digit_ranges = list(state.known_digit_ranges())
-    for index, character in list(state.input.values()):
+    for index, character in list(state.input_bytes.values()):
         is_first = z3.And(
             z3.ULE(state.digits_start, index),
             z3.ULT(index, N),

@@ -27,7 +27,7 @@ from contracts.functions import (
 )
 from execution.state import Region
 from execution.terms import bv64, simplify
-from solver.questions import is_valid, require
+from solver.queries import is_valid, require
 
 
 class Kernel(Function):
@@ -98,13 +98,15 @@ class Fill(Kernel):
 
 def prove_hex_digits(state, offset, data, is_upper):
     """Proves that characters at an offset of the text are the digits of the input's bytes."""
-    odd = next((odd for odd in (0, 1) if state.is_valid(offset & 1 == odd)), None)
-    require(odd is not None, "an offset in the text that may be odd or even")
+    parity = next((parity for parity in (0, 1) if state.is_valid(offset & 1 == parity)), None)
+    require(parity is not None, "an offset in the text that may be odd or even")
     first_byte = simplify(z3.LShR(offset, 1))
-    for position, character in enumerate(data, odd):
+    for position, character in enumerate(data, parity):
         byte = state.byte_of_input(first_byte + position // 2)
         expected = digits_of(byte, is_upper)[position % 2]
-        state.prove_equal(character, expected, f"a wrong character at {offset} + {position - odd}")
+        state.prove_equal(
+            character, expected, f"a wrong character at {offset} + {position - parity}"
+        )
 
 
 class Check(Kernel):
@@ -170,4 +172,4 @@ class Read(Kernel):
             yield path, result
 
 
-KERNELS = Fill(0), Fill(1), Check(), CheckOfModule(), Read()
+KERNELS = Fill(is_upper=False), Fill(is_upper=True), Check(), CheckOfModule(), Read()

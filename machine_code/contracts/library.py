@@ -41,10 +41,10 @@ from contracts.kernels import Check as CheckKernel, Fill, prove_decoded, prove_h
 from contracts.names import VERSION, WITH_ERROR
 from execution.state import Region
 from execution.terms import bv64, bv8, bytes_le, concat_le, fresh_secret, simplify
-from solver.questions import free_constants, public, require
+from solver.queries import free_constants, public, require
 
-FLAGS, SIZE = public("flags", 32), public("size", 64)
-UPPER, PREFIX, NO_NUL = 1, 2, 4
+FLAGS, SIZE = public("flags", 32), public("size", 64)  # SIZE is that of the output
+UPPER, PREFIX, NO_NUL = 1, 2, 4  # the flags for encoding in const_hex.h
 TEXT = Region("input", N)
 OUTPUT = Region("output", SIZE)
 BUFFERS = ("input", N), ("output", SIZE)
@@ -61,8 +61,8 @@ def two_words(name):
 
 
 class Exported(Function):
-    """A function of the header; one with an error is the function behind the thunk, whose error is
-    not NULL."""
+    """A function of the header; or, of one with an error, the function that its wrapper calls, whose
+    error is not NULL (dispatch.py)."""
 
     symbol = property(
         lambda self: f"const_hex_{self.function}{'_nonnull' if self.function in WITH_ERROR else ''}"
@@ -78,9 +78,9 @@ class Version(Exported):
         state.prove(state.result(32) == VERSION, f"the version is not {VERSION}")
 
 
-def needed(flags):
-    """The size that the text needs, without overflow: two digits for each byte, the prefix, and a
-    NUL."""
+def needed_size(flags):
+    """The size that the text needs, in 66 bits, so without overflow: two digits for each byte, the
+    prefix, and a NUL."""
     prefix, no_nul = [z3.ZeroExt(65, z3.Extract(bit, bit, flags)) for bit in (1, 2)]
     return simplify(2 * z3.ZeroExt(2, N) + 2 * prefix + 1 - no_nul)
 
@@ -92,7 +92,7 @@ class EncodedSize(Exported):
     function, arguments = "encoded_size", (N, uint32_argument(FLAGS))
 
     def prove_postcondition(self, state):
-        size = needed(FLAGS)
+        size = needed_size(FLAGS)
         is_valid = z3.And(z3.ULT(FLAGS, 8), z3.ULT(size, size_max(state)))
         expected = z3.If(is_valid, z3.Extract(63, 0, size), size_max(state))
         state.prove(state.result(64) == expected, "a wrong size")
@@ -118,12 +118,12 @@ class Encode(Exported):
             simplify(uint32_argument(self.flags)),
         )
         self.fits = simplify(
-            z3.And(z3.ULT(self.flags, 8), z3.ULE(needed(self.flags), z3.ZeroExt(2, SIZE)))
+            z3.And(z3.ULT(self.flags, 8), z3.ULE(needed_size(self.flags), z3.ZeroExt(2, SIZE)))
         )
         self.has_nul = simplify(self.flags & NO_NUL == 0)
-        # The digits begin after the prefix, and end before the NUL.
-        self.begin = 2 if flags and flags & PREFIX else 0
-        self.end = simplify(2 * N + self.begin)
+        # The offsets at which the digits begin, after the prefix, and end, before the NUL.
+        self.digits_begin = 2 if flags and flags & PREFIX else 0
+        self.digits_end = simplify(2 * N + self.digits_begin)
         are_known = z3.ULT(self.flags, 8) == (flags is not None)
         self.requires = z3.Implies(self.fits, z3.ULT(N, 1 << 62)), are_known
 
@@ -134,16 +134,18 @@ class Encode(Exported):
         if state.is_valid(z3.Not(self.fits)):
             return self.prove_nul(state, offset, data, bv64(0))
         state.prove(self.fits, "written though the text may not fit")
-        if z3.is_bv_value(offset) and offset.as_long() + len(data) <= self.begin:
+        if z3.is_bv_value(offset) and offset.as_long() + len(data) <= self.digits_begin:
             require(all(map(z3.is_bv_value, data)), "a prefix that is not constant")
             written = bytes(character.as_long() for character in data)
             return require(written == b"0x"[offset.as_long() :][: len(data)], "a wrong prefix")
-        if state.is_valid(offset == self.end):
-            return self.prove_nul(state, offset, data, self.end)
-        is_inside = z3.And(z3.UGE(offset, self.begin), z3.ULE(offset + len(data), self.end))
+        if state.is_valid(offset == self.digits_end):
+            return self.prove_nul(state, offset, data, self.digits_end)
+        is_inside = z3.And(
+            z3.UGE(offset, self.digits_begin), z3.ULE(offset + len(data), self.digits_end)
+        )
         state.prove(is_inside, "written before or after the digits")
         is_upper = bool(self.flags.as_long() & UPPER)
-        prove_hex_digits(state, simplify(offset - self.begin), data, is_upper)
+        prove_hex_digits(state, simplify(offset - self.digits_begin), data, is_upper)
 
     def prove_nul(self, state, offset, data, expected):
         """Proves that a NUL is written, at the expected offset."""
@@ -153,7 +155,7 @@ class Encode(Exported):
     def prove_postcondition(self, state):
         prove_bool_result(state, self.fits, "whether the text fits")
         if fits := state.branch(self.fits):
-            end = self.end + z3.If(self.has_nul, bv64(1), bv64(0))
+            end = self.digits_end + z3.If(self.has_nul, bv64(1), bv64(0))
             prove_written(fits, simplify(end), "a character of the text is left out")
         if failed := state.branch(z3.Not(self.fits)):
             require(not failed.reads, "the input is read though the text does not fit")
@@ -235,7 +237,7 @@ class Text(Exported):
     def cases(self, state):
         return prefix_cases(state)
 
-    def count(self, state):
+    def byte_count(self, state):
         """The number of bytes that the digits decode to, with a digit that is pending in a decoder."""
         return simplify(z3.LShR(N - state.digits_start + (state.pending is not None), 1))
 
@@ -251,7 +253,7 @@ class Text(Exported):
 
     def prove_store(self, state, offset, data):
         self.prove_no_error(state, "written though it is {}")
-        state.prove(z3.ULE(offset + len(data), self.count(state)), "written after the bytes")
+        state.prove(z3.ULE(offset + len(data), self.byte_count(state)), "written after the bytes")
         prove_decoded(state, offset, data)
 
     def prove_postcondition(self, state):
@@ -277,9 +279,9 @@ class Text(Exported):
     def prove_accepted(self, state):
         """Proves what else holds if the result is true."""
         if "output" in state.regions:
-            prove_written(state, self.count(state), "a byte is left out")
+            prove_written(state, self.byte_count(state), "a byte is left out")
         if "written" in state.regions:
-            prove_object(state, "written", in_size_t(state, self.count(state)))
+            prove_object(state, "written", in_size_t(state, self.byte_count(state)))
 
     def prove_rejected(self, state, index, character):
         """Proves what holds if this is the first invalid character."""
@@ -306,7 +308,7 @@ class DecodeExact(Text):
     def errors(self, state):
         return [
             *super().errors(state),
-            (self.count(state) != SIZE, "a wrong length", INVALID_LENGTH),
+            (self.byte_count(state) != SIZE, "a wrong length", INVALID_LENGTH),
         ]
 
 
@@ -322,7 +324,7 @@ class Decode(Text):
     def errors(self, state):
         return [
             *super().errors(state),
-            (z3.UGT(self.count(state), SIZE), "too small a buffer", INVALID_LENGTH),
+            (z3.UGT(self.byte_count(state), SIZE), "too small a buffer", INVALID_LENGTH),
         ]
 
 
@@ -359,8 +361,8 @@ Decoder = namedtuple("Decoder", "position character status")
 def with_decoder(state):
     """The state with public fields of the decoder, except for its character."""
     position = public(f"position_{state.POINTER_SIZE}", 8 * state.POINTER_SIZE)
-    state.put_cells("decoder", 0, bytes_le(position))
-    state.put_cells("decoder", state.POINTER_SIZE + 1, [public("kind", 8)])
+    state.put_object_bytes("decoder", 0, bytes_le(position))
+    state.put_object_bytes("decoder", state.POINTER_SIZE + 1, [public("kind", 8)])
     state.entry = state.copy()
     return state
 
@@ -373,7 +375,7 @@ def decoder_at_call(state):
 def decoder_in(state):
     """The fields of the decoder now."""
     *position, character, status = [
-        state.cells["decoder", offset] for offset in range(state.POINTER_SIZE + 2)
+        state.object_bytes["decoder", offset] for offset in range(state.POINTER_SIZE + 2)
     ]
     return Decoder(from_size_t(state, concat_le(position)), character, status)
 
@@ -436,7 +438,9 @@ class DecoderUpdate(Text):
 
     def leaves_pending(self, state):
         """Whether a digit is pending for the next chunk."""
-        return N - state.digits_start + (state.pending is not None) - 2 * self.count(state) == 1
+        return (
+            N - state.digits_start + (state.pending is not None) - 2 * self.byte_count(state) == 1
+        )
 
     def may_decide_select(self, state, offset):
         """Whether it is the digit of this chunk that is pending for the next one."""
@@ -447,7 +451,7 @@ class DecoderUpdate(Text):
         earlier_error = INVALID_CHARACTER, decoder.position, decoder.character
         return [
             (z3.UGT(decoder.status, 1), "a chunk after an error", *earlier_error),
-            (z3.UGT(self.count(state), SIZE), "too small a buffer", INVALID_LENGTH),
+            (z3.UGT(self.byte_count(state), SIZE), "too small a buffer", INVALID_LENGTH),
         ]
 
     def prove_accepted(self, state):
@@ -543,6 +547,7 @@ class DecoderFail(FirstInvalid):
             yield path,
 
 
+# All contracts of this file. Those with the longest proofs come last, and `prove` begins with them.
 FUNCTIONS = (
     Version(),
     EncodedSize(),

@@ -6,16 +6,26 @@ is written outside of its buffer.
 
 import z3
 
-from contracts.functions import INVALID_CHARACTER, INVALID_LENGTH, N, ODD_LENGTH, Function, base
+from contracts.functions import (
+    INVALID_CHARACTER,
+    INVALID_LENGTH,
+    N,
+    ODD_LENGTH,
+    OUT_OF_MEMORY,
+    Function,
+    base,
+)
 from execution.state import Region
 from execution.terms import bv64, bv8, bytes_le, simplify, table_entry
-from solver.questions import all_values, require, secret
+from solver.queries import all_values, require, secret
 
-TEXTS = {
+# The messages of fixed text, by the kind of the error.
+FIXED_MESSAGES = {
     ODD_LENGTH: b"odd number of digits",
     INVALID_LENGTH: b"invalid string length",
-    4: b"out of memory",
+    OUT_OF_MEMORY: b"out of memory",
 }
+# The escape sequences of some characters. Others that are not printable are shown by their numbers.
 ESCAPES = {ord("'"): "\\'", ord("\\"): "\\\\", 0: "\\0", 9: "\\t", 10: "\\n", 13: "\\r"}
 # The fields of the error, and the size of the buffer.
 KIND = secret("error_kind", 32)
@@ -58,9 +68,9 @@ def decimal(state, number):
     return [simplify(z3.Extract(7, 0, number) + 0x30), *digits]
 
 
-def text_of(state):
+def message_of(state):
     """The message for the error of a path."""
-    for kind, text in TEXTS.items():
+    for kind, text in FIXED_MESSAGES.items():
         if state.is_valid(KIND == kind):
             return list(map(bv8, text))
     is_character = z3.And(KIND == INVALID_CHARACTER, z3.ULT(CHARACTER, 256))
@@ -69,7 +79,9 @@ def text_of(state):
         before = map(bv8, b"invalid character '")
         after = map(bv8, b"' at position ")
         return [*before, *escaped_character(state), *after, *decimal(state, POSITION)]
-    state.prove(z3.And(*[KIND != kind for kind in TEXTS]), "one path for two kinds of errors")
+    state.prove(
+        z3.And(*[KIND != kind for kind in FIXED_MESSAGES]), "one path for two kinds of errors"
+    )
     return []
 
 
@@ -91,19 +103,20 @@ class NulTerminated(Function):
     def prove_store(self, state, offset, data):
         """Here the output is an object: its bytes are compared at the return."""
         (offset,) = all_values(state.facts, offset, 1)
-        state.put_cells("output", offset, data)
+        state.put_object_bytes("output", offset, data)
 
     def prove_text(self, state, length, text):
         """Proves that the output has a text of some length; `text` has its first bytes."""
-        count = len([name for name, _ in state.cells if name == "output"]) - 1
+        # The bytes before the NUL; -1 if nothing is written.
+        count = len([name for name, _ in state.object_bytes if name == "output"]) - 1
         state.prove(state.result(64) == written_length(length), "a wrong result")
         state.prove((SIZE == 0) == z3.BoolVal(count < 0), "whether anything is written")
         if count >= 0:
             state.prove(written_length(length) == count, "a wrong number of bytes is written")
             for offset, expected in enumerate([*text(count), bv8(0)]):
-                require(("output", offset) in state.cells, "a byte is left out")
+                require(("output", offset) in state.object_bytes, "a byte is left out")
                 state.prove_equal(
-                    state.cells["output", offset], expected, f"a wrong byte at {offset}"
+                    state.object_bytes["output", offset], expected, f"a wrong byte at {offset}"
                 )
 
 
@@ -141,18 +154,20 @@ class ErrorMessage(NulTerminated):
     function = "error_message"
     name = "every error"
     symbol = "const_hex_error_message"
-    regions = Region("error", bv64(16), 8, is_writable=False), Region("output", SIZE)
+    regions = Region("error", bv64(16), align=8, is_writable=False), Region("output", SIZE)
     # An empty output may have any address.
     arguments = base("error"), z3.If(SIZE == 0, secret("any", 64), base("output")), SIZE
     requires = (base("output") != 0,)
 
     def cases(self, state):
-        state.put_cells("error", 0, [*bytes_le(KIND), *bytes_le(CHARACTER), *bytes_le(POSITION)])
+        state.put_object_bytes(
+            "error", 0, [*bytes_le(KIND), *bytes_le(CHARACTER), *bytes_le(POSITION)]
+        )
         state.callee_text = None  # what the callee writes, after its call
         return [state]
 
     def prove_postcondition(self, state):
-        text = text_of(state)
+        text = message_of(state)
         if state.callee_text is None:
             return self.prove_text(state, bv64(len(text)), lambda count: text[:count])
         require(not state.writes, "a store after the call")

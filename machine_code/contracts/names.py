@@ -8,20 +8,22 @@ from collections import namedtuple
 
 HEADER_TEXT = (pathlib.Path(__file__).resolve().parents[2] / "c" / "const_hex.h").read_text()
 VERSION = int(re.search(r"#define CONST_HEX_VERSION (\d+)", HEADER_TEXT)[1])
-Function = namedtuple("Function", "parameters is_constant_time is_in_module")
+Function = namedtuple(
+    "Function", "parameters is_constant_time is_in_module", defaults=(True, False)
+)
 FUNCTIONS = {
-    "encoded_size": Function("bytes_length flags", True, False),
-    "encode": Function("bytes bytes_length text text_size flags", True, True),
-    "decode": Function("text text_length bytes bytes_size written error", True, False),
-    "decode_exact": Function("text text_length bytes bytes_length error", True, False),
+    "encoded_size": Function("bytes_length flags"),
+    "encode": Function("bytes bytes_length text text_size flags", is_in_module=True),
+    "decode": Function("text text_length bytes bytes_size written error"),
+    "decode_exact": Function("text text_length bytes bytes_length error"),
     "decoder_update": Function(
-        "decoder text text_length bytes bytes_size written error", True, True
+        "decoder text text_length bytes bytes_size written error", is_in_module=True
     ),
-    "decoder_finish": Function("decoder error", True, True),
-    "check": Function("text text_length error", True, False),
-    "check_raw": Function("text text_length", True, False),
-    "error_message": Function("error message message_size", False, False),
-    "version": Function("", True, False),
+    "decoder_finish": Function("decoder error", is_in_module=True),
+    "check": Function("text text_length error"),
+    "check_raw": Function("text text_length"),
+    "error_message": Function("error message message_size", is_constant_time=False),
+    "version": Function(""),
 }
 # The functions of kernels, with their parameters.
 KERNELS = {

@@ -13,9 +13,9 @@ import z3
 
 from contracts.functions import N
 from execution.terms import bv64, fresh_public, fresh_secret, simplify
-from solver.questions import Rejected, require
+from solver.queries import Rejected, require
 
-MAX_STEPS = 2000  # instructions from one loop header to the next
+MAX_STEPS = 2000  # instructions on a path from one loop header to the next
 Branch = namedtuple("Branch", "condition target")  # what a conditional jump returns
 
 
@@ -24,11 +24,11 @@ class Loop:
     the one that was inferred."""
 
     def __init__(self, entry, invariant):
-        self.entry, self.iterations = entry, fresh_public(64)
+        self.entry, self.iterations = entry, fresh_public(64)  # any number of iterations
         # The loop terminates. The bound is so small that the number of iterations does not overflow.
         bound = invariant.bound(entry)
         entry.prove(z3.ULT(bound, N + MAX_STEPS), "the number of iterations")
-        self.claims = [z3.ULE(self.iterations, bound), *invariant.guards(self.iterations)]
+        self.guards = [z3.ULE(self.iterations, bound), *invariant.guards(self.iterations)]
         # The registers to which an iteration adds a constant, which may be 0.
         self.general = {
             name: entry.general[name] + step * self.iterations
@@ -37,8 +37,8 @@ class Loop:
         self.unchanged_vectors = list(invariant.unchanged_vectors)
         self.is_upper_half_clean = bool(invariant.is_upper_half_clean)
         # Up to where the input is read, and the output is written.
-        self.read_end = invariant.at(invariant.read_end, self.iterations)
-        self.written_end = invariant.at(invariant.written_end, self.iterations)
+        self.read_end = invariant.term_after(invariant.read_end, self.iterations)
+        self.written_end = invariant.term_after(invariant.written_end, self.iterations)
 
     def prove_invariant(self, state, k):
         """Proves the invariant in a state that is at the loop header after k iterations."""
@@ -46,16 +46,16 @@ class Loop:
         def after_k(term):
             return simplify(z3.substitute(term, (self.iterations, k)))
 
-        for claim in map(after_k, self.claims):
-            state.prove(claim, f"loop invariant: {claim}")
+        for guard in map(after_k, self.guards):
+            state.prove(guard, f"loop invariant: {guard}")
         for name, expected in self.general.items():
             state.prove(state.general[name] == after_k(expected), f"loop invariant: {name}")
         for number in self.unchanged_vectors:
             for value, entry_value in zip(state.vectors[number], self.entry.vectors[number]):
                 state.prove(value == entry_value, f"loop invariant: vector {number}")
         is_stack_unchanged = all(
-            key in state.cells and state.cells[key].eq(value)
-            for key, value in self.entry.cells.items()
+            key in state.object_bytes and state.object_bytes[key].eq(value)
+            for key, value in self.entry.object_bytes.items()
         )
         require(is_stack_unchanged, "loop invariant: the stack")
         require(
@@ -85,16 +85,16 @@ class Loop:
             number: data if number in self.unchanged_vectors else [fresh_secret(8) for _ in data]
             for number, data in state.vectors.items()
         }
-        for claim in self.claims:
-            state.assume(claim)
+        for guard in self.guards:
+            state.assume(guard)
         state.reads = [(state.digits_start, simplify(self.read_end - state.digits_start))]
         # What was written before the loop stays written.
         state.writes = [*state.writes, (bv64(0), self.written_end)]
         state.reads_of_digits = dict.fromkeys(state.reads, True)
         state.flags = None
         state.steps = 0
-        state.loops = state.loops | {state.address: self}
-        state.loop = self
+        state.loops_by_header = state.loops_by_header | {state.address: self}
+        state.current_loop = self
         state.is_upper_half_clean = self.is_upper_half_clean
         return state
 
@@ -167,7 +167,7 @@ def call_by_contract(state, summary):
     for path, *results in paths:
         address = path.return_address()
         path.havoc_registers()
-        path.loop = None
+        path.current_loop = None
         path.put_results(results)
         path.invalidate_below_sp()
         after += follow_return(path, address)
@@ -176,17 +176,17 @@ def call_by_contract(state, summary):
 
 def run(code, initial_states, loop_headers, infer_invariant):
     """Runs a function from each of some states, along all paths. Returns the number of paths."""
-    count = 0
+    path_count = 0
     worklist = list(initial_states)
     try:
         while worklist:
             state = worklist.pop()
             if state.address in loop_headers:
-                if loop := state.loops.get(state.address):
+                if loop := state.loops_by_header.get(state.address):
                     # So the number of instructions grows at most linearly with the lengths.
-                    require(state.loop is loop, "a loop or a call in a loop")
+                    require(state.current_loop is loop, "a loop or a call in a loop")
                     loop.prove_invariant(state, simplify(loop.iterations + 1))
-                    count += 1
+                    path_count += 1
                     continue
                 # A loop without an invariant is unrolled, as far as MAX_STEPS allows.
                 if invariant := infer_invariant(code, state):
@@ -194,8 +194,8 @@ def run(code, initial_states, loop_headers, infer_invariant):
                     loop.prove_invariant(state, bv64(0))
                     state = loop.havoc()
             after = step(code, state)
-            count += not after
+            path_count += not after
             worklist += after
     except Rejected as rejected:
         raise Rejected(f"{code.name_at(state.address)}: {rejected}") from None
-    return count
+    return path_count

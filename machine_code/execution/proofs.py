@@ -19,16 +19,16 @@ from execution.paths import run
 from hints.loops import infer_invariant, loop_headers
 from reading import library
 from reading.image import X86_64
-from solver import cvc5, questions
-from solver.questions import Rejected
+from solver import cvc5, queries
+from solver.queries import Rejected
 
 SAMPLE_SIZE = 100  # queries of each proof that go to the second solver, too
-MAX_LINE = 300  # characters of a line of output
+MAX_LINE_LENGTH = 300  # characters of a line of output
 CONTRACTS = (
     *FUNCTIONS,
     *MESSAGES,
     *KERNELS,
-    *dispatch.NULL_ERROR_THUNKS,
+    *dispatch.NULL_ERROR_WRAPPERS,
     *dispatch.KERNEL_DISPATCHERS,
 )
 # On x86-64 the names of the kernels' functions end so, and a dispatcher chooses one of them.
@@ -41,24 +41,24 @@ class Job:
 
     file: str
     symbol: str
-    number: int  # of the contract
+    contract_index: int  # in CONTRACTS
     content: bytes  # of the file
-    part: int
+    part: int  # of the initial states
     all_to_cvc5: bool
 
     @property
     def function(self):
-        return self.file, self.symbol, self.number
+        return self.file, self.symbol, self.contract_index
 
 
 def symbols_and_contracts(image):
-    """What has to be proved: pairs of a symbol and the number of a contract. A callee with a summary
+    """What has to be proved: pairs of a symbol and the index of a contract. A callee with a summary
     has the symbol of its contract, and so it is among them."""
     pairs = itertools.product(sorted(image.symbols), range(len(CONTRACTS)))
     return [
-        (symbol, number)
-        for symbol, number in pairs
-        if _is_contract_of(CONTRACTS[number], symbol, image.machine)
+        (symbol, index)
+        for symbol, index in pairs
+        if _is_contract_of(CONTRACTS[index], symbol, image.machine)
     ]
 
 
@@ -112,14 +112,14 @@ def prove(content, symbol, contract, selected=slice(None)):
 def run_job(job):
     """Proves a function from a part of its initial states. Returns the function, whether it is
     rejected, and a line of output."""
-    contract = CONTRACTS[job.number]
+    contract = CONTRACTS[job.contract_index]
     fault = None
     try:
         part = slice(job.part, None, contract.parts)
-        count = prove(job.content, job.symbol, contract, part)
-        outcome = f"proved at every length: {count} paths, {questions.counts['queries']} queries"
+        path_count = prove(job.content, job.symbol, contract, part)
+        outcome = f"proved at every length: {path_count} paths, {queries.counts['queries']} queries"
         sample_size = None if job.all_to_cvc5 else SAMPLE_SIZE // contract.parts
-        if found := cvc5.disagreements(questions.unsat_queries, sample_size):
+        if found := cvc5.disagreements(queries.unsat_queries, sample_size):
             query, answer = found[0]
             fault = f"cvc5 says {answer}: {query}"
     except (Rejected, ValueError) as rejected:
@@ -132,6 +132,6 @@ def run_job(job):
     name = contract.name
     if contract.parts > 1:
         name += f", {job.part + 1} of {contract.parts}"
-    line = textwrap.shorten(f"{job.symbol}, {name}: {outcome}", MAX_LINE)
+    line = textwrap.shorten(f"{job.symbol}, {name}: {outcome}", MAX_LINE_LENGTH)
     seconds = sum(os.times()[:4])
     return job.function, bool(fault), f"{line}, {seconds:.0f} s of processor time"

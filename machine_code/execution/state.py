@@ -22,7 +22,7 @@ from execution.terms import (
     table_entry,
 )
 from solver import quotient_by_ten
-from solver.questions import (
+from solver.queries import (
     Rejected,
     all_values,
     facts_of,
@@ -38,9 +38,9 @@ from solver.questions import (
 
 
 class Region:
-    """Some bytes of memory at an unknown base that is a multiple of `align`. Only the region of
-    a file's constants has `data`. The names "input", "output" and "dispatch byte" are special; each other
-    region is an object, whose bytes the state knows.
+    """Some bytes of memory at an unknown base that is a multiple of `align`. Only the region of a
+    file's constants has `data`. The names "input", "output" and "dispatch byte" are special; each
+    other region is an object, whose bytes the state knows.
     """
 
     def __init__(self, name, size, align=1, data=None, is_writable=True):
@@ -53,9 +53,8 @@ class Region:
         self.is_object = data is None and name not in ("input", "output", "dispatch byte")
 
 
-DISPATCH_BYTE = Region(
-    "dispatch byte", bv64(1)
-)  # the dispatcher's byte, which keeps its value between calls
+# The byte in which a dispatcher stores the microarchitecture level. It keeps its value between calls.
+DISPATCH_BYTE = Region("dispatch byte", bv64(1))
 MAX_VALUES = 64  # of the offset of a constant, or of an indirect jump's target
 
 
@@ -66,42 +65,46 @@ class State:
     CALLEE_SAVED_VECTORS = {}  # how many of the lowest bytes, by the number of the vector
     POINTER_SIZE = 8
 
-    # How distant from a goal the facts in a query may be, or None (see `questions.relevant`).
+    # How distant from a goal the facts in a query may be, or None (see `queries.relevant`).
     fact_distance = None
-    flags = None
+    flags = None  # conditions by their names, such as "carry"; None where they are undefined
     # Whether the upper halves of the YMM registers are zero, so that `vzeroupper` is not needed.
     is_upper_half_clean = True
     digits_start = bv64(0)  # the index in the input at which the digits begin, after a prefix
     pending = None  # the first digit of a byte, which a decoder keeps for the next chunk
     # The last loop that was entered, unless a function was called since by its contract, and the
     # number of instructions since its header.
-    loop, steps = None, 0
+    current_loop, steps = None, 0
     # Whether branches and addresses may depend on secrets: the input is known to be invalid.
     is_declassified = False
 
     def __init__(self):
         self.facts = []  # the path condition
-        self.general, self.vectors = {}, {}  # registers
+        # The general registers, by their names, and the bytes of each vector register, by its number.
+        self.general, self.vectors = {}, {}
         self.regions = {}  # by their names
-        self.cells = {}  # the bytes of objects, by the name of the region and the offset
-        self.input = {}  # the offsets and the bytes of the input, by the ids of the offsets in z3
+        self.object_bytes = {}  # the bytes of objects, by the name of the region and the offset
+        # Of each offset of the input that was read, the offset and the unknown byte, by the id of the
+        # offset in z3.
+        self.input_bytes = {}
         # The offset and the size of each read of the input and of each write to the output.
         self.reads, self.writes = [], []
         # Whether a read is of digits alone. Two keys are the same only if their terms are.
         self.reads_of_digits = {}
         self.dispatch_byte_loads, self.dispatch_byte_stores = [], []  # the values
-        self.return_targets = {}  # addresses, by the names that stand for them on the stack
-        self.loops = {}  # that were entered, by the addresses of their headers
+        # The return addresses of calls, by the names of the constants that stand for them.
+        self.return_targets = {}
+        self.loops_by_header = {}  # the loops that were entered, by the address of the header
 
     def start(self, code, contract):
         """The state at the call of a function: nothing is known of registers and objects, except
         for the arguments. A function that others call by its contract has less stack."""
         self.code = code
         self.contract = contract
-        self.address = code.start  # of the instruction
+        self.address = code.start  # of the instruction that runs next
         self.fact_distance = contract.fact_distance
         self.is_declassified = contract.is_declassified
-        self.STACK_SIZE, self.CALLEE_STACK_SIZE = contract.stacks(self)
+        self.STACK_SIZE, self.CALLEE_STACK_SIZE = contract.stack_sizes(self)
         stack_arguments = contract.arguments[len(self.ARGUMENT_REGISTERS) :]
         first_argument = self.STACK_SIZE + self.RETURN_ADDRESS_SIZE
         stack = Region("stack", bv64(first_argument + 8 * len(stack_arguments)), 16)
@@ -122,9 +125,9 @@ class State:
             if region.is_object:
                 size = region.size.as_long()
                 data = [secret(f"{region.name}_{offset}", 8) for offset in range(size)]
-                self.put_cells(region.name, 0, data)
+                self.put_object_bytes(region.name, 0, data)
         for index, argument in enumerate(stack_arguments):
-            self.put_cells("stack", first_argument + 8 * index, bytes_le(argument))
+            self.put_object_bytes("stack", first_argument + 8 * index, bytes_le(argument))
         self.enter()
         self.entry = self.copy()  # the state at the call
 
@@ -179,7 +182,7 @@ class State:
         return simplify(z3.If(condition, then_term, else_term))
 
     def truth_for_valid_input(self, condition):
-        """The truth of a condition that is the same for all valid inputs; None where the condition
+        """Whether a condition is true for all valid inputs, or false for all; None where the condition
         is public. If it depends on a secret, the branch is not constant-time."""
         if self.is_declassified or is_public(condition):
             return None
@@ -251,7 +254,7 @@ class State:
             return self.dispatch_byte_loads[-1:]
         require(region.is_object, f"{region.name} is read")
         start = self._constant_offset(region, offset)
-        data = [self.cells.get((region.name, start + index)) for index in range(count)]
+        data = [self.object_bytes.get((region.name, start + index)) for index in range(count)]
         require(None not in data, "an uninitialized byte of the stack is read")
         return data
 
@@ -305,20 +308,20 @@ class State:
         region, offset = self._locate(address, len(data), aligned)
         require(region.is_writable, f"{region.name} is written")
         if region.is_object:
-            self.put_cells(region.name, self._constant_offset(region, offset), data)
+            self.put_object_bytes(region.name, self._constant_offset(region, offset), data)
         elif region.name == "dispatch byte":
             self.dispatch_byte_stores += data
         else:
             self.contract.prove_store(self, offset, data)
             self.writes.append((offset, len(data)))
 
-    def put_cells(self, name, offset, data):
+    def put_object_bytes(self, name, offset, data):
         """Sets bytes of an object."""
-        self.cells |= {(name, offset + index): value for index, value in enumerate(data)}
+        self.object_bytes |= {(name, offset + index): value for index, value in enumerate(data)}
 
     def number_in(self, name, offset, count):
         """The number that some bytes of an object make."""
-        return concat_le([self.cells[name, offset + index] for index in range(count)])
+        return concat_le([self.object_bytes[name, offset + index] for index in range(count)])
 
     def sp_offset(self):
         """The offset of the stack pointer in the stack, which has to be constant."""
@@ -341,9 +344,9 @@ class State:
         """Forgets what lies below the stack pointer, which a signal handler may overwrite: there is
         no red zone."""
         sp_offset = self.sp_offset()
-        self.cells = {
+        self.object_bytes = {
             (name, offset): value
-            for (name, offset), value in self.cells.items()
+            for (name, offset), value in self.object_bytes.items()
             if name != "stack" or offset >= sp_offset
         }
 
@@ -351,9 +354,9 @@ class State:
     def byte_of_input(self, offset):
         """The unknown byte at an offset in the input."""
         offset = simplify(offset)
-        if offset.get_id() not in self.input:
-            self.input[offset.get_id()] = offset, fresh_secret(8)
-        return self.input[offset.get_id()][1]
+        if offset.get_id() not in self.input_bytes:
+            self.input_bytes[offset.get_id()] = offset, fresh_secret(8)
+        return self.input_bytes[offset.get_id()][1]
 
     def prove_equal(self, value, expected, message):
         """Proves that two values are equal. Bytes of the input are equal where their offsets are:
@@ -361,7 +364,7 @@ class State:
         goal_constants = {*free_constants(value == expected)}
         in_goal = [
             (offset, character)
-            for offset, character in self.input.values()
+            for offset, character in self.input_bytes.values()
             if goal_constants.issuperset(free_constants(character))
         ]
         facts = self.facts.copy()
@@ -370,8 +373,7 @@ class State:
                 facts += facts_of(character1 == character2)
         require(is_valid(facts, value == expected, self.fact_distance), message)
 
-    # Digits. A range of the input does not say which of the known offsets lie in it: that takes a
-    # query.
+    # Digits. Whether a known offset of the input lies in a range takes a query.
     def known_digit_ranges(self):
         """The ranges of the input, by offset and count, that were read and are digits alone."""
         for offset, count in self.reads:
@@ -397,7 +399,7 @@ class State:
         count = simplify(count)
         other.reads.append((offset, count))
         other.reads_of_digits[offset, count] = True
-        for index, character in self.input.values():
+        for index, character in self.input_bytes.values():
             is_inside = z3.ULT(index - offset, count)
             if not other:
                 return None
@@ -420,7 +422,7 @@ class State:
         return other
 
     # Calls
-    def return_to(self, address):
+    def symbolic_return_address(self, address):
         """A constant that stands for the return address of a call."""
         token = public(f"return_{address:x}", 64)
         self.return_targets |= {token.decl().name(): address}
@@ -467,7 +469,7 @@ class State:
     def havoc_arguments(self, count):
         """Havocs the arguments of a call on the stack, which a callee may overwrite."""
         for offset in range(self.RETURN_ADDRESS_SIZE, self.argument_frame_size(count)):
-            self.put_cells("stack", self.sp_offset() + offset, [fresh_secret(8)])
+            self.put_object_bytes("stack", self.sp_offset() + offset, [fresh_secret(8)])
 
     def havoc_registers(self):
         """Havocs the caller-saved registers, which a callee may overwrite."""

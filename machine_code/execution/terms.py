@@ -8,7 +8,7 @@ import itertools
 
 import z3
 
-from solver.questions import public, secret
+from solver.queries import public, secret
 
 simplify = z3.simplify
 _numbers = itertools.count()

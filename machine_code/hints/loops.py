@@ -15,7 +15,7 @@ import z3
 from execution import paths
 from execution.terms import bv64, fresh_public, simplify
 from semantics.webassembly_blocks import NO_FALL_THROUGH, Operands
-from solver.questions import Rejected, free_constants, is_public
+from solver.queries import Rejected, free_constants, is_public
 
 # Direct jumps and calls, and instructions that never fall through, on every processor.
 DIRECT_JUMP = re.compile(r"j|call|bl?$|b\.|cbn?z|tbn?z")
@@ -30,7 +30,7 @@ def successors(instruction):
         targets = operands.targets
     else:
         is_jump = DIRECT_JUMP.match(instruction.mnemonic)
-        targets = [o.value for o in operands[-1:] if is_jump and o.kind == "immediate"]
+        targets = [last.value for last in operands[-1:] if is_jump and last.kind == "immediate"]
     falls_through = instruction.mnemonic not in NEVER_FALLS_THROUGH
     return [instruction.address + instruction.size] * falls_through + targets
 
@@ -87,15 +87,16 @@ class Invariant:
         self.is_upper_half_clean = entry.is_upper_half_clean and end.is_upper_half_clean
         self.read_end, self.written_end = _lowest_offset(end.reads), _lowest_offset(end.writes)
         new_facts = end.facts[len(entry.facts) :]
-        unknown = {self._increment_name(name) for name in increments if name not in self.steps}
-        moving = {self._increment_name(name) for name, step in self.steps.items() if step}
+        # The induction variables are the registers with a constant step that is not 0.
+        induction = {self._increment_name(name) for name, step in self.steps.items() if step}
+        irregular = {self._increment_name(name) for name in increments if name not in self.steps}
         facts = [
             fact.term
             for fact in new_facts
-            if fact.constants & moving and not fact.constants & unknown
+            if fact.constants & induction and not fact.constants & irregular
         ]
         # Conditions on the registers at the end of an iteration, which also hold at its beginning.
-        self.facts = [fact for fact in facts if entry.is_valid(self.at(fact, bv64(-1)))]
+        self.facts = [fact for fact in facts if entry.is_valid(self.term_after(fact, bv64(-1)))]
         equations = {
             name: end.general[name] == value
             for name, value in entry.general.items()
@@ -113,20 +114,20 @@ class Invariant:
         the loop's entry, as its equation says."""
         state, k = entry.copy(), fresh_public(64)
         guards = [z3.ULE(k, self.bound(entry)), *self.guards(k)]
-        for fact in [*guards, *[self.at(fact.term, k) for fact in facts]]:
+        for fact in [*guards, *[self.term_after(fact.term, k) for fact in facts]]:
             state.assume(fact)
         for name, equation in equations.items():
-            if state.is_valid(self.at(equation, k)):
+            if state.is_valid(self.term_after(equation, k)):
                 self.steps[name] = 0
 
-    def at(self, term, k):
+    def term_after(self, term, k):
         """A term of the registers after k iterations."""
         values = [(self.increments[name], step * k) for name, step in self.steps.items() if step]
         return simplify(z3.substitute(term, *values))
 
     def guards(self, k):
         """What the branches say at the header after k iterations."""
-        return [self.at(fact, k - 1) for fact in self.facts]
+        return [self.term_after(fact, k - 1) for fact in self.facts]
 
     def bound(self, entry):
         """The greatest number of iterations: from a register that counts down from more than 0, or
@@ -138,7 +139,7 @@ class Invariant:
             if step < 0 and is_guarded and not z3.is_true(simplify(initial <= 0)):
                 return simplify(z3.UDiv(initial, bv64(-step)))
         for left, right in itertools.chain(*map(_compared_terms, self.facts)):
-            first, second = [self.at(left - right, bv64(k)) for k in (-1, 0)]
+            first, second = [self.term_after(left - right, bv64(k)) for k in (-1, 0)]
             step = simplify(second - first)
             if z3.is_bv_value(step) and step.as_long():
                 step = step.as_signed_long()
@@ -184,7 +185,7 @@ class Unproved:
     def truth_for_valid_input(self, condition):
         """Declassifies nothing."""
 
-    def fits(self, term):
+    def is_upper_half_zero(self, term):
         return True
 
     def store(self, address, data, aligned=False):

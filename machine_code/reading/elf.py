@@ -76,8 +76,9 @@ def _reject_gnu_properties(file):
     for section in file.iter_sections("SHT_NOTE"):
         for note in section.iter_notes():
             is_property_note = note["n_type"] == "NT_GNU_PROPERTY_TYPE_0"
-            for each in note["n_desc"] if is_property_note else ():
-                if each["pr_type"] in FEATURE_1_AND and each["pr_data"] not in (0, bytes(4)):
+            for gnu_property in note["n_desc"] if is_property_note else ():
+                has_features = gnu_property["pr_data"] not in (0, bytes(4))
+                if gnu_property["pr_type"] in FEATURE_1_AND and has_features:
                     raise ValueError(
                         "the file is marked for IBT, SHSTK, BTI or GCS, which this code does not "
                         "support: link without -z ibt, -z shstk, -z force-bti"

@@ -15,7 +15,7 @@ MACHINES = {
 IMAGE_REL_BASED_ABSOLUTE = pefile.RELOCATION_TYPE["IMAGE_REL_BASED_ABSOLUTE"]
 IMAGE_DIRECTORY_ENTRY_IAT = pefile.DIRECTORY_ENTRY["IMAGE_DIRECTORY_ENTRY_IAT"]
 IMAGE_SYM_CLASS_EXTERNAL, IMAGE_SYM_CLASS_STATIC = 2, 3
-IMAGE_SYMBOL = struct.Struct("<8sIhHBB")
+IMAGE_SYMBOL = struct.Struct("<8sIhHBB")  # of winnt.h, with these fields
 ImageSymbol = namedtuple(
     "ImageSymbol", "Name Value SectionNumber Type StorageClass NumberOfAuxSymbols"
 )
@@ -44,6 +44,7 @@ def _relocated(file):
     for block in getattr(file, "DIRECTORY_ENTRY_BASERELOC", ()):
         for entry in block.entries:
             if entry.type != IMAGE_REL_BASED_ABSOLUTE:
+                # IMAGE_REL_BASED_DIR64 has 8 bytes, and no other kind has more.
                 relocated |= {*range(entry.rva, entry.rva + 8)}
     return relocated
 

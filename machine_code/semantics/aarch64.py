@@ -34,10 +34,11 @@ from semantics.lanes import (
     sum_flags,
     table_lookup,
 )
-from solver.questions import public, require
+from solver.queries import public, require
 
-# An address, registers in braces, or anything else without a comma.
+# One operand: an address, registers in braces, or anything else without a comma.
 OPERAND = re.compile(r"\[[^]]*\]!?|\{[^}]*\}(?:\[\d+\])?|[^,\s][^,]*")
+# The bytes of a lane, or of a scalar vector register, by its letter.
 SIZES = {"b": 1, "h": 2, "s": 4, "d": 8, "q": 16}
 ADRP_IMMEDIATE = 0x60FFFFE0  # the bits of immlo and immhi
 # The number of a general register, but not of x18, the platform register.
@@ -89,16 +90,16 @@ def _is_adrp_of_target(instruction, encoding, reassembled):
     immlo = code >> 29 & 3
     immhi = code >> 5 & 0x7FFFF
     pages = immhi << 2 | immlo
-    signed_pages = pages - (pages >> 20 << 21)
+    signed_pages = pages - (pages >> 20 << 21)  # sign-extended from 21 bits
     target = (instruction.address >> 12) + signed_pages << 12
     is_same = (code ^ without_page) & ~ADRP_IMMEDIATE == 0
     return is_same and instruction.operands[1].value == target
 
 
-def instructions(code, part, level):
-    """The instructions of a part of a file, by their addresses."""
+def instructions(code, code_range, level):
+    """The instructions of a range of code, its address and bytes, by their addresses."""
     return assembled.disassemble_and_check(
-        part,
+        code_range,
         AARCH64,
         _parse_operands,
         command=["aarch64-linux-gnu-as", "-march=armv8-a"],
@@ -123,7 +124,7 @@ class State(CommonState):
     ARGUMENT_REGISTERS = tuple(f"x{number}" for number in range(8))
     RESULT_REGISTERS, BOOL_BITS = ("x0", "x1"), 32
     CALLEE_SAVED = "sp", *(f"x{number}" for number in range(19, 30))
-    CALLEE_SAVED_VECTORS = dict.fromkeys(range(8, 16), 8)
+    CALLEE_SAVED_VECTORS = dict.fromkeys(range(8, 16), 8)  # d8 to d15
     IS_TWO_ADDRESS = False  # whether the destination operand is also the first source
 
     def enter(self):
@@ -360,7 +361,7 @@ def adr(state, dest, target):
 # Branches
 def branch_and_link(state, target):
     """A call: the return address goes to x30."""
-    state.general["x30"] = state.return_to(state.next)
+    state.general["x30"] = state.symbolic_return_address(state.next)
     return target.value
 
 

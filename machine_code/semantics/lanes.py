@@ -7,7 +7,7 @@ import z3
 
 from execution.paths import Branch
 from execution.terms import bv8, bytes_le, concat_le, simplify, table_entry
-from solver.questions import require
+from solver.queries import require
 
 
 @dataclass

@@ -24,7 +24,7 @@ from semantics.lanes import (
     zero_extended,
 )
 from semantics.webassembly_blocks import instructions  # as each processor has it
-from solver.questions import Rejected, free_constants, is_public, is_public_name, public, require
+from solver.queries import Rejected, free_constants, is_public, is_public_name, public, require
 
 MEMORY_SIZE = 1 << 16  # one page
 
@@ -109,19 +109,21 @@ class State(CommonState):
     # Calls by a contract
     def arguments(self, count):
         """The first `count` arguments, at the first instruction of a function."""
-        return [self.exact_i32(self.general[self.local(index)]) for index in range(count)]
+        return [
+            self.zero_extended_i32(self.general[self.local_name(index)]) for index in range(count)
+        ]
 
     return_address = pop_frame
 
     def havoc_registers(self):
         """A callee changes no local or operand of its caller."""
 
-    # Registers: globals, and locals and operands of the function that runs
-    def local(self, number):
+    # Registers: the globals, and the locals and the operand stack of the function that runs
+    def local_name(self, number):
         """The name of a local."""
         return f"local {self.address // FUNCTION_SPACING}.{number}"
 
-    def operand(self, height):
+    def operand_name(self, height):
         """The name of the operand at a height of the operand stack."""
         return f"operand {self.address // FUNCTION_SPACING}.{height}"
 
@@ -142,12 +144,12 @@ class State(CommonState):
         """Removes a register, and returns its value."""
         return (self.vectors if name in self.vectors else self.general).pop(name)
 
-    def exact_i32(self, term):
+    def zero_extended_i32(self, term):
         """An i32, zero-extended."""
         extended = simplify(z3.ZeroExt(32, z3.Extract(31, 0, term)))
-        return term if extended.eq(term) or self.fits(term) else extended
+        return term if extended.eq(term) or self.is_upper_half_zero(term) else extended
 
-    def fits(self, term):
+    def is_upper_half_zero(self, term):
         """Whether the upper half of a term is 0."""
         return self.is_valid(z3.ULT(term, 1 << 32))
 
@@ -160,7 +162,7 @@ class State(CommonState):
         return super()._locate(address, count, aligned)
 
 
-# A handler gets the state, the height of the operand stack, the immediates, and the targets.
+# A handler gets the state, the height of the operand stack, the immediates, and the branch targets.
 HANDLERS = {}
 # The types of the operands that an instruction pops, and the number of those that it pushes. A type
 # is i for an i32, n for an i32 that has to be zero-extended, l for an i64, and v for a v128.
@@ -183,11 +185,11 @@ def define(name, operand_types, function, result_count=1):
         lowest = height - len(operand_types)
         operands = []
         for index, type_ in enumerate(operand_types, lowest):
-            operand = state.pop(state.operand(index))
-            operands.append(state.exact_i32(operand) if type_ == "n" else operand)
+            operand = state.pop(state.operand_name(index))
+            operands.append(state.zero_extended_i32(operand) if type_ == "n" else operand)
         result = function(state, immediates, *operands)
         if result_count:
-            state.put(state.operand(lowest), result)
+            state.put(state.operand_name(lowest), result)
 
     HANDLERS[name] = handler
     STACK_EFFECTS[name] = operand_types, result_count
@@ -244,26 +246,26 @@ define("v128.const", "", lambda state, immediates: immediates)
 
 
 # Variables
-def get_variable(name):
-    """Pushes the value of a local or a global."""
+def get_variable(name_of):
+    """Pushes the value of a local or a global, whose register a function names."""
 
     def handler(state, height, immediates, targets):
-        state.put(state.operand(height), state.get(name(state, *immediates)))
+        state.put(state.operand_name(height), state.get(name_of(state, *immediates)))
 
     return handler
 
 
-def set_variable(name, pop_or_get):
+def set_variable(name_of, pop_or_get):
     """Sets a local or a global to the operand on top, which is popped or kept."""
 
     def handler(state, height, immediates, targets):
-        value = pop_or_get(state, state.operand(height - 1))
-        state.put(name(state, *immediates), value)
+        value = pop_or_get(state, state.operand_name(height - 1))
+        state.put(name_of(state, *immediates), value)
 
     return handler
 
 
-def global_(state, number):
+def global_name(state, number):
     """The name of a global."""
     return f"global {number}"
 
@@ -271,13 +273,13 @@ def global_(state, number):
 # Control
 def br_if(state, height, immediates, targets):
     """A conditional branch."""
-    condition = state.exact_i32(state.pop(state.operand(height - 1))) != 0
+    condition = state.zero_extended_i32(state.pop(state.operand_name(height - 1))) != 0
     return Branch(simplify(condition), targets[0])
 
 
 def br_table(state, height, immediates, targets):
     """A branch by an index; the last target is the default."""
-    index = state.exact_i32(state.pop(state.operand(height - 1)))
+    index = state.zero_extended_i32(state.pop(state.operand_name(height - 1)))
     *labels, default = targets
     require(state.is_declassified or is_public(index), "a branch depends on bytes that are secret")
     cases = [(index == number, target) for number, target in enumerate(labels)]
@@ -287,8 +289,8 @@ def br_table(state, height, immediates, targets):
 def select(state, height, immediates, targets):
     """Counts as a branch, since an engine may compile it to one: it runs again on the two paths,
     where the condition is known. The contract may exempt bytes of the input from that."""
-    operands = [state.operand(height - below) for below in (3, 2, 1)]
-    condition = simplify(state.exact_i32(state.get(operands[-1])) != 0)
+    operands = [state.operand_name(height - below) for below in (3, 2, 1)]
+    condition = simplify(state.zero_extended_i32(state.get(operands[-1])) != 0)
     is_known = any(state.is_valid(condition == truth) for truth in (True, False))
     if not is_known and not _may_decide_select(state, condition):
         state.next = state.address
@@ -299,7 +301,7 @@ def select(state, height, immediates, targets):
 
 def _may_decide_select(state, condition):
     """Whether the contract allows that the secrets in a condition decide a `select`."""
-    offsets = {byte.decl().name(): offset for offset, byte in state.input.values()}
+    offsets = {byte.decl().name(): offset for offset, byte in state.input_bytes.values()}
     secrets = [name for name in free_constants(condition) if not is_public_name(name)]
     return secrets and all(
         name in offsets and state.contract.may_decide_select(state, offsets[name])
@@ -311,15 +313,15 @@ def call(state, height, immediates, targets):
     """A call of a function of the module."""
     function = state.code.image.functions[immediates[0]]
     lowest = height - len(function.parameters)
-    arguments = [state.pop(state.operand(index)) for index in range(lowest, height)]
-    state.enter_function(function, arguments, state.return_to(state.next))
+    arguments = [state.pop(state.operand_name(index)) for index in range(lowest, height)]
+    state.enter_function(function, arguments, state.symbolic_return_address(state.next))
     return function.address
 
 
 def return_(state, height, immediates, targets):
     """Passes the result, if there is one, to the caller, and returns."""
     if state.code.image.code_at(state.address).results:
-        state.put("result", state.pop(state.operand(height - 1)))
+        state.put("result", state.pop(state.operand_name(height - 1)))
     return state.pop_frame()
 
 
@@ -329,18 +331,18 @@ def trap(state, *operands):
 
 
 HANDLERS |= {
-    "local.get": get_variable(State.local),
-    "local.set": set_variable(State.local, State.pop),
-    "local.tee": set_variable(State.local, State.get),
-    "global.get": get_variable(global_),
-    "global.set": set_variable(global_, State.pop),
+    "local.get": get_variable(State.local_name),
+    "local.set": set_variable(State.local_name, State.pop),
+    "local.tee": set_variable(State.local_name, State.get),
+    "global.get": get_variable(global_name),
+    "global.set": set_variable(global_name, State.pop),
     "br": lambda state, height, immediates, targets: targets[0],
     "br_if": br_if,
     "br_table": br_table,
     "select": select,
     "call": call,
     # Not an instruction of the module: it follows a call, and pushes the result.
-    "result": lambda state, height, *_: state.put(state.operand(height), state.pop("result")),
+    "result": lambda state, height, *_: state.put(state.operand_name(height), state.pop("result")),
     "return": return_,
     "unreachable": trap,
 }

@@ -13,10 +13,11 @@ import z3
 
 from execution.terms import bytes_le
 from reading.assembled import Instruction
-from solver.questions import require
+from solver.queries import require
 
 # The height of the operand stack before an instruction, its immediates, and the targets of a branch.
 Operands = namedtuple("Operands", "height immediates targets")
+# After these, control does not fall through to the next instruction.
 NO_FALL_THROUGH = ("br", "br_table", "return", "unreachable")
 
 
@@ -36,16 +37,17 @@ class FunctionDecoder:
     def __init__(self, code, function):
         self.code, self.function = code, function
         self.decoded = []
-        function_label = Label(len(function.results))
+        function_label = Label(height=len(function.results))
         self.labels = [function_label]
         self.height = 0
         self.is_reachable = True
-        *body, end = function.body
+        # The last line is the return at the end of the function.
+        *body, implicit_return = function.body
         for text in body:
             self.read(text, *text.split())
         require(self.labels == [function_label], "an unsupported kind of block")
         self.end_block()
-        self.read(end, end)
+        self.read(implicit_return, implicit_return)
 
     def address(self):
         """The address of the next instruction."""
@@ -81,7 +83,7 @@ class FunctionDecoder:
             targets = [Label(0, callee.address)]
         if mnemonic.startswith("br"):
             targets = [self.labels[-1 - depth] for depth in immediates]
-        below = self.height - len(operand_types)
+        below = self.height - len(operand_types)  # the height without the operands
         for label in targets:
             # A branch would drop operands below the result, which changes the result's height.
             is_at_height = label is not self.labels[0] or below == label.height

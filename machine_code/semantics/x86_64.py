@@ -27,7 +27,7 @@ from semantics.lanes import (
     sum_flags,
 )
 from semantics.x86_64_vectors import VECTOR_HANDLERS
-from solver.questions import public, require
+from solver.queries import public, require
 
 # The instruction sets of the x86-64 psABI's microarchitecture levels, for GNU as.
 V2 = "generic64+cx16+popcnt+sse3+ssse3+sse4.1+sse4.2"
@@ -36,13 +36,14 @@ LEVELS = {"v3": f"{V2}+xsave+avx+avx2+bmi+bmi2+f16c+fma+lzcnt+movbe", "dispatch"
 # The multi-byte nops that assemblers pad with. Their text is assembled to other bytes.
 NOPS = "0f1f4000 0f1f440000 660f1f440000 0f1f8000000000 0f1f840000000000 660f1f840000000000".split()
 NOPS += ["66" * count + "2e0f1f840000000000" for count in range(1, 7)]
+# The bytes of an operand in memory, by the keyword before `PTR`.
 SIZES = {"BYTE": 1, "WORD": 2, "DWORD": 4, "QWORD": 8, "XMMWORD": 16, "YMMWORD": 32}
-# The names of the lowest 8, 4, 2 bytes, and of the lowest byte, of each register.
+# The names of each register: of its 8 bytes, and of its lowest 4, 2 and 1.
 REGISTERS = [(f"r{n}", f"r{n}d", f"r{n}w", f"r{n}b") for n in range(8, 16)]
 REGISTERS += [
     (f"r{n}", f"e{n}", n, f"{n.removesuffix('x')}l") for n in "ax bx cx dx si di bp sp".split()
 ]
-# The register of each name, and the number of its bytes.
+# The register that each of these names is a part of, and the number of bytes.
 SUBREGISTERS = {
     name: (names[0], size) for names in REGISTERS for name, size in zip(names, (8, 4, 2, 1))
 }
@@ -94,12 +95,12 @@ def _is_padding_nop(instruction, encoding, reassembled):
     return instruction.mnemonic == "nop" and encoding.hex() in NOPS
 
 
-def instructions(code, part, level):
-    """The instructions of a part of a file, by their addresses. The assembler rejects an
-    instruction that a CPU of the microarchitecture level may lack.
+def instructions(code, code_range, level):
+    """The instructions of a range of code, its address and bytes, by their addresses. The assembler
+    rejects an instruction that a CPU of the microarchitecture level may lack.
     """
     return assembled.disassemble_and_check(
-        part,
+        code_range,
         X86_64,
         _parse_operands,
         command=["as", "--64", "-msyntax=intel", "-mnaked-reg", f"-march={LEVELS.get(level, V2)}"],
@@ -129,7 +130,7 @@ class State(CommonState):
     def enter(self):
         """Sets what a call sets: the stack pointer, and the return address."""
         self.general["rsp"] = simplify(self.regions["stack"].base + self.STACK_SIZE)
-        self.put_cells("stack", self.STACK_SIZE, bytes_le(public("return", 64)))
+        self.put_object_bytes("stack", self.STACK_SIZE, bytes_le(public("return", 64)))
         self.is_legacy_sse = False
 
     def return_address(self):
@@ -324,7 +325,7 @@ def jump(state, target):
 
 def call(state, target):
     """A direct call: it pushes the return address."""
-    push_bytes(state, bytes_le(state.return_to(state.next)))
+    push_bytes(state, bytes_le(state.symbolic_return_address(state.next)))
     return direct_target(target)
 
 

@@ -13,7 +13,7 @@ from semantics.lanes import (
     saturate_to_bytes,
     zero_extended,
 )
-from solver.questions import require
+from solver.queries import require
 
 
 def legacy_or_vex(handler):

@@ -1,7 +1,7 @@
 """Translates conditions on bit-vectors (QF_BV) to equivalent conditions on integers (QF_LIA).
 
 If a translation were wrong, z3's answer would say nothing about the code, and a wrong access or a
-wrong length could be accepted. test_questions.py compares both on random terms.
+wrong length could be accepted. test_queries.py compares both on random terms.
 """
 
 from operator import eq, ge, gt, le, lt
@@ -21,7 +21,9 @@ RELATIONS = {
     z3.Z3_OP_UGEQ: ge,
     z3.Z3_OP_EQ: eq,
 }
-NARROW = 16  # bits: up to this size a sum is always reduced, without a query whether that is needed
+NARROW_BITS = (
+    16  # A sum of at most this size is always reduced, without a query whether it overflows.
+)
 
 
 class Facts:
@@ -31,8 +33,8 @@ class Facts:
 
     def __init__(self, is_unsatisfiable):
         self.conditions = []
-        self.ranges = {}  # of the constants, by the ids of their terms in z3
-        self.sums = {}  # translations, by the ids of their terms in z3
+        self.ranges = {}  # the conditions for the ranges of constants, by the ids of these in z3
+        self.sums = {}  # the translations of sums and products, by the ids of their terms in z3
         self._is_unsatisfiable = is_unsatisfiable
 
     def with_fact(self, fact):
@@ -91,7 +93,7 @@ class Facts:
         modulus = 1 << term.size()
         if term.get_id() not in self.sums:
             overflows = z3.Or(number < 0, number >= modulus)
-            never_overflows = term.size() > NARROW and self._is_unsatisfiable(
+            never_overflows = term.size() > NARROW_BITS and self._is_unsatisfiable(
                 [*self.ranges.values(), *self.conditions, overflows]
             )
             self.sums[term.get_id()] = number if never_overflows else number % modulus

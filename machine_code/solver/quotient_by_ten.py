@@ -11,8 +11,8 @@ from collections import namedtuple
 
 import z3
 
-from solver import cvc5, questions
-from solver.questions import require
+from solver import cvc5, queries
+from solver.queries import require
 
 FACTOR = 0xCCCCCCCCCCCCCCCD
 
@@ -23,7 +23,7 @@ Quotient = namedtuple("Quotient", "number quotient low_bits maximum")
 _quotients = {}
 
 
-def lemma(factor=FACTOR):
+def negated_lemma(factor=FACTOR):
     """The negated lemma, which is unsatisfiable: the upper half of x * factor, shifted right by
     three, is the quotient of x by ten."""
     x, lower_half = z3.Ints("x lower_half")
@@ -39,8 +39,8 @@ def lemma(factor=FACTOR):
 @functools.cache
 def prove():
     """Proves the lemma with both solvers."""
-    conditions = lemma()
-    require(questions.is_unsatisfiable_in_integers(conditions), "the quotient by ten is not proved")
+    conditions = negated_lemma()
+    require(queries.is_unsatisfiable_in_integers(conditions), "the quotient by ten is not proved")
     require(
         not cvc5.disagreements([("QF_LIA", conditions)]), "cvc5 does not prove the quotient by ten"
     )
@@ -52,7 +52,7 @@ def quotient_of(number):
     prove()
     number_id = number.get_id()
     if number_id not in _quotients:
-        constant = questions.public if questions.is_public(number) else questions.secret
+        constant = queries.public if queries.is_public(number) else queries.secret
         _quotients[number_id] = Quotient(
             number,
             quotient=constant(f"quotient_{number_id}", 61),

@@ -21,7 +21,7 @@ from execution.paths import step
 from execution.terms import bv64, bv8, simplify
 from semantics import webassembly
 from semantics.webassembly import STACK_EFFECTS
-from solver.questions import public, require, secret
+from solver.queries import public, require, secret
 from build import MODULE, linked_module, run
 
 RUN = pathlib.Path(__file__).with_name("run.mjs")
@@ -35,7 +35,7 @@ BYTE_TERMS = [bv8(value) for value in range(256)]
 # conditional term where the contract allows that.
 UNKNOWN_BYTES = {200: public("choice", 8), 201: secret("secret_choice", 8)}
 WASM_TYPES = {"i": "i32", "n": "i32", "l": "i64", "v": "v128"}
-# Control instructions and variables, which FUNCTIONS tests.
+# Control instructions and those of variables, which the functions below test.
 CONTROL = """br br_if br_table call result return unreachable select
     local.get local.set local.tee global.get global.set""".split()
 FUNCTIONS = """
@@ -77,6 +77,7 @@ FUNCTIONS = """
 
 
 def _function(name, text):
+    """A function that loads the operands of an instruction, runs it, and stores its result."""
     mnemonic = text.split()[0]
     operands = " ".join(
         f"i32.const {16 * index} {WASM_TYPES[kind]}.load"
@@ -180,7 +181,7 @@ class ModuleInNode:
             callable_arguments=(),
         )
         state.before = before
-        state.input = {offset: (offset, name) for offset, name in UNKNOWN_BYTES.items()}
+        state.input_bytes = {offset: (offset, name) for offset, name in UNKNOWN_BYTES.items()}
         state.memory = [*before]
         state.general = {"global 0": bv64(self.code.image.globals[0])}
         state.address = self.code.image.symbols[name]

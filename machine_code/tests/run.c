@@ -43,10 +43,10 @@ static void patch(unsigned char *code, const unsigned char *bytes) {
 static void patch_jump(unsigned char *from, const unsigned char *to) {
 #ifdef __x86_64__
   int32_t displacement = (int32_t)(to - from - JUMP_SIZE);
-  unsigned char jump[JUMP_SIZE] = {0xE9};
+  unsigned char jump[JUMP_SIZE] = {0xE9}; /* jmp rel32 */
   memcpy(jump + 1, &displacement, 4);
 #else
-  uint32_t code = 0x14000000 | ((uint32_t)((to - from) / 4) & 0x3FFFFFF);
+  uint32_t code = 0x14000000 | ((uint32_t)((to - from) / 4) & 0x3FFFFFF); /* b imm26 */
   unsigned char jump[JUMP_SIZE];
   memcpy(jump, &code, 4);
 #endif

@@ -1,5 +1,6 @@
 // enter(state): loads the registers, jumps to the code, and saves the registers where the code jumps back. A state has 31
-// general registers, the stack pointer, 32 vectors, the flags, and whether a jump was taken.
+// general registers, the stack pointer, 32 vectors, the flags, and whether a jump was taken. `host` has the registers of
+// the caller. tpidr_el0, which the code does not use, keeps x0 until there is a register for the address of the state.
         .section .stubs, "awx"
         .globl enter, jump_to_code, not_taken, taken
         .macro each_register instruction
@@ -15,7 +16,7 @@ host_tpidr: .quad 0
 host:   .skip 256 + 512
 enter:  adr x1, state
         mrs x2, tpidr_el0
-        stp x0, x2, [x1]
+        stp x0, x2, [x1]        // state, host_tpidr
         adr x0, host
         mov x2, sp
         str x2, [x0, #248]

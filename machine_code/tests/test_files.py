@@ -19,22 +19,24 @@ from build import (
 )
 from contracts.names import FUNCTIONS
 from execution import proofs
-from reading import library
+from reading import image, library
 
+# Version scripts for the linker, and assembly.
 VERSIONS = "V1 { global: const_hex_*; local: *; };"
-UNSHARED = "V1 { global: const_hex_*; local: const_hex_check_raw; };"
+ONE_HIDDEN = "V1 { global: const_hex_*; local: const_hex_check_raw; };"
 OLD_VERSION = ".globl other; .symver other, const_hex_check@V0; other: ret"
 TEXT_RELOCATION = ".data; value: .quad 0; .text; .quad value"
 
 
-def so(*options, **how):
+# Each of these functions returns one that builds a file in a folder.
+def shared_library(*options, compiler=X86_64):
     """Builds the shared library with options of the linker."""
-    return lambda folder: shared(folder, *options, **how)
+    return lambda folder: shared(folder, *options, compiler=compiler)
 
 
-def program(*options, **how):
+def program(*options, compiler=(X86_64,)):
     """Builds a program with the static library."""
-    return lambda folder: build.program(folder, *options, **how)
+    return lambda folder: build.program(folder, *options, compiler=compiler)
 
 
 def with_source(text, *options, script=""):
@@ -49,7 +51,7 @@ def with_source(text, *options, script=""):
     return make
 
 
-def after(*command, of=so()):
+def after(*command, of=shared_library()):
     """Builds a file that a command modifies. Its last argument is the file's name."""
 
     def make(folder):
@@ -73,23 +75,30 @@ def importer(folder):
     return built(X86_64, "main.c", "libconst_hex.so", folder=folder)
 
 
-RUNPATH = "patchelf", "--set-rpath", "/a/path/that/is/longer/than/any/space/that/a/linker/leaves"
-ARM_SO = so(compiler=AARCH64)
+SET_RUNPATH = (
+    "patchelf",
+    "--set-rpath",
+    "/a/path/that/is/longer/than/any/space/that/a/linker/leaves",
+)
+AARCH64_LIBRARY = shared_library(compiler=AARCH64)
 HONEST = {
-    "a library": so(),
-    **{f"a library by {linker}": so(f"-fuse-ld={linker}") for linker in ("gold", "lld", "mold")},
-    "a library with packed relocations": so("-Wl,-z,pack-relative-relocs"),
-    "a library with unique symbols": so("-Wl,-z,unique-symbol"),
+    "a library": shared_library(),
+    **{
+        f"a library by {linker}": shared_library(f"-fuse-ld={linker}")
+        for linker in ("gold", "lld", "mold")
+    },
+    "a library with packed relocations": shared_library("-Wl,-z,pack-relative-relocs"),
+    "a library with unique symbols": shared_library("-Wl,-z,unique-symbol"),
     "symbol versions": with_source("", script=VERSIONS),
-    "default symbol versions": so("-Wl,--default-symver"),
-    "patchelf": after(*RUNPATH),
+    "default symbol versions": shared_library("-Wl,--default-symver"),
+    "patchelf": after(*SET_RUNPATH),
     "a program": program(),
     "a program without PIE": program("-no-pie"),
     "a static program with PIE": program("-static-pie"),
     "a program by lld": program("-fuse-ld=lld", "-Wl,--icf=all"),
     "a program by mold": program("-fuse-ld=mold", "-Wl,-z,lazy"),
-    "AArch64": ARM_SO,
-    "AArch64 and patchelf": after(*RUNPATH, of=ARM_SO),
+    "AArch64": AARCH64_LIBRARY,
+    "AArch64 and patchelf": after(*SET_RUNPATH, of=AARCH64_LIBRARY),
     "a program for AArch64 by lld": program("-fuse-ld=lld", compiler=CLANG),
     "a program for AArch64 by mold": program("-fuse-ld=mold", compiler=CLANG),
     "macOS on x86-64": lambda folder: for_macos(folder, "x86_64"),
@@ -105,16 +114,16 @@ MISTAKES = {
         after("objcopy", "--only-keep-debug"),
         "a separate debug file: prove the file that runs",
     ),
-    "writable code": (so("-Wl,-N"), "writable and executable segment: link without -N"),
+    "writable code": (shared_library("-Wl,-N"), "writable and executable segment: link without -N"),
     "text relocations": (with_source(TEXT_RELOCATION, "-Wl,-z,notext"), "compile .* with -fPIC"),
-    "IBT": (so("-Wl,-z,ibt"), "link without -z ibt"),
-    "BTI": (so("-Wl,-z,force-bti", compiler=AARCH64), "link without .* -z force-bti"),
+    "IBT": (shared_library("-Wl,-z,ibt"), "link without -z ibt"),
+    "BTI": (shared_library("-Wl,-z,force-bti", compiler=AARCH64), "link without .* -z force-bti"),
     "pages of 4 KB": (
-        so("-Wl,-z,max-page-size=4096", compiler=AARCH64),
+        shared_library("-Wl,-z,max-page-size=4096", compiler=AARCH64),
         "link with -z max-page-size=65536",
     ),
     "a function that is not exported": (
-        with_source("", script=UNSHARED),
+        with_source("", script=ONE_HIDDEN),
         "the loader does not find const_hex_check_raw: export",
     ),
     "two versions of a function": (
@@ -147,13 +156,13 @@ MISTAKES = {
 
 @pytest.mark.parametrize("make", HONEST.values(), ids=HONEST)
 def test_honest_builds_are_read(make, tmp_path):
-    file, contracts = proofs.functions_to_prove(make(tmp_path).read_bytes())
+    file, functions = proofs.functions_to_prove(make(tmp_path).read_bytes())
+    is_x86_64 = file.machine == image.X86_64
     assert {f"const_hex_{name}" for name in FUNCTIONS} <= file.symbols.keys()
-    assert len(contracts) == (45 if file.machine == 62 else 37)
-    assert all(file.code_at(file.symbols[name]) for name, _ in contracts)
-    assert [file.is_dispatch_byte(address) for address in file.dispatch_bytes] == [True] * (
-        file.machine == 62
-    )
+    assert len(functions) == (45 if is_x86_64 else 37)
+    assert all(file.code_at(file.symbols[symbol]) for symbol, _ in functions)
+    dispatch_bytes = [file.is_dispatch_byte(address) for address in file.dispatch_bytes]
+    assert dispatch_bytes == [True] * is_x86_64
 
 
 def test_symbols_of_debug_information_have_no_address(tmp_path):

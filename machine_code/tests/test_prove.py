@@ -13,7 +13,7 @@ from contracts.library import FUNCTIONS
 from contracts.messages import MESSAGES
 from execution import proofs
 from reading import library
-from solver.questions import Rejected
+from solver.queries import Rejected
 
 FOLDER = pathlib.Path(__file__).resolve().parents[1]
 # A kernel that calls a local function, which never returns, for an invalid character.
@@ -48,7 +48,7 @@ def prove(monkeypatch, capsys):
             return 1
 
         monkeypatch.setattr(proofs, "prove", prove)
-        monkeypatch.setattr(proofs.questions, "unsat_queries", [])
+        monkeypatch.setattr(proofs.queries, "unsat_queries", [])
         monkeypatch.setattr(sys, "argv", ["prove", *map(str, arguments)])
         return script.main(), capsys.readouterr().out
 
@@ -77,7 +77,7 @@ def test_last_line(arguments, wrong, last, prove, tmp_path):
 def test_callees_are_proved(tmp_path):
     """Each function with a summary is among those that are proved."""
     file, functions = proofs.functions_to_prove(shared(tmp_path).read_bytes())
-    contracts = [(symbol, proofs.CONTRACTS[number]) for symbol, number in functions]
+    contracts = [(symbol, proofs.CONTRACTS[index]) for symbol, index in functions]
     called = {
         name
         for symbol, contract in contracts

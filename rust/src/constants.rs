@@ -68,7 +68,7 @@ pub const fn bytes_of<const N: usize>(text: &[u8]) -> [u8; N] {
 #[track_caller]
 const fn panic_at(position: usize) -> ! {
     let mut message = *b"invalid character at position                     ";
-    let (mut end, mut power) = (30, 1);
+    let (mut end, mut power) = (30, 1); // where the digits of the position begin
     while position / power > 9 {
         power *= 10;
     }

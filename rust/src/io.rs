@@ -86,10 +86,10 @@ impl<R: Read> Read for DecodeReader<R> {
 /// assert_eq!(writer.finish()?, b"6b697769");
 /// # Ok::<(), std::io::Error>(())
 /// ```
+// Not over the proved `WriteSink`, which keeps its first error: a call of the inner writer may be repeated after one.
 #[derive(Debug)]
 pub struct EncodeWriter<W: Write>(BufWriter<W>);
 
-// Not over the proved `WriteSink`, which keeps its first error: a call of the inner writer may be repeated after one.
 /// The number of bytes that are encoded at a time.
 const CHUNK: usize = 256;
 

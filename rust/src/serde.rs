@@ -65,7 +65,7 @@ macro_rules! define_deserializer {
     };
 }
 
-/// Defines the functions of a module, which write a prefix or none, and deserialize by a trait.
+/// Defines the functions of a module, which write a prefix or none, and deserialize by a trait. The strings say so.
 macro_rules! define_functions {
     ($prefix:literal $written:literal, $from_hex:path: $read:literal) => {
         define_serializers! {

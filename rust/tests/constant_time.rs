@@ -10,18 +10,18 @@ use std::collections::BTreeSet;
 use std::process::Command;
 use valgrind::{black_box, request};
 
-/// What depends on a secret in a call.
+/// What a call leaks by its timing: what depends on a secret in it.
 #[derive(Clone, Copy, Debug, PartialEq)]
-enum Found {
+enum Leak {
     Nothing,
-    /// Jumps in the kernel by machine code, or one jump in portable code: whether the text is valid.
+    /// Whether the text is valid: jumps in the machine code's kernel, or one jump in portable code.
     Validity,
     /// Other jumps.
     Jumps,
     /// Addresses, and perhaps jumps.
     Addresses,
 }
-use Found::*;
+use Leak::*;
 
 /// Bytes, their text, and space for as long a text.
 struct Data {
@@ -30,17 +30,17 @@ struct Data {
     output: Vec<u8>,
 }
 
-/// A call by its source text, and what is found in it.
-type Row = (&'static str, Found, fn(&mut Data));
+/// The source text of a call, what it may leak, and the call.
+type Case = (&'static str, Leak, fn(&mut Data));
 
-/// Rows of calls, whose results are kept.
-macro_rules! rows {
-    ($data:ident: $($call:expr => $found:expr;)+) => {
-        [$((stringify!($call), $found, |$data| { let _ = black_box($call); }),)+]
+/// The cases of some calls, whose results are not optimized away.
+macro_rules! cases {
+    ($data:ident: $($call:expr => $leak:expr;)+) => {
+        [$((stringify!($call), $leak, |$data| { let _ = black_box($call); }),)+]
     };
 }
 
-const ROWS: [Row; 7] = rows! { data:
+const CASES: [Case; 7] = cases! { data:
     secret::encode(&data.bytes) => Nothing;
     secret::encode_upper(&data.bytes) => Nothing;
     secret::encode_to_slice(&data.bytes, &mut data.output) => Nothing;
@@ -53,18 +53,18 @@ const ROWS: [Row; 7] = rows! { data:
 };
 
 #[test]
-fn secrets() {
-    for (name, expected, _) in ROWS {
-        let (found, locations) = found_in(name);
-        assert_eq!(found, expected, "{name}: {locations:#?}");
+fn leaks() {
+    for (name, expected, _) in CASES {
+        let (leak, locations) = leak_of(name);
+        assert_eq!(leak, expected, "{name}: {locations:#?}");
     }
 }
 
-/// Makes the call that the variable has, at each length. This is what valgrind runs.
+/// Makes the call that the variable CONST_HEX_CALL names, at each length. This is what valgrind runs.
 #[test]
 fn call() {
     let name = std::env::var("CONST_HEX_CALL").unwrap_or_default();
-    if let Some((_, _, call)) = ROWS.iter().find(|row| row.0 == name) {
+    if let Some((_, _, call)) = CASES.iter().find(|case| case.0 == name) {
         for length in 0..=MAX_LENGTH {
             let bytes: Vec<u8> = (0..length).map(|at| (at * 73 + length) as u8).collect();
             let text = secret::encode(&bytes).into_bytes();
@@ -85,7 +85,7 @@ const MAX_LENGTH: usize = 200;
 
 /// What depends on a secret in a run of this program that makes the call, with the lines that valgrind prints: in pairs
 /// what it is, and where.
-fn found_in(call: &str) -> (Found, BTreeSet<String>) {
+fn leak_of(call: &str) -> (Leak, BTreeSet<String>) {
     let output = Command::new("valgrind")
         .args(["--quiet", "--error-limit=no", "--num-callers=1"])
         .arg(std::env::current_exe().unwrap())
@@ -107,14 +107,14 @@ fn found_in(call: &str) -> (Found, BTreeSet<String>) {
     let jumps = locations("Conditional jump");
     let is_in_kernel =
         |location: &String| location.contains(": const_hex_") && !location.contains("::");
-    let found = match cfg!(feature = "force-generic") {
+    let leak = match cfg!(feature = "force-generic") {
         _ if !addresses.is_empty() => Addresses,
         _ if jumps.is_empty() => Nothing,
         true if jumps.len() == 1 => Validity,
         false if jumps.iter().all(is_in_kernel) => Validity,
         _ => Jumps,
     };
-    (found, jumps.union(&addresses).cloned().collect())
+    (leak, jumps.union(&addresses).cloned().collect())
 }
 
 /// Marks these bytes as uninitialized.

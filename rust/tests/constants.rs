@@ -25,7 +25,7 @@ fn decoders() {
     }
 }
 
-/// The macro finds the length. Its constant has another name than any that the text is given by.
+/// The macro finds the length. Its own constant does not shadow the one that has the text.
 #[test]
 fn in_a_macro() {
     const DECODED: &str = "0X6B697769";

@@ -29,7 +29,7 @@ fn the_generated_source() {
     );
 }
 
-/// Source, and the error that it is.
+/// Source that is unsupported, and the error that the program reports.
 #[rustfmt::skip]
 const ERRORS: &[(&str, &str)] = &[
     // Syntax by which code would be deleted as part of a clause or of a comment, or a proof would be kept as code.
@@ -91,7 +91,7 @@ const ERRORS: &[(&str, &str)] = &[
     ("fn f() {\n    <T>::drop(1);\n}", "a type in brackets before a name: <T>::drop"),
 ];
 
-/// The same, in a module whose package or rules make it an error.
+/// The same, with the path of a module whose package or rules make it an error.
 #[rustfmt::skip]
 const ERRORS_IN: [(&str, &str, &str); 4] = [
     ("hexfilter/unknown", "fn f(x: &mut D) {\n    x.next_digits(y);\n}", "the call .next_digits"),

@@ -60,43 +60,43 @@ const COUNTS: [(&str, [[u64; 6]; 3]); 5] = [
     ),
 ];
 
-/// Calls with their lengths and their recorded counts.
-fn cells() -> Vec<(&'static str, usize, u64)> {
+/// Calls with their lengths and their recorded counts, on this target.
+fn cases() -> Vec<(&'static str, usize, u64)> {
     let column = match cfg!(feature = "force-generic") {
         true => 1,
         false => 2 * usize::from(cfg!(target_arch = "aarch64")),
     };
-    let mut cells = Vec::new();
+    let mut cases = Vec::new();
     for (call, counts) in COUNTS {
-        cells.extend((0..LENGTHS.len()).map(|index| (call, LENGTHS[index], counts[column][index])));
+        cases.extend((0..LENGTHS.len()).map(|index| (call, LENGTHS[index], counts[column][index])));
     }
     // Printing to a writer that returns an error at once encodes no more than a part of the bytes.
-    cells.push(("display", 1 << 20, [25_000, 500_000, 0][column]));
+    cases.push(("display", 1 << 20, [25_000, 500_000, 0][column]));
     // The search for an invalid character skips halves of the text: where the last is invalid, `check` takes at most three
     // times the instructions of valid text.
     let valid = [13_400, 393_300, 0][column];
-    cells.push(("check", 1 << 15, valid));
-    cells.push(("check, the last is invalid", 1 << 15, 3 * valid));
-    cells.retain(|(_, _, count)| *count > 0);
-    cells
+    cases.push(("check", 1 << 15, valid));
+    cases.push(("check, the last is invalid", 1 << 15, 3 * valid));
+    cases.retain(|(_, _, count)| *count > 0);
+    cases
 }
 
 /// Runs this test in a child process, in which the variable makes it repeat the calls.
 #[test]
 fn calls() {
-    let cells = cells();
+    let cases = cases();
     if env::var_os("CONST_HEX_CALLS").is_some() {
-        for (call, bytes, _) in cells {
-            valgrind::repeat(|times| make(call, bytes, times));
+        for (call, bytes, _) in cases {
+            valgrind::repeat(|times| repeat(call, bytes, times));
         }
         return;
     }
-    let counted = valgrind::instructions(cells.len(), |program| {
+    let counted = valgrind::instructions(cases.len(), |program| {
         program
             .args(["--exact", "calls", "--nocapture"])
             .env("CONST_HEX_CALLS", "1");
     });
-    for ((call, bytes, count), found) in cells.into_iter().zip(counted) {
+    for ((call, bytes, count), found) in cases.into_iter().zip(counted) {
         let is_within_limit = found > 0 && found <= count + count / 10;
         assert!(
             is_within_limit,
@@ -105,8 +105,8 @@ fn calls() {
     }
 }
 
-/// Repeats a call.
-fn make(call: &str, bytes: usize, times: usize) {
+/// Makes a call a number of times.
+fn repeat(call: &str, bytes: usize, times: usize) {
     let (mut data, mut text) = (vec![0xa5; bytes], vec![b'a'; 2 * bytes]);
     match call {
         "encode" => (0..times).for_each(|_| drop(black_box(hex::encode(black_box(&data))))),
@@ -117,8 +117,9 @@ fn make(call: &str, bytes: usize, times: usize) {
         }
         "decode_to_slice" => (0..times)
             .for_each(|_| hex::decode_to_slice(black_box(&text), black_box(&mut data)).unwrap()),
-        "display" => (0..times)
-            .for_each(|_| assert!(write!(Full, "{}", hex::display(black_box(&data))).is_err())),
+        "display" => (0..times).for_each(|_| {
+            assert!(write!(FailingWriter, "{}", hex::display(black_box(&data))).is_err())
+        }),
         _ => {
             let is_valid = call == "check";
             text[2 * bytes - 1] = if is_valid { b'a' } else { b'g' };
@@ -128,9 +129,9 @@ fn make(call: &str, bytes: usize, times: usize) {
 }
 
 /// A writer that always fails.
-struct Full;
+struct FailingWriter;
 
-impl Write for Full {
+impl Write for FailingWriter {
     fn write_str(&mut self, _: &str) -> Result {
         Err(Error)
     }

@@ -35,7 +35,8 @@ impl<T> Faulty<T> {
         }
     }
 
-    fn count(&mut self) -> io::Result<()> {
+    /// Counts a call, and returns its error, if it has to fail.
+    fn count_call(&mut self) -> io::Result<()> {
         self.calls += 1;
         match self.errors.iter().find(|(call, _)| *call == self.calls) {
             Some((_, kind)) => Err((*kind).into()),
@@ -46,7 +47,7 @@ impl<T> Faulty<T> {
 
 impl<T: Read> Read for Faulty<T> {
     fn read(&mut self, output: &mut [u8]) -> io::Result<usize> {
-        self.count()?;
+        self.count_call()?;
         let max_count = self.max_count.min(output.len());
         self.inner.read(&mut output[..max_count])
     }
@@ -54,7 +55,7 @@ impl<T: Read> Read for Faulty<T> {
 
 impl<T: Write> Write for Faulty<T> {
     fn write(&mut self, bytes: &[u8]) -> io::Result<usize> {
-        self.count()?;
+        self.count_call()?;
         self.inner.write(&bytes[..self.max_count.min(bytes.len())])
     }
 

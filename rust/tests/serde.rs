@@ -22,7 +22,7 @@ struct Fields {
 }
 
 #[test]
-fn all_forms() {
+fn options_and_vectors() {
     let text = r#"{"option":"0xdead","vec":["0x6b69","0x"],"strict":"6b","strict_option":"69","strict_vec":["6b","6977"]}"#;
     let fields = Fields {
         option: Some([0xDE, 0xAD]),
@@ -53,18 +53,18 @@ fn empty_fields() {
 /// The errors of options, of vectors, and of prefixes.
 #[test]
 fn errors_in_options_and_vectors() {
-    let (no_text, x_at_1) = (
+    let (not_text, x_at_1) = (
         "expected a hex encoded string",
         "invalid character 'x' at position 1",
     );
     for (field, error) in [
         (r#""option":"6b""#, "invalid string length"),
-        (r#""option":7"#, no_text),
+        (r#""option":7"#, not_text),
         (
             r#""vec":["6b","6g"]"#,
             "invalid character 'g' at position 1",
         ),
-        (r#""vec":["6b",null]"#, no_text),
+        (r#""vec":["6b",null]"#, not_text),
         (r#""strict":"0x6b""#, x_at_1),
         (r#""strict_option":"0x""#, x_at_1),
         (r#""strict_vec":["","0x6b"]"#, x_at_1),
@@ -90,9 +90,9 @@ fn strings_and_bytes() {
 }
 
 /// A format that is not self-describing: the deserializer has to be asked for a string.
-struct Untagged(&'static str);
+struct NotSelfDescribing(&'static str);
 
-impl<'de> Deserializer<'de> for Untagged {
+impl<'de> Deserializer<'de> for NotSelfDescribing {
     type Error = Error;
 
     fn deserialize_str<V: Visitor<'de>>(self, visitor: V) -> Result<V::Value, Error> {
@@ -110,6 +110,9 @@ impl<'de> Deserializer<'de> for Untagged {
 }
 
 #[test]
-fn a_format_without_types() {
-    assert_eq!(hexadecimal::deserialize(Untagged("6b69")), Ok(*b"ki"));
+fn a_format_that_is_not_self_describing() {
+    assert_eq!(
+        hexadecimal::deserialize(NotSelfDescribing("6b69")),
+        Ok(*b"ki")
+    );
 }

@@ -21,12 +21,12 @@ fn printing_with_a_width() {
 }
 
 /// A writer of limited capacity. Each call but the last has to pass 4096 characters, and none may follow a failed one.
-struct Limited {
+struct LimitedWriter {
     capacity: Option<usize>,
     is_last: bool,
 }
 
-impl Write for Limited {
+impl Write for LimitedWriter {
     fn write_str(&mut self, text: &str) -> std::fmt::Result {
         assert!(!self.is_last && text.len() <= 4096);
         self.is_last = text.len() < 4096;
@@ -41,7 +41,7 @@ impl Write for Limited {
 fn calls_and_errors_of_a_writer() {
     for length in [0, 1, 128, 512, 2047, 2048, 2049, 4095, 4096, 40_000] {
         for capacity in [0, 4095, 4096, 32_768, 79_999, 2 * length + 2] {
-            let mut writer = Limited {
+            let mut writer = LimitedWriter {
                 capacity: Some(capacity),
                 is_last: false,
             };
@@ -98,7 +98,8 @@ mod owned {
 
     const INVALID: FromHexError = FromHexError::InvalidHexCharacter { c: 'z', index: 8 };
 
-    macro_rules! reads {
+    /// Asserts that each type reads the text as this value, and returns the error of an invalid one.
+    macro_rules! assert_reads {
         ($from_hex:path; $($kind:ty = $value:expr;)+) => {$(
             assert_eq!(<$kind as $from_hex>::from_hex(TEXT), Ok($value));
             assert_eq!(<$kind as $from_hex>::from_hex("0x007f80zz"), Err(INVALID));
@@ -107,7 +108,7 @@ mod owned {
 
     #[test]
     fn types_that_are_read() {
-        reads! { FromHex;
+        assert_reads! { FromHex;
             Box<[u8; 4]> = Box::new(BYTES);
             Rc<Vec<u8>> = Rc::new(BYTES.to_vec());
             Arc<[u8; 4]> = Arc::new(BYTES);
@@ -115,7 +116,7 @@ mod owned {
             Box<Rc<Vec<u8>>> = Box::new(Rc::new(BYTES.to_vec()));
         }
         let numbers = [0_i8, 127, -128, -1];
-        reads! { signed::FromHex;
+        assert_reads! { signed::FromHex;
             Box<[i8]> = numbers.into();
             Rc<[i8; 4]> = Rc::new(numbers);
         }

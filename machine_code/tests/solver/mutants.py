@@ -1,6 +1,7 @@
 """Builds the mutants of the tables in the folder mutants. The name of a section says which code is mutated and, after
 a colon, how; its lines have the mutation, the name of a contract, if it is not the first one of a function, and a part
-of the message with which the prover rejects the mutant."""
+of the message with which the prover rejects the mutant. A builder of a table returns the bytes of a mutant, the name
+of the function to prove, and contracts, among which are its own."""
 
 import collections
 import configparser
@@ -8,7 +9,7 @@ import functools
 import pathlib
 
 from build import ASM, RUST, compiler_for, linked, linked_module
-from contracts.dispatch import KERNEL_DISPATCHERS, NULL_ERROR_THUNKS
+from contracts.dispatch import KERNEL_DISPATCHERS, NULL_ERROR_WRAPPERS
 from contracts.kernels import KERNELS
 from contracts.library import FUNCTIONS, Version
 from contracts.messages import MESSAGES
@@ -16,6 +17,7 @@ from contracts.names import VERSION
 from programs import COMMITTED, WASM, edited, lines_of, program, text_of
 
 FOLDER = pathlib.Path(__file__).parent / "mutants"
+# Templates: of const_hex_version, with some instructions, which are the forms that are tested, and the version,
 FORM = """
     .intel_syntax noprefix
     .globl const_hex_version; const_hex_version: {0}; mov eax, {1}; ret
@@ -28,6 +30,7 @@ FORM_ON_AARCH64 = """
     .section .rodata; .balign 16; table: .skip 32
     .section .text.other, "ax"; other: ret
 """
+# and of const_hex_error_message, with its body.
 MESSAGE = """
     .intel_syntax noprefix
     .section .text.const_hex_error_message, "ax"; .globl const_hex_error_message
@@ -54,17 +57,17 @@ MODULE = """(module (memory (export "memory") 1 1) (global (mut i32) (i32.const 
   (data (i32.const 4096) "{data}"))"""
 
 
-def functions(group, old="", new="", within=None):
+def functions(target, old="", new="", within=None):
     """A mutant of a function in the committed assembly, or in the module."""
-    build, _, call = group.rpartition(" ")
+    build, _, function = target.rpartition(" ")
     contracts = FUNCTIONS if build == WASM else COMMITTED[build][1]
-    return edited(build, within or call, old, new), call, contracts
+    return edited(build, within or function, old, new), function, contracts
 
 
-def programs(group, **changes):
+def programs(target, **changes):
     """A mutant of a small kernel."""
-    level, call = group.split()
-    return program(level, call, **changes), call, KERNELS
+    level, function = target.split()
+    return program(level, function, **changes), function, KERNELS
 
 
 def forms(level, code):
@@ -76,18 +79,18 @@ def forms(level, code):
     return content, "version", [contract]
 
 
-def messages(call, code):
+def messages(function, code):
     """A mutant of const_hex_error_message."""
-    return linked(MESSAGE.format(code)), call, MESSAGES
+    return linked(MESSAGE.format(code)), function, MESSAGES
 
 
-def dispatchers(group, old, new):
+def dispatchers(target, old, new):
     """A mutant of a dispatcher."""
-    call, name = group.split(", ")
+    function, name = target.split(", ")
     contracts = [
         each
-        for each in (*NULL_ERROR_THUNKS, *KERNEL_DISPATCHERS)
-        if (each.function, each.name) == (call, name)
+        for each in (*NULL_ERROR_WRAPPERS, *KERNEL_DISPATCHERS)
+        if (each.function, each.name) == (function, name)
     ]
     text = text_of("dispatch")
     if not contracts[0].callable_arguments:
@@ -95,27 +98,27 @@ def dispatchers(group, old, new):
         text = lines_of((ASM / "dispatch.S").read_text().replace(INCLUDED, of_rust))
     old, new = (lines.replace("; ", "\n") for lines in (old, new))
     assert old in text, old
-    return linked(VARIABLE + text.replace(old, new)), call, contracts
+    return linked(VARIABLE + text.replace(old, new)), function, contracts
 
 
-def modules(call, old="", new="", **changes):
+def modules(function, old="", new="", **changes):
     """A mutant of the small module."""
     text = MODULE
     for before, after in zip(old.split("\n"), new.split("\n")):
         assert before in text, before
         text = text.replace(before, after)
     lines = collections.defaultdict(str, {"data": "\\00" * 600} | changes)
-    return linked_module(text.format_map(lines)), call, FUNCTIONS
+    return linked_module(text.format_map(lines)), function, FUNCTIONS
 
 
-def rows():
+def all_mutants():
     """For each mutant its name, a function that builds it, its contract, and the message with which
     it is rejected; None for correct code."""
-    for build in (functions, programs, forms, messages, dispatchers, modules):
+    for builder in (functions, programs, forms, messages, dispatchers, modules):
         table = configparser.RawConfigParser()
-        table.read(FOLDER / f"{build.__name__}.ini")
+        table.read(FOLDER / f"{builder.__name__}.ini")
         for section in table.sections():
             changes = dict(table[section])
             contract, message = changes.pop("contract", None), changes.pop("message", None)
-            group = section.partition(": ")[0]
-            yield section, functools.partial(build, group, **changes), contract, message
+            target = section.partition(": ")[0]
+            yield section, functools.partial(builder, target, **changes), contract, message

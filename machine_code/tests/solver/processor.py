@@ -24,7 +24,7 @@ from execution.terms import bv64, simplify
 from hints.loops import successors
 from node import BYTE_TERMS, EDGE_BYTES
 from reading import library
-from solver.questions import require
+from solver.queries import require
 
 FOLDER = pathlib.Path(__file__).resolve().parents[1]
 # As in run.c.
@@ -95,7 +95,8 @@ class Processor:
 
     def __init__(self, content, level):
         linked = library.read(content)
-        self.code = Code(content, min(linked.symbols), {}, level)
+        any_symbol = min(linked.symbols)
+        self.code = Code(content, any_symbol, {}, level)
         self.code.constants.base = bv64(TEXT_ADDRESS + linked.base_address)
         for start in sorted(linked.symbol_addresses):
             self.code.instruction(start)  # which decodes those after it, too
@@ -149,12 +150,13 @@ class Processor:
                 _point_into_scratch(general, operand, state.SP, generator)
         state.general = {name: bv64(value) for name, value in general.items()}
         state.flags = {name: z3.BoolVal(generator.random() < 0.5) for name in self.target.flag_bits}
-        state.raw = {
+        state.vector_bytes = {
             number: _random_bytes(generator, state.VECTOR_SIZE)
             for number in range(state.VECTOR_COUNT)
         }
         state.vectors = {
-            number: [BYTE_TERMS[value] for value in data] for number, data in state.raw.items()
+            number: [BYTE_TERMS[value] for value in data]
+            for number, data in state.vector_bytes.items()
         }
         state.next = instruction.address + instruction.size
         return state
@@ -170,7 +172,7 @@ class Processor:
             self._jump_target(instruction),
         ]
         numbers += [state.general[name].as_long() for name in state.GENERAL_REGISTERS]
-        content = struct.pack(f"<{len(numbers)}Q", *numbers) + b"".join(state.raw.values())
+        content = struct.pack(f"<{len(numbers)}Q", *numbers) + b"".join(state.vector_bytes.values())
         return content + struct.pack("<QQ", flags, 0) + state.scratch
 
     def _run(self, requests):
@@ -191,11 +193,12 @@ class Processor:
             if not simplify(state.general[name]).eq(bv64(number)):
                 yield name
         for name, data in state.vectors.items():
-            raw, now = state.raw[name], output.read(state.VECTOR_SIZE)
-            expected = [BYTE_TERMS[value] for value in now]
+            before, after = state.vector_bytes[name], output.read(state.VECTOR_SIZE)
+            expected = [BYTE_TERMS[value] for value in after]
             if data != expected and [*map(simplify, data)] != expected:
                 yield f"vector {name}"
-            if state.is_upper_half_clean and now[16:] not in (raw[16:], bytes(len(raw) - 16)):
+            unchanged_or_zero = before[16:], bytes(len(before) - 16)
+            if state.is_upper_half_clean and after[16:] not in unchanged_or_zero:
                 yield f"the upper half of vector {name}"
         if state.is_legacy_sse:
             yield "a legacy SSE instruction has not ended"

@@ -6,7 +6,7 @@ import functools
 import pathlib
 import re
 
-from contracts.dispatch import KERNEL_DISPATCHERS, NULL_ERROR_THUNKS
+from contracts.dispatch import KERNEL_DISPATCHERS, NULL_ERROR_WRAPPERS
 from contracts.kernels import KERNELS
 from contracts.library import FUNCTIONS
 from contracts.messages import MESSAGES
@@ -39,11 +39,13 @@ FILL = """
     2: {end}
     ret
 """
+# Replaces the character in register {0} by its value, or jumps to 3 if it is no digit.
 VALUE = """lea r10d, [r{0}x-0x30]; cmp r10b, 10; setb r8b; or {0}l, 0x20; sub {0}l, 0x57; lea r11d, [r{0}x-10]
     cmp r11b, 6; setb r9b; or r9b, r8b; je 3f; test r8b, r8b; cmovne e{0}x, r10d
     """
 # Decodes the two characters in eax and ecx to a byte in al.
 BYTE = f"{VALUE.format('a')}{VALUE.format('c')}shl eax, 4; or eax, ecx; "
+# Loads the pair of characters at an offset.
 LOAD = "movzx eax, byte ptr [rdi+{0}]; movzx ecx, byte ptr [rdi+{0}+1]; "
 READ = f"""
     {{start}}
@@ -56,7 +58,7 @@ READ = f"""
     ret
     3: xor eax, eax; ret
 """
-ON_AARCH64 = """
+CHECK_ON_AARCH64 = """
     {start}
     1: cbz x1, 2f
     ldrb w8, [x0]; {character}
@@ -67,6 +69,7 @@ ON_AARCH64 = """
     ret
     3: mov w0, #0; ret
 """
+# What follows a kernel: two tables, and a function.
 AFTER = """
     .section .rodata.table, "a"; .balign 16; table: .skip 32, 1
     .section .rodata.other, "a"; .balign 16; other: .skip 32
@@ -76,6 +79,7 @@ PROGRAMS = {"check": CHECK, "fill_lower": FILL, "read": READ}
 
 
 def of_rust(name):
+    """The files of the Rust crate that are assembled for a build."""
     return [RUST / f"{part}.s" for part in ("elf", name, "end")]
 
 
@@ -85,20 +89,20 @@ COMMITTED = {
     "v3": (of_rust("x86_64_v3"), KERNELS),
     "aarch64": (of_rust("aarch64"), KERNELS),
     "dispatch": (of_rust("dispatch"), KERNEL_DISPATCHERS),
-    "dispatch for AArch64": ([ASM / "dispatch.S"], NULL_ERROR_THUNKS),
+    "dispatch for AArch64": ([ASM / "dispatch.S"], NULL_ERROR_WRAPPERS),
     "functions_x86_64": ([ASM / "functions_x86_64.S"], (*FUNCTIONS, *MESSAGES)),
     "functions_aarch64": ([ASM / "functions_aarch64.S"], (*FUNCTIONS, *MESSAGES)),
 }
 WASM = "wasm"
 
 
-def program(level, call, **changes):
+def program(level, function, **changes):
     """A program with a small kernel, with instructions inserted at the named places."""
     lines = collections.defaultdict(str, {"store": "mov [rsi], al"} | changes)
     is_aarch64 = level == "aarch64"
-    body = ((ON_AARCH64 if is_aarch64 else PROGRAMS[call]) + AFTER).format_map(lines)
+    body = ((CHECK_ON_AARCH64 if is_aarch64 else PROGRAMS[function]) + AFTER).format_map(lines)
     syntax = "" if is_aarch64 else ".intel_syntax noprefix\n"
-    name = f"const_hex_1_0_0_{call}" if is_aarch64 else f"const_hex_1_0_0_{call}_{level}"
+    name = f"const_hex_1_0_0_{function}" if is_aarch64 else f"const_hex_1_0_0_{function}_{level}"
     text = f'{syntax}.section .text.{name}, "ax"\n.globl {name}\n{name}:\n{body}'
     return linked(text, compiler_for(level))
 
@@ -139,26 +143,27 @@ def pattern(lines):
     return text
 
 
-def edited(build, function, old, new):
+def edited(build, function, old="", new=""):
     """The committed object or module, in which lines of a function, a constant or a macro are
-    replaced."""
+    replaced, if any."""
     text = text_of(build)
     search = re.compile(pattern(old)).search
     match = next(filter(None, (search(text, *span) for span in spans_of(build, function))), None)
     assert match, f"{function} has no {old}"
     lines = re.sub(r"\{(\w)\}", lambda name: match[name[1]], new.replace("; ", "\n"))
+    # Without old lines, the new ones are inserted.
     text = text[: match.start()] + lines + "\n" * (not old) + text[match.end() :]
     if build == WASM:
         return linked_module(text)
     return linked(text, compiler_for(build))
 
 
-def prove(content, call, contracts=KERNELS, name=None):
+def prove(content, function, contracts=KERNELS, name=None):
     """Proves the first contract of a function, or the one with a name."""
     contract = next(
-        each for each in contracts if each.function == call and name in (None, each.name)
+        each for each in contracts if each.function == function and name in (None, each.name)
     )
-    # A module has no thunks for a NULL error.
+    # A module has no wrappers for a NULL error.
     suffix = "_nonnull" if content.startswith(library.WASM_MAGIC) else ""
     name_pattern = contract.symbol.removesuffix(suffix)
     symbols = library.read(content).symbols

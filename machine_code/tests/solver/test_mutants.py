@@ -12,27 +12,27 @@ import z3
 from contracts.functions import N
 from contracts.library import CheckRaw, DecoderUpdate
 from programs import edited, prove
-from solver.questions import Rejected
+from solver.queries import Rejected
 
-ROWS = [pytest.param(*row, id=name) for name, *row in mutants.rows()]
+MUTANTS = [pytest.param(*values, id=name) for name, *values in mutants.all_mutants()]
 
 
-@pytest.mark.parametrize("build, contract, message", ROWS)
+@pytest.mark.parametrize("build, contract, message", MUTANTS)
 def test_mutant(build, contract, message):
-    is_rejected = pytest.raises((Rejected, ValueError), match=message) if message else None
-    with is_rejected or contextlib.nullcontext():
+    raises = pytest.raises((Rejected, ValueError), match=message) if message else None
+    with raises or contextlib.nullcontext():
         prove(*build(), contract)
 
 
-class WithoutText(CheckRaw):
+class EmptyTextOnly(CheckRaw):
     """A contract whose only case is empty text."""
 
     def cases(self, state):
         return [state.branch(N == 0)]
 
 
-class WithoutWaiting(DecoderUpdate):
-    """A contract without the case of a digit that waits."""
+class WithoutPendingDigit(DecoderUpdate):
+    """A contract without the case of a pending digit."""
 
     def decoder_states(self, decoder):
         return super().decoder_states(decoder)._replace(pending=z3.BoolVal(False))
@@ -41,11 +41,11 @@ class WithoutWaiting(DecoderUpdate):
 @pytest.mark.parametrize(
     "contract, message",
     [
-        (WithoutText(), "do not cover all initial states"),
-        (WithoutWaiting(), "a state that no case covers"),
+        (EmptyTextOnly(), "do not cover all initial states"),
+        (WithoutPendingDigit(), "a state that no case covers"),
     ],
 )
 def test_contract_that_misses_a_state(contract, message):
-    content = edited("functions_x86_64", contract.function, "", "")
+    content = edited("functions_x86_64", contract.function)
     with pytest.raises(Rejected, match=message):
         prove(content, contract.function, contracts=[contract])

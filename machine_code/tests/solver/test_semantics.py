@@ -7,7 +7,7 @@ from processor import NOT_STEPPED, Processor
 from programs import edited, text_of
 
 # Instructions with semantics that not every current kernel has.
-MORE = {
+MORE_INSTRUCTIONS = {
     "x86_64_v2": """.intel_syntax noprefix
         inc rax; dec ecx; cmovb rax, rcx; cmovne eax, ecx; paddb xmm0, xmm1; por xmm0, xmm1; pxor xmm0, xmm1;
         shr eax, 3; not rax; not cl; movabs rax, 0x123456789abcdef0; movsxd rax, ecx; movsxd rax, dword ptr [rcx]
@@ -39,23 +39,24 @@ MORE = {
 }
 
 
-def processor(name):
-    """A processor with the instructions of a kernel and of MORE, or of the functions for C."""
-    if name.startswith("functions_"):
-        return Processor(edited(name, "version", "", ""), name)
-    level = name.removeprefix("x86_64_")
-    text = f'{text_of(level)}\n.section .text.more, "ax"\n{MORE[name]}\n'
+def processor(build):
+    """A processor with the instructions of a kernel and more, or of the functions for C."""
+    if build.startswith("functions_"):
+        return Processor(edited(build, "version"), build)
+    level = build.removeprefix("x86_64_")
+    text = f'{text_of(level)}\n.section .text.more, "ax"\n{MORE_INSTRUCTIONS[build]}\n'
     return Processor(linked(text, compiler_for(level)), level)
 
 
-NAMES = ["x86_64_v2", "x86_64_v3", "functions_x86_64"], ["aarch64", "functions_aarch64"]
+# The builds for each processor.
+BUILDS = ["x86_64_v2", "x86_64_v3", "functions_x86_64"], ["aarch64", "functions_aarch64"]
 
 
-@pytest.mark.parametrize("names", NAMES, ids=("x86-64", "AArch64"))
-def test_semantics(names):
+@pytest.mark.parametrize("builds", BUILDS, ids=("x86-64", "AArch64"))
+def test_semantics(builds):
     compared = set()
-    for name in names:
-        runner = processor(name)
+    for build in builds:
+        runner = processor(build)
         assert list(runner.differences()) == []
         compared |= {i.mnemonic for i in runner.instructions}
     missing = runner.semantics.HANDLERS.keys() - compared - {*NOT_STEPPED}

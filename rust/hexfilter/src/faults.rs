@@ -6,10 +6,10 @@ use crate::proved::{request_of, run, Mode, Request, RunError};
 use std::cell::RefCell;
 use std::io::{Error, ErrorKind, Read, Result, Write};
 
-/// The calls so far, `r` for a read, `w` for a write and `f` for a flush. The one with the index `failing` fails.
+/// The calls so far, `r` for a read, `w` for a write and `f` for a flush. The one with the index `failing_call` fails.
 struct Log {
     calls: String,
-    failing: usize,
+    failing_call: usize,
     kind: ErrorKind,
 }
 
@@ -18,13 +18,14 @@ impl Log {
     fn call(&mut self, name: char) -> Result<usize> {
         self.calls.push(name);
         match self.kind {
-            _ if self.calls.len() != self.failing + 1 => Ok(1),
+            _ if self.calls.len() != self.failing_call + 1 => Ok(1),
             ErrorKind::WriteZero if name == 'w' => Ok(0),
             kind => Err(Error::from(kind)),
         }
     }
 }
 
+/// A reader that logs its calls, with the bytes that are left.
 struct Input<'a>(&'a RefCell<Log>, &'a [u8]);
 
 impl Read for Input<'_> {
@@ -34,6 +35,7 @@ impl Read for Input<'_> {
     }
 }
 
+/// A writer that logs its calls, with the bytes that are written.
 struct Output<'a>(&'a RefCell<Log>, Vec<u8>);
 
 impl Write for Output<'_> {
@@ -48,7 +50,7 @@ impl Write for Output<'_> {
     }
 }
 
-/// Parses the options.
+/// The mode that command-line options ask for.
 fn mode(options: &str) -> Mode {
     let arguments: Vec<String> = options.split_whitespace().map(String::from).collect();
     match request_of(&arguments) {
@@ -71,10 +73,10 @@ const RUNS: [(&str, &[u8], &str, &[u8]); 6] = [
 ];
 
 /// Runs the program, with a fault in one call.
-fn run_with_fault(options: &str, input: &[u8], failing: usize, kind: ErrorKind) -> Outcome {
+fn run_with_fault(options: &str, input: &[u8], failing_call: usize, kind: ErrorKind) -> Outcome {
     let log = RefCell::new(Log {
         calls: String::new(),
-        failing,
+        failing_call,
         kind,
     });
     let mut output = Output(&log, Vec::new());
@@ -87,8 +89,8 @@ fn run_with_fault(options: &str, input: &[u8], failing: usize, kind: ErrorKind) 
 }
 
 /// What such a run should do: an interrupted call is repeated, and any other fault ends the run.
-fn expected(calls: &str, output: &[u8], failing: usize, kind: ErrorKind) -> Outcome {
-    let (before, after) = calls.split_at(failing);
+fn expected(calls: &str, output: &[u8], failing_call: usize, kind: ErrorKind) -> Outcome {
+    let (before, after) = calls.split_at(failing_call);
     let call = after.get(..1).unwrap_or("");
     if call.is_empty() || kind == ErrorKind::Interrupted {
         return (None, output.to_vec(), format!("{before}{call}{after}"));
@@ -106,11 +108,11 @@ fn each_call_fails() {
             ErrorKind::TimedOut,
             ErrorKind::WriteZero,
         ] {
-            for failing in 0..=calls.len() {
+            for failing_call in 0..=calls.len() {
                 assert_eq!(
-                    run_with_fault(options, input, failing, kind),
-                    expected(calls, output, failing, kind),
-                    "{options:?}, call {failing}: {kind:?}"
+                    run_with_fault(options, input, failing_call, kind),
+                    expected(calls, output, failing_call, kind),
+                    "{options:?}, call {failing_call}: {kind:?}"
                 );
             }
         }

@@ -37,7 +37,7 @@ fn output_of(folder: &Path, line: &str) -> Vec<u8> {
     output
 }
 
-/// Other tools, and the options that write the same.
+/// Commands of other tools, and the options with which hexfilter writes the same.
 const TOOLS: [(&str, &str); 5] = [
     ("xxd -p disk.img", "-w60"),
     ("basenc --base16 disk.img", "-uw 76"),

@@ -7,7 +7,7 @@ use std::io::{Read, Write};
 use std::process::{Command, Stdio};
 
 /// The exit status, standard output and standard error of a run.
-type End = (Option<i32>, Vec<u8>, String);
+type Outcome = (Option<i32>, Vec<u8>, String);
 
 fn hexfilter(arguments: &[&str]) -> Command {
     let mut command = Command::new(env!("CARGO_BIN_EXE_hexfilter"));
@@ -20,7 +20,7 @@ fn hexfilter(arguments: &[&str]) -> Command {
 }
 
 /// Runs the command with this input, of which it may leave a rest.
-fn run(command: &mut Command, input: &[u8]) -> End {
+fn run(command: &mut Command, input: &[u8]) -> Outcome {
     let mut child = command.spawn().unwrap();
     if let Some(mut stdin) = child.stdin.take() {
         let _ = stdin.write_all(input);
@@ -70,13 +70,13 @@ fn streams_of_the_wrong_direction() {
     let no_input = run(hexfilter(&[]).stdin(written), b"");
     let no_output = run(hexfilter(&[]).stdout(read), b"kiwi");
     fs::remove_file(&path).unwrap();
-    for (end, stream) in [(no_input, "input"), (no_output, "output")] {
-        assert_eq!(end.0, Some(3));
+    for (outcome, stream) in [(no_input, "input"), (no_output, "output")] {
+        assert_eq!(outcome.0, Some(3));
         let start = format!("hexfilter: standard {stream}: ");
         assert!(
-            end.2.starts_with(&start) && end.2.ends_with(")\n"),
+            outcome.2.starts_with(&start) && outcome.2.ends_with(")\n"),
             "{}",
-            end.2
+            outcome.2
         );
     }
 }
@@ -109,9 +109,9 @@ fn an_argument_that_is_no_text() {
     #[cfg(windows)]
     let argument = std::os::windows::ffi::OsStringExt::from_wide(&[0xd800]);
     let argument: std::ffi::OsString = argument;
-    let end = run(hexfilter(&[]).arg(argument), b"");
+    let outcome = run(hexfilter(&[]).arg(argument), b"");
     let error = "hexfilter: not UTF-8 \"\u{fffd}\"; try --help\n";
-    assert_eq!(end, (Some(2), vec![], error.to_string()));
+    assert_eq!(outcome, (Some(2), vec![], error.to_string()));
 }
 
 /// The manual page has each line of the help with its columns, apart from markup and punctuation.

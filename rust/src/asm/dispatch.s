@@ -59,8 +59,8 @@
 	ret
 	end const_hex_1_0_0_build
 
-	/* `portable` is the register with the last argument, the address of the function in portable code. Functions for
-	 * C have no such argument: they need x86-64-v2 in any case. */
+	/* `portable` is the register with the last argument, the address of the function in portable code. If `library` is
+	 * c, and not rust, functions have no such argument: they need x86-64-v2 in any case. */
 	.macro kernel name, portable, library
 	hidden \name
 	function \name

@@ -1,9 +1,10 @@
 //! Pseudorandom bytes and texts, the same in each run.
 
-/// Marsaglia's xorshift.
+/// The state of Marsaglia's xorshift. A result is scrambled by a multiplication, as in xorshift64*.
 pub struct Random(pub u64);
 
 impl Random {
+    /// A number below the limit.
     pub fn below(&mut self, limit: usize) -> usize {
         self.0 ^= self.0 << 13;
         self.0 ^= self.0 >> 7;

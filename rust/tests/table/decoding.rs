@@ -1,6 +1,6 @@
 //! The functions that decode and check.
 
-use super::lines::{error_of_secret, fill_secret, Line};
+use super::lines::{error_of_secret, fill_secret, Line, CANARY};
 use const_hex_proved::FromHexError::{self, *};
 use const_hex_proved::*;
 use std::io::Read;
@@ -20,9 +20,9 @@ pub fn read(line: &Line) {
     let count = (text.len() - line.prefix()) / 2;
     assert_all!(line, line.result; line.fill(count, |output| decode_to_slice(text, output)));
     for space in [0, 1, 70] {
-        let mut output = vec![0xEE; count + space];
+        let mut output = vec![CANARY; count + space];
         assert_all!(line, line.result; decode_to_front(text, &mut output).map(|count| output[..count].to_vec()));
-        assert_eq!(output[count..], vec![0xEE; space]);
+        assert_eq!(output[count..], vec![CANARY; space]);
     }
     if count > 0 && line.result != Err(OddLength) {
         let too_small = &mut vec![0; count - 1];
@@ -58,11 +58,14 @@ fn read_without_prefix(line: &Line, length: usize) {
 
 /// Appends to a vector, whose old bytes are unchanged, and which has no more after an error.
 fn append(text: &[u8], capacity: usize) -> Decoded {
-    let mut all = Vec::with_capacity(capacity);
-    all.extend(b"kiwi");
-    let result = decode_append(text, &mut all);
-    let bytes = all.split_off(4);
-    assert_eq!((&all[..], bytes.len()), (&b"kiwi"[..], result.unwrap_or(0)));
+    let mut vector = Vec::with_capacity(capacity);
+    vector.extend(b"kiwi");
+    let result = decode_append(text, &mut vector);
+    let bytes = vector.split_off(4);
+    assert_eq!(
+        (&vector[..], bytes.len()),
+        (&b"kiwi"[..], result.unwrap_or(0))
+    );
     result.map(|_| bytes)
 }
 

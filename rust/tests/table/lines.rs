@@ -3,12 +3,16 @@
 use const_hex_proved::secret;
 use const_hex_proved::FromHexError::{self, *};
 
+/// The bytes of an output before a call.
+pub const CANARY: u8 = 0xEE;
+
 /// A test vector.
 pub struct Line {
+    /// The whole line, for messages.
     pub text: String,
-    /// What the line tests.
+    /// What the line tests, such as `read-into`.
     pub operation: String,
-    /// The length of the output, if the line has one.
+    /// The length of the output, or how often the cells are repeated, if the line has a number.
     pub number: Option<usize>,
     /// The bytes or the text that are passed.
     pub input: Vec<u8>,
@@ -67,7 +71,7 @@ impl Line {
         length: usize,
         call: impl FnOnce(&mut [u8]) -> Result<(), FromHexError>,
     ) -> Result<Vec<u8>, FromHexError> {
-        let mut output = vec![0xEE; length];
+        let mut output = vec![CANARY; length];
         let error = match call(&mut output) {
             Ok(()) => return Ok(output),
             Err(error) => error,
@@ -77,7 +81,7 @@ impl Line {
             _ => 0,
         };
         assert!(
-            output[written..].iter().all(|byte| *byte == 0xEE),
+            output[written..].iter().all(|byte| *byte == CANARY),
             "{}",
             self.text
         );
@@ -90,7 +94,7 @@ pub fn fill_secret(
     length: usize,
     call: impl FnOnce(&mut [u8]) -> Result<(), secret::Error>,
 ) -> Result<Vec<u8>, secret::Error> {
-    let mut output = vec![0xEE; length];
+    let mut output = vec![CANARY; length];
     let result = call(&mut output);
     assert!(result.is_ok() || output.iter().all(|byte| *byte == 0));
     result.map(|()| output)

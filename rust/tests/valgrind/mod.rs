@@ -7,7 +7,7 @@ use std::{env, fs, process};
 
 /// An optimization barrier, as `std::hint::black_box` is from Rust 1.66 on.
 pub fn black_box<T>(value: T) -> T {
-    // SAFETY: this is no instruction.
+    // SAFETY: this is a comment, and no instruction.
     unsafe { std::arch::asm!("/* {} */", in(reg) &value, options(nostack, preserves_flags)) };
     value
 }
@@ -44,9 +44,10 @@ fn mark() {
     std::io::Write::write_all(&mut std::io::stderr(), format!("{MARK}\n").as_bytes()).unwrap();
 }
 
+/// The line in QEMU's output that ends a count.
 const MARK: &str = "a round begins or ends";
 
-/// How many calls are made in each round.
+/// How many calls are made in each round: one to warm up, and two that are compared.
 const CALLS: [usize; 3] = [10, 10, 30];
 
 /// Makes a call in three rounds, and marks where each begins and ends. The first is a warm-up: symbols are bound, and the

@@ -19,11 +19,11 @@ INTEGER_RLIMIT, BITVECTOR_RLIMIT = 30_000, 40_000_000
 # The logic and the conditions of each query with the answer "unsat", for the second solver.
 unsat_queries = []
 counts = {"queries": 0}
-_constants = {}  # by their names
+_constants = {}  # all free constants, by their names
 # By the id of a term in z3. The terms are kept, so that z3 does not reuse their ids.
 _free_constants_by_id = {}
 _kept_terms = []
-_is_public = {}  # by the name of a constant; others are secret
+_is_public_by_name = {}  # whether a constant is public; else it is secret
 
 
 class Rejected(Exception):
@@ -42,28 +42,30 @@ def free_constants(term):
     return _free_constants_of(term.as_ast(), term.ctx_ref())
 
 
-def _free_constants_of(part, context):
-    """The same for a part of a term, with z3's C functions, which are faster."""
-    number, app = z3.Z3_get_ast_id(context, part), z3.Z3_to_app(context, part)
-    if number in _free_constants_by_id:
-        return _free_constants_by_id[number]
+def _free_constants_of(ast, context):
+    """The same for a term as z3's C functions have it, which are faster: its AST in a context."""
+    ast_id, app = z3.Z3_get_ast_id(context, ast), z3.Z3_to_app(context, ast)
+    if ast_id in _free_constants_by_id:
+        return _free_constants_by_id[ast_id]
     names = [
         _free_constants_of(z3.Z3_get_app_arg(context, app, index), context)
         for index in range(z3.Z3_get_app_num_args(context, app))
     ]
     if z3.Z3_get_decl_kind(context, z3.Z3_get_app_decl(context, app)) == z3.Z3_OP_UNINTERPRETED:
-        constant = z3.BitVecRef(part)
+        constant = z3.BitVecRef(ast)
         name = constant.decl().name()
         is_same = _constants.setdefault(name, constant).sort() == constant.sort()
         require(is_same, f"two constants {name}")
         names = [[name]]
-    _free_constants_by_id[number] = tuple(dict.fromkeys(itertools.chain(*names)))
-    return _free_constants_by_id[number]
+    _free_constants_by_id[ast_id] = tuple(dict.fromkeys(itertools.chain(*names)))
+    return _free_constants_by_id[ast_id]
 
 
 def _constant(name, bits, is_public):
     """A free constant with its taint, which must not change."""
-    require(_is_public.setdefault(name, is_public) == is_public, f"{name} is public and secret")
+    require(
+        _is_public_by_name.setdefault(name, is_public) == is_public, f"{name} is public and secret"
+    )
     return z3.BitVec(name, bits)
 
 
@@ -81,7 +83,7 @@ def secret(name, bits):
 
 def is_public_name(name):
     """Whether the constant of this name is public."""
-    return _is_public.get(name, False)
+    return _is_public_by_name.get(name, False)
 
 
 def is_public(term):
@@ -115,7 +117,7 @@ def _conjuncts_of_equation(term, left, right):
 
 
 def _zeros(term):
-    """The terms that are all 0 if and only if this one is."""
+    """Parts of a term, which are all 0 if and only if the term is."""
     if z3.is_app_of(term, z3.Z3_OP_BOR) or z3.is_app_of(term, z3.Z3_OP_CONCAT):
         return [part for child in term.children() for part in _zeros(child)]
     return [] if z3.is_bv_value(term) and term.as_long() == 0 else [term]
@@ -132,32 +134,32 @@ def facts_of(condition):
 
 def relevant(facts, goal, distance=None):
     """The facts in a goal's cone of influence: those that share constants with it, directly or
-    through other facts, at most so many if there is a distance. At the distance 0 a fact has no
-    other constants than the goal. For a public goal only public facts are relevant."""
+    through a chain of other facts, which a distance limits. At the distance 0 a fact has no other
+    constants than the goal. For a public goal only public facts are relevant."""
     facts = [fact for fact in facts if fact.is_public] if is_public(goal) else facts
-    seen = set(free_constants(goal))
+    reached = set(free_constants(goal))
     if distance == 0:
-        return [fact.term for fact in facts if fact.constants <= seen]
-    before = None
-    while seen != before and distance != 0:
-        before = seen
+        return [fact.term for fact in facts if fact.constants <= reached]
+    previous = None
+    while reached != previous and distance != 0:
+        previous = reached
         distance = distance and distance - 1
-        adjacent = [fact.constants for fact in facts if not before.isdisjoint(fact.constants)]
-        seen = seen.union(*adjacent)
-    return [fact.term for fact in facts if not seen.isdisjoint(fact.constants)]
+        adjacent = [fact.constants for fact in facts if not previous.isdisjoint(fact.constants)]
+        reached = reached.union(*adjacent)
+    return [fact.term for fact in facts if not reached.isdisjoint(fact.constants)]
 
 
 def _canonical(facts):
     """The facts with canonical names of constants: numbers in the order in which they occur."""
     used = map(_constants.get, dict.fromkeys(itertools.chain(*map(free_constants, facts))))
-    new = [(old, z3.Const(f"x{number}", old.sort())) for number, old in enumerate(used)]
-    return [z3.simplify(z3.substitute(fact, *new)) for fact in facts]
+    renaming = [(old, z3.Const(f"x{number}", old.sort())) for number, old in enumerate(used)]
+    return [z3.simplify(z3.substitute(fact, *renaming)) for fact in facts]
 
 
-def _solve(logic, conditions, limit):
+def _solve(logic, conditions, rlimit):
     """The result of a query, and the solver, which has the model."""
     solver = z3.SolverFor(logic)
-    solver.set("rlimit", limit)
+    solver.set("rlimit", rlimit)
     solver.add(*conditions)
     result = solver.check()
     counts["queries"] += 1
@@ -192,8 +194,8 @@ def _as_integer_facts(facts):
     of facts that was translated before."""
     if not facts:
         return integers.Facts(is_unsatisfiable_in_integers)
-    known = _as_integer_facts(facts[:-1])
-    return known and known.with_fact(facts[-1])
+    previous = _as_integer_facts(facts[:-1])
+    return previous and previous.with_fact(facts[-1])
 
 
 @_memoized
@@ -207,10 +209,11 @@ def _is_unsatisfiable(facts, are_public):
     """The same of conditions with canonical names, so that queries that differ in names alone are
     solved once. Sums of many bits are hard as bit-vectors and easy as integers, masks are the other
     way round."""
-    known = _as_integer_facts(facts) if are_public else None
+    integer_facts = _as_integer_facts(facts) if are_public else None
     result = z3.unknown
-    if known:
-        result, _ = _solve("QF_LIA", [*known.ranges.values(), *known.conditions], INTEGER_RLIMIT)
+    if integer_facts:
+        conditions = [*integer_facts.ranges.values(), *integer_facts.conditions]
+        result, _ = _solve("QF_LIA", conditions, INTEGER_RLIMIT)
     if result == z3.unknown:
         result, _ = _solve("QF_BV", facts, BITVECTOR_RLIMIT)
     return result == z3.unsat
@@ -219,12 +222,13 @@ def _is_unsatisfiable(facts, are_public):
 def is_valid(facts, goal, distance=None):
     """Whether a goal follows from facts: each of its conjuncts from the relevant facts, within a
     distance, if one is given."""
+    # At the distance 0 few facts are relevant, so that is tried first.
     distances = (0, distance) if distance else (None,)
 
     def follows(conjunct):
         return any(
-            is_unsatisfiable([*relevant(facts, conjunct, limit), z3.Not(conjunct)])
-            for limit in distances
+            is_unsatisfiable([*relevant(facts, conjunct, tried), z3.Not(conjunct)])
+            for tried in distances
         )
 
     return all(map(follows, conjuncts(goal)))
@@ -232,12 +236,12 @@ def is_valid(facts, goal, distance=None):
 
 def all_values(facts, term, limit):
     """All values that a term has where the facts hold, by enumeration of models. There may be at
-    most so many."""
-    known = []
-    while not is_valid(facts, z3.Or(*[term == value for value in known])):
-        require(len(known) < limit, "a number may have too many values")
-        others = [term != value for value in known]
+    most `limit` of them."""
+    values = []
+    while not is_valid(facts, z3.Or(*[term == value for value in values])):
+        require(len(values) < limit, "a number may have too many values")
+        others = [term != value for value in values]
         result, solver = _solve("QF_BV", [*relevant(facts, term == 0), *others], BITVECTOR_RLIMIT)
         require(result == z3.sat, "the values of a number are not known")
-        known.append(solver.model().eval(term, True).as_long())
-    return known
+        values.append(solver.model().eval(term, True).as_long())
+    return values
