@@ -4,6 +4,8 @@ If a contract were weaker than what the header says, a wrong message could be ac
 is written outside of its buffer.
 """
 
+import itertools
+
 import z3
 
 from contracts.functions import (
@@ -16,7 +18,7 @@ from contracts.functions import (
     base,
 )
 from execution.state import Region
-from execution.terms import bv64, bv8, bytes_le, simplify, table_entry
+from execution.terms import bv64, bv8, bytes_le, constant_table_entry, simplify
 from solver.queries import all_values, require, secret
 
 # The messages of fixed text, by the kind of the error.
@@ -48,13 +50,13 @@ def escaped_character(state):
     """The bytes that show the error's character. Their number has to be the same for all characters
     of a path."""
     character = z3.Extract(7, 0, CHARACTER)
-    lengths = table_entry([bv8(len(text)) for text in ESCAPED], character)
-    (length,) = all_values(state.facts, simplify(lengths), 1)
-    data = []
-    for index in range(length):
-        column = [bv8(text[index] if index < len(text) else 0) for text in ESCAPED]
-        data.append(simplify(table_entry(column, character)))
-    return data
+    lengths = constant_table_entry(bytes(map(len, ESCAPED)), character)
+    (length,) = all_values(state.facts, lengths, 1)
+    columns = itertools.zip_longest(*ESCAPED, fillvalue=0)
+    return [
+        constant_table_entry(bytes(column), character)
+        for column in itertools.islice(columns, length)
+    ]
 
 
 def decimal(state, number):

@@ -22,7 +22,7 @@ from reading.image import X86_64
 from solver import cvc5, queries
 from solver.queries import Rejected
 
-SAMPLE_SIZE = 100  # queries of each proof that go to the second solver, too
+SAMPLE_SIZE = 50  # queries of each proof that go to the second solver, too
 MAX_LINE_LENGTH = 300  # characters of a line of output
 CONTRACTS = (
     *FUNCTIONS,

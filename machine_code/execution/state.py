@@ -16,10 +16,10 @@ from execution.terms import (
     bv8,
     bytes_le,
     concat_le,
+    constant_table_entry,
     fresh_public,
     fresh_secret,
     simplify,
-    table_entry,
 )
 from solver import quotient_by_ten
 from solver.queries import (
@@ -285,8 +285,7 @@ class State:
         self.prove(
             z3.ULT(index, len(table)), "an index beyond a table, or a table that may be written"
         )
-        entries = [*map(bv8, table.ljust(256, b"\0"))]
-        return simplify(table_entry(entries, z3.Extract(7, 0, index)))
+        return constant_table_entry(table.ljust(256, b"\0"), z3.Extract(7, 0, index))
 
     def indirect_targets(self, address):
         """The targets of an indirect jump, each with the condition under which it is taken; or the

@@ -4,6 +4,7 @@ If `concat_le` or `bytes_le` were wrong, the proof could be about another byte t
 program writes.
 """
 
+import functools
 import itertools
 
 import z3
@@ -69,3 +70,10 @@ def table_entry(table, index):
             for even, odd in zip(table[::2], table[1::2])
         ]
     return table[0]
+
+
+@functools.cache
+def constant_table_entry(table, index):
+    """The same for a table of bytes that are known. Many paths look the same entry up, so it is
+    remembered."""
+    return simplify(table_entry([bv8(number) for number in table], index))

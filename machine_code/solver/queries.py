@@ -157,7 +157,7 @@ def _canonical(facts):
 
 
 def _solve(logic, conditions, rlimit):
-    """The result of a query, and the solver, which has the model."""
+    """The result of a query."""
     solver = z3.SolverFor(logic)
     solver.set("rlimit", rlimit)
     solver.add(*conditions)
@@ -165,12 +165,12 @@ def _solve(logic, conditions, rlimit):
     counts["queries"] += 1
     if result == z3.unsat:
         unsat_queries.append((logic, conditions))
-    return result, solver
+    return result
 
 
 def is_unsatisfiable_in_integers(conditions):
     """Whether integer conditions are unsatisfiable together."""
-    return _solve("QF_LIA", conditions, INTEGER_RLIMIT)[0] == z3.unsat
+    return _solve("QF_LIA", conditions, INTEGER_RLIMIT) == z3.unsat
 
 
 def _memoized(query):
@@ -213,9 +213,9 @@ def _is_unsatisfiable(facts, are_public):
     result = z3.unknown
     if integer_facts:
         conditions = [*integer_facts.ranges.values(), *integer_facts.conditions]
-        result, _ = _solve("QF_LIA", conditions, INTEGER_RLIMIT)
+        result = _solve("QF_LIA", conditions, INTEGER_RLIMIT)
     if result == z3.unknown:
-        result, _ = _solve("QF_BV", facts, BITVECTOR_RLIMIT)
+        result = _solve("QF_BV", facts, BITVECTOR_RLIMIT)
     return result == z3.unsat
 
 
@@ -235,13 +235,15 @@ def is_valid(facts, goal, distance=None):
 
 
 def all_values(facts, term, limit):
-    """All values that a term has where the facts hold, by enumeration of models. There may be at
-    most `limit` of them."""
-    values = []
-    while not is_valid(facts, z3.Or(*[term == value for value in values])):
-        require(len(values) < limit, "a number may have too many values")
-        others = [term != value for value in values]
-        result, solver = _solve("QF_BV", [*relevant(facts, term == 0), *others], BITVECTOR_RLIMIT)
-        require(result == z3.sat, "the values of a number are not known")
-        values.append(solver.model().eval(term, True).as_long())
-    return values
+    """All values that a term has where the facts hold. There may be at most so many. Models only
+    suggest values: that there are no others is proved afterwards."""
+    solver = z3.SolverFor("QF_BV")
+    solver.set("rlimit", BITVECTOR_RLIMIT)
+    solver.add(*relevant(facts, term == 0))
+    known = []
+    while len(known) < limit and solver.check() == z3.sat:
+        known.append(solver.model().eval(term, True).as_long())
+        solver.add(term != known[-1])
+    is_one_of_them = z3.Or(*[term == value for value in known])
+    require(is_valid(facts, is_one_of_them), "a number may have too many values")
+    return known
