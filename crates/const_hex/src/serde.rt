@@ -7,7 +7,7 @@ ghost use Rattle.std.specs.Prelude.{◌≡◌, true, false, IfOk};
 ghost use Rattle.serde_json.specs.Data.{string};
 ghost use Rattle.serde_json.specs.Find.{as_str};
 ghost use Rattle.serde_json.specs.View.{view};
-ghost use Rattle.const_hex.specs.Prelude.{full_text, ReadsInside};
+ghost use Rattle.const_hex.specs.Prelude.{full_text, DecodesJson};
 
 mod error;
 mod inner;
@@ -59,7 +59,7 @@ pub fn serialize_upper(alloc: Global, bytes: &[u8]) -> Result<Value, AllocError>
 /// assert_eq!(rt; const_hex::deserialize::<[u8; 4]>(rt.alloc(), &value), Ok(*b"kiwi"));
 /// ```
 pub fn deserialize<T: FromHex>(alloc: Global, value: &Value) -> Result<T, JsonError<T::Error>>
-    ensures { ReadsInside T.answers (as_str (view value.now)) result }
+    ensures { DecodesJson T.results (as_str (view value.now)) result }
 {
     match value.as_str() {
         None => Err(JsonError::NotText),

@@ -34,5 +34,5 @@ module _ {S : Type 0} (step : S → List ℕ → S → Type 0) (space : S → Op
 
 -- the sink reports each accepted piece
 pub PieceStep-reports : (s : PieceState) (piece : List ℕ) (t : PieceState) → PieceStep s piece t
-    → Some t.pieces ≡ Some (s.pieces ++ (if t.refused then [] else piece ∷ []))
+    → Some t.pieces ≡ Some (s.pieces ++ (if t.failed then [] else piece ∷ []))
 PieceStep-reports s piece t h = grind (arith, append-nil, h)

@@ -24,10 +24,10 @@ abbrev pub after_text : ℕ → ℕ → List ℕ → List ℕ
 after_text flags m old = if has_nul flags then 0 ∷ drop (m + 1) old else drop m old
 
 -- the buffer with a NUL at its start, if it has space for one
-abbrev ended : List ℕ → List ℕ
-ended [] = []
-ended (b ∷ bs) = 0 ∷ bs
+abbrev nul_first : List ℕ → List ℕ
+nul_first [] = []
+nul_first (b ∷ bs) = 0 ∷ bs
 
 -- the buffer as the empty string, unless no NUL is written
-abbrev pub emptied : ℕ → List ℕ → List ℕ
-emptied flags bs = if has_nul flags then ended bs else bs
+abbrev pub cleared : ℕ → List ℕ → List ℕ
+cleared flags bs = if has_nul flags then nul_first bs else bs

@@ -91,7 +91,7 @@ fn rewrite<K: Kernel>(text: &mut [u8], upper: bool, bytes: &mut [u8]) -> bool
     ensures accepted { IsTrue result ↔ (length text.old ≡ 2 * length bytes.old) × AllDigits text.old }
     ensures spells { IsTrue result → Spells text.old bytes.new }
     ensures text { IsTrue result → text.new ≡ hex_text upper bytes.new }
-    ensures kept { result ≡ false → (text.new ≡ text.old) × (bytes.new ≡ bytes.old) }
+    ensures unchanged { result ≡ false → (text.new ≡ text.old) × (bytes.new ≡ bytes.old) }
 {
     if text.len() % 2 != 0
         || bytes.len() != text.len() / 2
@@ -119,7 +119,7 @@ pub extern "C" fn const_hex_rewrite_interleaved(
     ensures accepted { IsTrue result ↔ (length text.old ≡ 2 * length bytes.old) × AllDigits text.old }
     ensures spells { IsTrue result → Spells text.old bytes.new }
     ensures text { IsTrue result → text.new ≡ hex_text upper bytes.new }
-    ensures kept { result ≡ false → (text.new ≡ text.old) × (bytes.new ≡ bytes.old) }
+    ensures unchanged { result ≡ false → (text.new ≡ text.old) × (bytes.new ≡ bytes.old) }
 {
     rewrite::<Interleaved>(text, upper, bytes)
 }
@@ -130,7 +130,7 @@ pub extern "C" fn const_hex_rewrite_lanes16(text: &mut [u8], upper: bool, bytes:
     ensures accepted { IsTrue result ↔ (length text.old ≡ 2 * length bytes.old) × AllDigits text.old }
     ensures spells { IsTrue result → Spells text.old bytes.new }
     ensures text { IsTrue result → text.new ≡ hex_text upper bytes.new }
-    ensures kept { result ≡ false → (text.new ≡ text.old) × (bytes.new ≡ bytes.old) }
+    ensures unchanged { result ≡ false → (text.new ≡ text.old) × (bytes.new ≡ bytes.old) }
 {
     rewrite::<Lanes16>(text, upper, bytes)
 }

@@ -20,8 +20,8 @@ pub use Rattle.hexfilter_core.specs.declared.options.Value.TheVariants.{Size, Se
 -- what may follow the first dash of each option, a letter or a dash and a name, and what it sets. The last three take
 -- a value: the columns of lines, the bytes of groups, or the separator of groups. --upper, --prefix and --wrap are for
 -- bytes that are encoded, --ignore-whitespace is for a text that is decoded, and each mode takes all of them
-abbrev pub table : Options → List (List (List ℕ) × Options)
-table o =
+abbrev pub option_table : Options → List (List (List ℕ) × Options)
+option_table o =
     (codes "d" ∷ codes "-decode" ∷ [], record o { decode = true })
     ∷ (codes "-check" ∷ [], record o { check = true })
     ∷ (codes "u" ∷ codes "-upper" ∷ [], record o { upper = true })
@@ -35,9 +35,9 @@ table o =
     ∷ []
 
 -- the options with the one that the key names
-abbrev pub find : List ℕ → List (List (List ℕ) × Options) → Result Options UsageErrorKind
-find key [] = Err UnknownOption
-find key (row ∷ rows) = if list_any (λ k. bytes_eq key k) row.0 then Ok row.1 else find key rows
+abbrev pub find_option : List ℕ → List (List (List ℕ) × Options) → Result Options UsageErrorKind
+find_option key [] = Err UnknownOption
+find_option key (row ∷ rows) = if list_any (λ k. bytes_eq key k) row.0 then Ok row.1 else find_option key rows
 
 -- the number that decimal digits write, if it is below 2^64
 abbrev pub number : List ℕ → Result ℕ UsageErrorKind
@@ -68,7 +68,7 @@ with_value (Some Separator) o v = Err InvalidSeparator
 unfoldable pub with_letters : Options → List ℕ → Result Options UsageErrorKind
 with_letters o [] = Ok o
 with_letters o (c ∷ t) =
-    and_then (find (c ∷ []) (table o))
+    and_then (find_option (c ∷ []) (option_table o))
     (λ p. if is_some p.value && nat_lt 0 (length t) then with_value p.value p t else with_letters p t)
 
 -- letters after a dash, a name after two, which may have a value after an equals sign, or else a file
@@ -81,8 +81,8 @@ dashed o file (c ∷ d ∷ t) =
     if not (c == 45) then file
     else if not (d == 45) then with_letters o key
     else if bytes_eq t [] then Ok (record o { only_files = true })
-    else if position_or_len is_equals key == length key then find key (table o)
-    else and_then (find (before_first is_equals key) (table o)) (λ p. with_value p.value p (after_first is_equals key))
+    else if position_or_len is_equals key == length key then find_option key (option_table o)
+    else and_then (find_option (before_first is_equals key) (option_table o)) (λ p. with_value p.value p (after_first is_equals key))
 
 -- the options after the argument a, which has the number i
 abbrev pub with_word : Options → ℕ → List ℕ → Result Options UsageErrorKind
@@ -117,8 +117,8 @@ with_arguments o i [] = request o i
 with_arguments o i (a ∷ rest) = at_argument i (with_argument o i a) (λ p. with_arguments p (i + 1) rest)
 
 -- no option is set
-abbrev pub start : Options
-start = record {
+abbrev pub no_options : Options
+no_options = record {
   decode = false;
   check = false;
   upper = false;
@@ -137,7 +137,7 @@ start = record {
 
 -- what the arguments ask for
 abbrev pub request_for : List (List ℕ) → Result Request UsageError
-request_for arguments = with_arguments start 0 arguments
+request_for arguments = with_arguments no_options 0 arguments
 
 -- ---- the arguments that ask for a mode
 

@@ -7,7 +7,7 @@ use Rattle.std.proofs.Common.{◌≡◌, ◌≤◌, ◌*◌, ◌/◌, ℕ, List,
 use Rattle.std.proofs.lemmas.Grind.{common_steps}
 use Rattle.std.proofs.lemmas.List.{take-append-drop, take-append-le, drop-append-le, append_assoc, append-nil, get_or_append_left, get_or-append-add, length-take, take_all, take_at, drop_all, drop_at}
 use Rattle.std.proofs.lemmas.List.Elements.{All-drop, All-take}
-use Rattle.const_hex.specs.Prelude.{Partial, IsOdd, Reads, body_of, HasRead, NamesInvalidSaturated, saturated, error_of, position_of, pending_digit, body-parity, Decoder, IsDigit, AllDigits, FirstInvalidAt, Spells}
+use Rattle.const_hex.specs.Prelude.{Partial, IsOdd, DecodesTo, body_of, HasRead, NamesInvalidSaturated, saturated, error_of, position_of, pending_digit, body-parity, Decoder, IsDigit, AllDigits, FirstInvalidAt, Spells}
 use Rattle.const_hex_arch.proofs.lemmas.Digits.{digits_append}
 use Rattle.const_hex_arch.proofs.lemmas.FirstInvalid.{FirstInvalidAt-after, Spells-some, Partial-after, none_decoded}
 use Rattle.const_hex_arch.proofs.lemmas.Texts.{Spells-append, Spells-digits, Spells-length}
@@ -185,7 +185,7 @@ read_front d t (b ∷ bs) u r =
 none_pending : (d : Decoder) → d.state ≢ 1 → pending_digit d ≡ []
 none_pending d other = grind arith
 
-pub ends_even : (d : Decoder) (t bs : List ℕ) → HasRead d t bs → d.state ≢ 1 → Reads t (Ok bs)
+pub ends_even : (d : Decoder) (t bs : List ℕ) → HasRead d t bs → d.state ≢ 1 → DecodesTo t (Ok bs)
 ends_even d t bs r other =
     let whole : body_of t ≡ r.pairs = r.body ∙ rw (none_pending d other) (append-nil r.pairs) in
     (omega (arith, Spells-length r.pairs bs r.decoded, ap length whole, body-parity t), rw whole r.decoded)

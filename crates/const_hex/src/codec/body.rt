@@ -3,7 +3,7 @@
 
 ghost use Rattle.std.specs.Prelude.{◌≡◌, ◌+◌, ◌-◌, ◌*◌, ◌%◌, ◌<◌, ◌≤◌, ◌==◌, ◌&&◌, ◌||◌, ◌↔◌, true, false, length, take, drop, slice_index, Err, IfErr, IfOk, IsTrue};
 ghost use Rattle.const_hex_arch.specs.Texts.{AllDigits, IsDigit, FirstInvalidAt, Spells, Partial};
-ghost use Rattle.const_hex.specs.Results.{IsEven, IsOdd, NamesFirstInvalid, Reads, body_of};
+ghost use Rattle.const_hex.specs.Results.{IsEven, IsOdd, NamesFirstInvalid, DecodesTo, body_of};
 ghost use Rattle.const_hex.specs.declared.error.FromHexError.TheVariants.{OddLength, InvalidHexCharacter};
 
 use crate::error::FromHexError;
@@ -61,7 +61,7 @@ pub(crate) fn is_digit_pair(first: u8, second: u8) -> bool
 pub(crate) fn find_invalid_character<K: Kernel>(text: &[u8]) -> FromHexError
     requires even { IsEven (length text.now) }
     requires invalid { AllDigits (body_of text.now) → ⊥ }
-    ensures { Reads text.now (Err result) }
+    ensures { DecodesTo text.now (Err result) }
 {
     let (c, index) = locate_invalid::<K>(text);
     FromHexError::InvalidHexCharacter { c, index }

@@ -138,8 +138,8 @@ module _ (n : ℕ) where
 
   -- the MIR of `decode_chunk`. Its locals: 0 is the result, 1 the text, 2 the bytes, 3 and 5 the flag, 4 what the call
   -- returns, 6 the Option
-  abbrev code_of : Callee → Fn
-  code_of decode_flagged = record {
+  abbrev decode_chunk_code : Callee → Fn
+  decode_chunk_code decode_flagged = record {
     lifetimes = 0;
     outlives = [];
     ty_params = [];
@@ -182,12 +182,12 @@ module _ (n : ℕ) where
 
     -- if the call meets its clauses, so does the function
     pub some_or_none : (self decode_flagged : Callee)
-        → Closed 𝓤 𝓛.H (tables 𝓤 𝓛.H 𝓜 𝓡 𝓡.env).C (tables 𝓤 𝓛.H 𝓜 𝓡 𝓡.env).Λ self (code_of decode_flagged)
+        → Closed 𝓤 𝓛.H (tables 𝓤 𝓛.H 𝓜 𝓡 𝓡.env).C (tables 𝓤 𝓛.H 𝓜 𝓡 𝓡.env).Λ self (decode_chunk_code decode_flagged)
         → Meets 𝓛 DecodeFlagged.signature (𝓡.run (𝓡.env decode_flagged)) (closing 𝓛 DecodeFlagged decode_flagged_clauses)
         → Meets 𝓛 DecodeChunk.signature (𝓡.run (𝓡.env self)) (closing 𝓛 DecodeChunk decode_chunk_clauses)
     some_or_none self decode_flagged unfolded met =
         let hs : Stays DecodeChunk.signature.params DecodeChunk.kept = (stay_dropped _ yes, tt) in
-        let fn = code_of decode_flagged in
+        let fn = decode_chunk_code decode_flagged in
         let W = walk_of 𝓛 DecodeChunk hs decode_chunk_clauses in let 𝓣 = tables 𝓤 𝓛.H 𝓜 𝓡 𝓡.env in
         let V = Lanes n in
         let lawful = Simd-Lawful 𝓛 u8 (uint_Lawful 𝓛 w8) n in

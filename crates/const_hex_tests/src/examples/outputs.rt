@@ -41,7 +41,7 @@ pub fn buffer_text<O: Output>(buffered: &mut BufferedOutput<O, 8>, text: &[u8])
 
 /// Writes to a sink as to an output.
 pub fn send(alloc: Global) -> PieceSink
-    ensures { result.refused ≡ false → result.pieces ≡ codes "c0de" ∷ [] }
+    ensures { result.failed ≡ false → result.pieces ≡ codes "c0de" ∷ [] }
 {
     let mut sink = PieceSink::new(alloc, 0);
     let mut output = SinkOutput::new(&mut sink);

@@ -7,7 +7,7 @@ use Rattle.std.proofs.lemmas.Bool.Decides.{nat_tests}
 use Rattle.std.proofs.lemmas.List.{take_more_set}
 use borrow.Rule.Slice.PartMut.{put_mid}
 use Rattle.hexfilter_core.proofs.lemmas.Texts.{take_put}
-use Rattle.hexfilter_core.specs.Dumps.{Groups, PutsInto, groups_from, encoded, ended}
+use Rattle.hexfilter_core.specs.Dumps.{Groups, PutsInto, groups_from, encoded, last_newline}
 use Rattle.const_hex.specs.Prelude.{full_text, hex_text, prefix_of}
 use Rattle.const_hex_arch.proofs.lemmas.Texts.{hex_text-append, hex_text-nil}
 use Rattle.hexfilter_core.specs.Stages.{Stage, HasEncoded}
@@ -110,7 +110,7 @@ if_err r p = grind arith
 -- a further chunk is encoded
 pub encoded_more : (prefix up : Bool) (g : Groups) (old new : Stage) (x y chunk z : List ℕ)
     → HasEncoded prefix up g old x y
-    → PutsInto g old.column (full_text old.prefix up chunk) z new.column → new.prefix ≡ false → new.column ≤ g.size
+    → PutsInto g old.group_fill (full_text old.prefix up chunk) z new.group_fill → new.prefix ≡ false → new.group_fill ≤ g.size
     → HasEncoded prefix up g new (x ++ chunk) (y ++ z)
 encoded_more prefix up g old new x y chunk z has breaks due fits = record {
   rest = λ more.
@@ -124,8 +124,8 @@ encoded_more prefix up g old new x y chunk z has breaks due fits = record {
 -- an empty chunk ends the input
 pub encoded_last : (prefix up : Bool) (g : Groups) (old new : Stage) (x y chunk z : List ℕ)
     → HasEncoded prefix up g old x y
-    → PutsInto g old.column (full_text old.prefix up chunk) z new.column → new.prefix ≡ false → new.column ≤ g.size
-    → y ++ (z ++ ended g new.column) ≡ encoded prefix up g (x ++ chunk)
+    → PutsInto g old.group_fill (full_text old.prefix up chunk) z new.group_fill → new.prefix ≡ false → new.group_fill ≤ g.size
+    → y ++ (z ++ last_newline g new.group_fill) ≡ encoded prefix up g (x ++ chunk)
 unfolding groups_from
 encoded_last prefix up g old new x y chunk z has breaks due fits =
     let more = encoded_more prefix up g old new x y chunk z has breaks due fits in

@@ -10,8 +10,8 @@ use Rattle.std.proofs.lemmas.List.Elements.{All-cons, All-head, All-nil, All-tai
 use Rattle.std.specs.Io.KnownBytes.{Appends, Consumes}
 use Rattle.const_hex.proofs.lemmas.Decoding.{body-longer}
 use Rattle.const_hex.proofs.lemmas.Reading.{result_unique}
-use Rattle.const_hex.proofs.lemmas.RoundTrip.{Reads-full_text}
-use Rattle.const_hex.specs.Prelude.{AreBytes, IsEven, Reads, body_of, AllDigits, IsDigit, full_text, hex_text, prefix_of}
+use Rattle.const_hex.proofs.lemmas.RoundTrip.{DecodesTo-full_text}
+use Rattle.const_hex.specs.Prelude.{AreBytes, IsEven, DecodesTo, body_of, AllDigits, IsDigit, full_text, hex_text, prefix_of}
 use Rattle.const_hex_arch.proofs.lemmas.Digits.{digits_append}
 use Rattle.const_hex_arch.proofs.lemmas.Texts.{Spells-digits, Spells-hex_text}
 use Rattle.hexfilter_core.specs.Dumps.{FromHexError, Groups, HasError, IgnoresLines, InvalidHexCharacter, OddLength, Location, Reading, encoded, groups_from, is_whitespace, mirror, text_from, text_of}
@@ -94,7 +94,7 @@ body_front (c ∷ d ∷ u) v h =
 -- an input with an error in a part of it cannot be decoded
 pub not_decoded : (r : Reading) (whole : List ℕ) (in_after : Option (List ℕ)) (x y bytes : List ℕ) (e : FromHexError)
     (location : Option Location) → Consumes (Some whole) in_after x → HasError r in_after x y e location
-    → Reads (text_of r whole) (Ok bytes) → ⊥
+    → DecodesTo (text_of r whole) (Ok bytes) → ⊥
 not_decoded r whole None x y bytes e location read fails reads = read
 not_decoded r whole (Some rest) x y bytes OddLength location read (none, end, odd, pairs) (even, decodes) =
     let same : IsEven (length (text_of r x)) = rw (read ∙ ap (λ l. x ++ l) end ∙ append-nil x) at even in
@@ -109,9 +109,9 @@ not_decoded r whole in_after x y bytes _ location read fails reads = fails
 
 module _ (prefix up i : Bool) (g : Groups) (ignores : IgnoresLines i g) (bytes : List ℕ) (are : AreBytes bytes) where
   -- the encoded text decodes to the bytes
-  read : (x : List ℕ) → x ≡ encoded prefix up g bytes → Reads (text_of (mirror i g) x) (Ok bytes)
+  read : (x : List ℕ) → x ≡ encoded prefix up g bytes → DecodesTo (text_of (mirror i g) x) (Ok bytes)
   read x text_eq =
-      Reads-full_text _ prefix up bytes are (ap (text_of (mirror i g)) text_eq
+      DecodesTo-full_text _ prefix up bytes are (ap (text_of (mirror i g)) text_eq
       ∙ by_separator i g.size g.separator _ _ refl (encoded_is_visible prefix up bytes are) ignores)
 
   -- the bytes are decoded again

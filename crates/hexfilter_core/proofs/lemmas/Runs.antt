@@ -4,12 +4,12 @@
 -- `out_before` and `out_after` those that the writer holds.
 use Rattle.std.proofs.Common.{rules, ◌≡◌, ◌⊎◌, ◌++◌, ◌∙◌, ℕ, List, Option, Some, Result, Err, ap, refl, inl, inr, [], Bool, true, false, arith, OnErr, IfErr, OnOk}
 use Rattle.hexfilter_core.specs.Dumps.{FromHexError, Groups, Location, encoded, text_from}
-use Rattle.hexfilter_core.specs.Runs.{Mode, RunError, Text, Decode, Encode, Ends, EndsIf, IsFailedWrite, MakesBeginning, RunsPartly, RunsToEnd, RunsToError, status_of}
+use Rattle.hexfilter_core.specs.Runs.{Mode, RunError, Text, Decode, Encode, Ends, EndsIf, IsFailedWrite, OutputsBeginning, RunsPartly, RunsToEnd, RunsToError, status_of}
 use Rattle.std.proofs.KnownBytes.{Appends-nil, Consumes-all, Consumes-nil}
 
 -- equal results have equal errors
-pub same_value : {V E : Type 0} (f g : E) → ◌≡◌ {A = Result V E} (Err f) (Err g) → f ≡ g
-same_value f g eq = cc
+pub same_error : {V E : Type 0} (f g : E) → ◌≡◌ {A = Result V E} (Err f) (Err g) → f ≡ g
+same_error f g eq = cc
 
 -- the contract of a run, by its exit status
 pub ends : (m : Mode) (in_before in_after out_before out_after : Option (List ℕ)) (r : Result Unit RunError)
@@ -27,10 +27,10 @@ pub failed : {P : Type 0} (r : Result Unit RunError) → IfErr r IsFailedWrite �
 failed r failed_write p = grind arith
 
 -- no output is a beginning of the output for no input
-nothing_made : (m : Mode) → MakesBeginning m [] []
+empty_output : (m : Mode) → OutputsBeginning m [] []
 unfolding text_from
-nothing_made (Encode prefix upper g) = (_, refl)
-nothing_made (Decode r) = ([], tt, grind arith)
+empty_output (Encode prefix upper g) = (_, refl)
+empty_output (Decode r) = ([], tt, grind arith)
 
 -- the same for a run that may not begin
 pub ends_always : (b : Bool) (m : Mode) (status : ℕ) (in_before in_after out_before out_after : Option (List ℕ))
@@ -38,7 +38,7 @@ pub ends_always : (b : Bool) (m : Mode) (status : ℕ) (in_before in_after out_b
 ends_always true m status in_before in_after out_before out_after h = h
 ends_always false m status in_before in_after out_before out_after (three, read, wrote) =
     let none : RunsPartly m in_before in_after out_before out_after =
-    ([], [], rw read (Consumes-nil in_before), nothing_made m, rw wrote (Appends-nil out_before)) in
+    ([], [], rw read (Consumes-nil in_before), empty_output m, rw wrote (Appends-nil out_before)) in
     search rules
 
 -- a run whose text has no error

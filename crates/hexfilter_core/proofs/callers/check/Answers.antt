@@ -8,7 +8,7 @@ use Rattle.hexfilter_core.proofs.lemmas.Runs.{ends_always}
 use Rattle.hexfilter_core.proofs.lemmas.Texts.{text_plain}
 use Rattle.hexfilter_core.specs.Dumps.{Reading}
 use Rattle.hexfilter_core.specs.Options.{with_arguments}
-use Rattle.hexfilter_core.specs.Runs.{Decode, Ends, Reads}
+use Rattle.hexfilter_core.specs.Runs.{Decode, Ends, DecodesTo}
 use Rattle.hexfilter_core.proofs.callers.check.Goals as goal
 
 abbrev plain : Reading
@@ -39,7 +39,7 @@ returns g c =
     (c.program.ensures.input (Decode plain) None (rw c.requires refl) refl) in record {
       done = λ zero.
           let (x, y, read, end, (bytes, reads, output_eq), wrote) = ends.0 zero in
-          let same : Reads x (Ok bytes) = rw (text_plain plain x refl) at reads in (x, bytes, read, end, same);
+          let same : DecodesTo x (Ok bytes) = rw (text_plain plain x refl) at reads in (x, bytes, read, end, same);
       rejected = λ x y remaining_eq reads one.
           let (e, location, (z, w, read, (bytes, fails, same), wrote)) = ends.1 one in
           let in_after = g.R.Read.remaining c.program.new.input in

@@ -5,7 +5,7 @@ use Rattle.std.proofs.Common.{◌∷◌, ◌++◌, ◌*◌, [], Ok, false, lengt
 use Rattle.std.proofs.lemmas.Result.{on_err_weaker, on_ok_weaker}
 use Rattle.hexfilter_core.proofs.lemmas.Texts.{text_plain}
 use Rattle.hexfilter_core.specs.Dumps.{InvalidHexCharacter, IsOdd, OddLength, Reading, Spells, body_of}
-use Rattle.hexfilter_core.specs.Runs.{Reads}
+use Rattle.hexfilter_core.specs.Runs.{DecodesTo}
 use Rattle.hexfilter_core.proofs.callers.decode.Goals as goal
 
 abbrev plain : Reading
@@ -15,7 +15,7 @@ pub returns-clause-ok : goal.returns-clause-ok
 returns-clause-ok g c =
     on_ok_weaker c.run.result (λ done.
     let (x, y, read, end, (bytes, reads, output_eq), wrote) = done in
-    let same : Reads x (Ok bytes) = rw (text_plain plain x refl) at reads in
+    let same : DecodesTo x (Ok bytes) = rw (text_plain plain x refl) at reads in
     (x, y, read, end, rw output_eq same, wrote))
     c.run.ensures.ok
 

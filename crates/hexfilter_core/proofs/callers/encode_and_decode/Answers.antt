@@ -35,7 +35,7 @@ returns g c =
       done = λ zero again.
           decoded_again prefix up ignores groups lines bytes are input rest out_before out_after (text zero)
           (second.0 again);
-      never_text = λ zero. not_rejected n _ (Some input) rest out_before out_after second (λ e location rejected.
+      never_rejected = λ zero. not_rejected n _ (Some input) rest out_before out_after second (λ e location rejected.
           never_rejected prefix up ignores groups lines bytes are input rest out_before out_after e location (text zero)
           rejected);
     }

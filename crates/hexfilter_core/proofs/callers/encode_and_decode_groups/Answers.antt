@@ -22,7 +22,7 @@ returns g c =
           (λ ran.
           decoded_again prefix up ignores groups lines bytes are _ rest out_before out_after text (rw read at ran))
           c.run-2.ensures.ok;
-      never_text = λ e location result_eq.
+      never_rejected = λ e location result_eq.
           never_rejected prefix up ignores groups lines bytes are _ rest out_before out_after e location text
           (rw read at (c.run-2.ensures.text e location result_eq));
     }

@@ -19,7 +19,7 @@ groups-preserved c =
     ∙ ap (λ l. take c.separate-start.result.0 c.separate-start.new.output ++ l) copied in record {
       within = omega arith;
       space = omega (arith, separated.within);
-      column = omega (arith, separated.column);
+      group_fill = omega (arith, separated.group_fill);
       groups = more_in_group _ _ _ text done count _ (λ rest some. written.groups rest ∙ separated.groups rest some)
           (omega arith) (omega arith) (omega arith) _ put;
     }
@@ -30,8 +30,8 @@ groups-preserved-then-text-done-gt-BLOCK c =
     let put = c.put_short-taken.ensures in record {
       within = omega arith;
       space = omega arith;
-      column = omega arith;
-      groups = rw c.if-column-groups.true (puts_more c.args.groups c.args.column _ _ c.args.text.now c.groups.done _
+      group_fill = omega arith;
+      groups = rw c.if-group_fill-groups.true (puts_more c.args.groups c.args.group_fill _ _ c.args.text.now c.groups.done _
           c.groups.output c.put_short-taken.new.output c.groups.end _ _ (omega arith) (omega arith) (omega arith)
-          (rw c.if-column-groups.true at written.groups) put.groups);
+          (rw c.if-group_fill-groups.true at written.groups) put.groups);
     }

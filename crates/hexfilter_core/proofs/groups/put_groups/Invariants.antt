@@ -7,8 +7,8 @@ abbrev pub invariant-groups : goal.invariant-groups
 invariant-groups l = record {
   within : l.done ≤ length l.text;
   space : l.end ≤ 2 * l.done;
-  column : l.column ≤ l.groups.size;
-  groups : PutsInto l.groups l.initial.column (take l.done l.text) (take l.end l.output) l.column;
+  group_fill : l.group_fill ≤ l.groups.size;
+  groups : PutsInto l.groups l.initial.group_fill (take l.done l.text) (take l.end l.output) l.group_fill;
 }
 
 abbrev pub decreases-groups : goal.decreases-groups

@@ -1,11 +1,11 @@
 -- Loop invariant: `l` has the live variables, `g` the type parameters and their traits' members.
 use Rattle.std.proofs.Common.{ℕ, List}
 use Rattle.std.specs.Io.KnownBytes.{Appends, Consumes}
-use Rattle.hexfilter_core.specs.Stages.{HasMade}
+use Rattle.hexfilter_core.specs.Stages.{HasOutput}
 use Rattle.hexfilter_core.proofs.runs.run.Given as goal
 
 abbrev pub invariant-chunks : goal.invariant-chunks
 invariant-chunks g l =
-    (x : List ℕ) × (y : List ℕ) × HasMade l.mode l.stage x y
+    (x : List ℕ) × (y : List ℕ) × HasOutput l.mode l.stage x y
     × Consumes (g.R.Read.remaining l.fn.input) (g.R.Read.remaining l.input) x
     × Appends (g.W.Write.contents l.fn.output) (g.W.Write.contents l.output) y

@@ -25,5 +25,5 @@ pub returns-clause-short : goal.returns-clause-short
 returns-clause-short g c = λ few.
     let text = full_text (not (nat_eq g.row.PREFIX 0)) (not (nat_eq g.row.UPPER 0)) c.args.bytes.now in
     let size = full_text_size (not (nat_eq g.row.PREFIX 0)) (not (nat_eq g.row.UPPER 0)) c.args.bytes.now in
-    short_stream g.S.Sink.step g.S.Sink.is_refused c.args.sink.now text c.write_to.new.sink c.requires
+    short_stream g.S.Sink.step g.S.Sink.has_failed c.args.sink.now text c.write_to.new.sink c.requires
     (omega (arith, size, c.text_length.ensures, c.if-text_length-eq0.false)) (grind (arith, few, size)) (search rules)

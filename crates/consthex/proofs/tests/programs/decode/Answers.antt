@@ -4,8 +4,8 @@
 use Rattle.std.proofs.Common.{arith, ◌≡◌, ◌≢◌, ◌∷◌, ◌⊎◌, ◌∙◌, [], List, Ok, Option, ℕ, codes, inl, inr, refl, sym, take}
 use Rattle.std.specs.Io.BufRead.{strip_last}
 use Rattle.std.specs.Io.KnownBytes.{Appends, Consumes, Keeps}
-use Rattle.const_hex.specs.Prelude.{Reads, WritesBeginning}
-use Rattle.consthex.specs.Program.{Answers, Ends, word_of}
+use Rattle.const_hex.specs.Prelude.{DecodesTo, WritesBeginning}
+use Rattle.consthex.specs.Program.{IsResultOfInput, Ends, word_of}
 use Rattle.consthex.specs.declared.mode.Mode.{Mode}
 use Rattle.consthex.specs.declared.mode.Mode.TheVariants.{Decode}
 use Rattle.consthex.proofs.tests.programs.decode.Goals as goal
@@ -28,9 +28,9 @@ ends_decode words status in_before in_after out_before out_after is_decode ran n
 -- after a failed read or write, nothing was written, or a beginning of the decoded bytes
 partly_written : (in_before in_after out_before out_after : Option (List ℕ))
     → Keeps out_before out_after
-    ⊎ ((bs : List ℕ) × Answers Decode in_before in_after (Ok bs) × WritesBeginning out_before out_after bs)
+    ⊎ ((bs : List ℕ) × IsResultOfInput Decode in_before in_after (Ok bs) × WritesBeginning out_before out_after bs)
     → Keeps out_before out_after
-    ⊎ ((x : List ℕ) × (y : List ℕ) × (n : ℕ) × Consumes in_before in_after x × Reads (strip_last 10 x) (Ok y)
+    ⊎ ((x : List ℕ) × (y : List ℕ) × (n : ℕ) × Consumes in_before in_after x × DecodesTo (strip_last 10 x) (Ok y)
     × Appends out_before out_after (take n y))
 partly_written in_before in_after out_before out_after (inl unchanged) = inl unchanged
 partly_written in_before in_after out_before out_after

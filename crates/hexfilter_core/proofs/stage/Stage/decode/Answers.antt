@@ -9,8 +9,8 @@ use Rattle.hexfilter_core.proofs.stage.Stage.decode.Goals as goal
 cut_at : (x u : List ℕ) (k : ℕ) → k < length u → (x ++ take k u) ++ get_or u k 0 ∷ drop (k + 1) u ≡ x ++ u
 cut_at x u k h = grind (arith, common_steps)
 
-pub returns-in-Ok-clause-made : goal.returns-in-Ok-clause-made
-returns-in-Ok-clause-made c = λ x y in_after has.
+pub returns-in-Ok-clause-reaches : goal.returns-in-Ok-clause-reaches
+returns-in-Ok-clause-reaches c = λ x y in_after has.
     (λ some. c.in-Ok.ensures.ok x y has, λ none. absurd (omega (arith, none, c.requires.chunk)))
 
 pub bytes-preserved : goal.bytes-preserved
@@ -36,8 +36,8 @@ bytes-preserved c =
           (ensured.ok (x ++ take done chunk) (y ++ take end out) (i.decoded x y has));
     }
 
-pub returns-in-Err-clause-made : goal.returns-in-Err-clause-made
-returns-in-Err-clause-made c = λ x y in_after has.
+pub returns-in-Err-clause-reaches : goal.returns-in-Err-clause-reaches
+returns-in-Err-clause-reaches c = λ x y in_after has.
     let chunk = c.args.chunk.now in
     let done = c.bytes.done in
     let end = c.bytes.end in
@@ -54,8 +54,8 @@ returns-in-Err-clause-made c = λ x y in_after has.
     (c.error.ensures (x ++ take done chunk) (y ++ take end out) (drop (done + 1) chunk) in_after read
     (omega (arith, length-drop (done + 1) chunk, c.requires.chunk, inside)) invalid))
 
-pub returns-clause-made : goal.returns-clause-made
-returns-clause-made c = λ x y in_after has. (
+pub returns-clause-reaches : goal.returns-clause-reaches
+returns-clause-reaches c = λ x y in_after has. (
   λ some. rw (take_all c.bytes.done c.args.chunk.now (omega arith)) at (c.bytes.invariant.decoded x y has),
   λ none. absurd (omega (arith, none, c.requires.chunk)),
 )
