@@ -1,4 +1,5 @@
--- Loop invariant and measure: `l` has the live variables.
+-- The invariant of the loop `bytes`, and its measure, which decreases with each iteration. `l` has the live variables,
+-- `l.initial` their values before the loop.
 use Rattle.std.proofs.Common.{◌≡◌, ◌<◌, ◌+◌, ◌-◌, ◌≤◌, length, take, drop, slice_index}
 use Rattle.const_hex_c.proofs.message.write_ended.Given as goal
 

@@ -1,4 +1,7 @@
--- Proofs of open goals: `c` has the facts that are known at a goal, `g` the type parameters and their traits' members.
+-- Proofs of open goals, named after their places: `returns` is the return at the end; `clause-X` is the clause X of the
+-- contract. `c` has the facts that are known there: `c.F.ensures` is what the call of F ensures. `g` has the type
+-- parameters and their traits' members.
+--
 -- `x` is the input that was read, `y` is the output that was written for it, and `has` is the fact that they match the
 -- state.
 use Rattle.std.proofs.Common.{◌∷◌, ◌++◌, ◌*◌, [], Ok, false, length, refl, take}

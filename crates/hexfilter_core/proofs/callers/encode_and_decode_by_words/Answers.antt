@@ -1,4 +1,5 @@
--- Proofs of open goals: `c` has the facts that are known at a goal, `g` the type parameters and their traits' members.
+-- Proof of an open goal, named after its place: `F-requires` is what the call of F requires; `clause-X` is the clause X
+-- of the contract. `c` has the facts that are known there. `g` has the type parameters and their traits' members.
 use Rattle.std.proofs.Common.{◌≡◌, ◌⊎◌, ◌∷◌, [], Bool, ℕ, List, codes, false, inl, inr, refl, true}
 use Rattle.hexfilter_core.specs.Dumps.{Groups, IgnoresLines, mirror}
 use Rattle.hexfilter_core.specs.Options.{AreFor, WritesGroups, is_separator}

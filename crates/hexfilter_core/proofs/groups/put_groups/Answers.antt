@@ -1,4 +1,7 @@
--- Proofs of open goals: `c` has the facts that are known at a goal.
+-- Proofs of open goals, named after their places: `then-F` is the `then` branch of the `if` that tests F; `L-preserved`
+-- is the invariant after an iteration of the loop L. `c` has the facts that are known there: `c.args` are the
+-- arguments; `c.F.ensures` is what the call of F ensures; `c.if-F` is the test of F; `c.L.invariant` is that of the
+-- loop L.
 use Rattle.std.proofs.Common.{◌≡◌, ◌∙◌, ◌+◌, ◌-◌, ◌++◌, take, drop, ap, arith, take-take}
 use Rattle.hexfilter_core.proofs.lemmas.Groups.{more_in_group, puts_more}
 use Rattle.hexfilter_core.proofs.lemmas.Texts.{take_put}

@@ -1,4 +1,5 @@
--- Loop invariant and measure: `l` has the live variables.
+-- The invariant of the loop `groups`, and its measure, which decreases with each iteration. `l` has the live variables,
+-- `l.initial` their values before the loop.
 use Rattle.std.proofs.Common.{◌-◌, ◌*◌, ◌≤◌, length, take}
 use Rattle.hexfilter_core.specs.Dumps.{PutsInto}
 use Rattle.hexfilter_core.proofs.groups.put_groups.Given as goal

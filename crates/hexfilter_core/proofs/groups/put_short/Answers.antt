@@ -1,4 +1,6 @@
--- Proofs of open goals: `c` has the facts that are known at a goal.
+-- Proof of an open goal, named after its place: `L-preserved` is the invariant after an iteration of the loop L. `c`
+-- has the facts that are known there: `c.args` are the arguments; `c.F.ensures` is what the call of F ensures;
+-- `c.L.invariant` is that of the loop L.
 use Rattle.std.proofs.Common.{arith}
 use Rattle.hexfilter_core.proofs.lemmas.Groups.{puts_more}
 use Rattle.hexfilter_core.proofs.groups.put_short.Goals as goal

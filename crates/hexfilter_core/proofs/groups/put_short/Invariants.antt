@@ -1,4 +1,4 @@
--- Loop invariant and measure: `l` has the live variables.
+-- The invariant of the loop `groups`, and its measure, which decreases with each iteration. `l` has the live variables.
 use Rattle.std.proofs.Common.{◌*◌, ◌≤◌, ◌-◌, length, take}
 use Rattle.hexfilter_core.specs.Dumps.{PutsInto}
 use Rattle.hexfilter_core.proofs.groups.put_short.Given as goal

@@ -1,4 +1,7 @@
--- Proofs of open goals: `c` has the facts that are known at a goal, `g` the type parameters and their traits' members.
+-- Proofs of open goals, named after their places: `returns` is a return; `then-F` is the `then` branch of the `if` that
+-- tests F; `in-V` is the arm V of a `match`; `clause-X` is the clause X of the contract. `c` has the facts that are
+-- known there: `c.args` are the arguments; `c.F.ensures` is what the call of F ensures. `g` has the type parameters and
+-- their traits' members.
 use Rattle.std.proofs.Common.{◌≡◌, List, ℕ, Some, Option, true, false, refl, Bor, option_copied}
 use Rattle.hexfilter_core.proofs.lemmas.Runs.{ends}
 use Rattle.hexfilter_core.proofs.process.run_on.Goals as goal

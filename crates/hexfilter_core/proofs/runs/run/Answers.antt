@@ -1,4 +1,8 @@
--- Proofs of open goals: `c` has the facts that are known at a goal, `g` the type parameters and their traits' members.
+-- Proofs of open goals, named after their places: `returns` is the return at the end; `then-F` is the `then` branch of
+-- the `if` that tests F; `in-V` is the arm V of a `match`; `in_err-F` is the error that `?` returns after F;
+-- `L-preserved` is the invariant after an iteration of the loop L; `clause-X` is the clause X of the contract. `c` has
+-- the facts that are known there: `c.args` are the arguments; `c.F.ensures` is what the call of F ensures; `c.if-F` is
+-- the test of F; `c.L.invariant` is that of the loop L. `g` has the type parameters and their traits' members.
 use Rattle.std.proofs.Common.{rules, ◌++◌, ◌+◌, [], Some, length, take, arith, length-take, refl}
 use Rattle.std.proofs.KnownBytes.{Appends-kept, Appends-trans, Consumes-kept, Consumes-trans}
 use Rattle.std.proofs.Math.Seq.{take-append-add}

@@ -1,4 +1,5 @@
--- Loop invariant: `l` has the live variables, `g` the type parameters and their traits' members.
+-- The invariant of the loop `chunks`. `l` has the live variables, `l.fn` the function's arguments. `g` has the type
+-- parameters and their traits' members.
 use Rattle.std.proofs.Common.{ℕ, List}
 use Rattle.std.specs.Io.KnownBytes.{Appends, Consumes}
 use Rattle.hexfilter_core.specs.Stages.{HasOutput}

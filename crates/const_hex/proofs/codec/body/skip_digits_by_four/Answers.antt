@@ -1,4 +1,7 @@
--- Proofs of open goals: `c` has the facts that are known at a goal.
+-- Proofs of open goals, named after their places: `returns` is a return; `then-F` is the `then` branch of the `if` that
+-- tests F; `L-preserved` is the invariant after an iteration of the loop L; `clause-X` is the clause X of the contract;
+-- `-2` is the second one of that name. `c` has the facts that are known there: `c.args` are the arguments;
+-- `c.F.ensures` is what the call of F ensures; `c.if-F` is the test of F; `c.L.invariant` is that of the loop L.
 use Rattle.std.proofs.Common.{◌+◌, ◌≤◌, length, take, refl, arith}
 use Rattle.const_hex.specs.Prelude.{AllDigits}
 use Rattle.const_hex.proofs.lemmas.Searching.{two_more}

@@ -1,4 +1,7 @@
--- Proofs of open goals: `c` has the facts that are known at a goal, `g` the type parameters and their traits' members.
+-- Proofs of open goals, named after their places: `returns` is the return at the end; `then-F` is the `then` branch of
+-- the `if` that tests F; `clause-X` is the clause X of the contract. `c` has the facts that are known there: `c.args`
+-- are the arguments; `c.F.ensures` is what the call of F ensures; `c.if-F` is the test of F. `g` has the type
+-- parameters and their traits' members.
 use Rattle.std.proofs.Common.{◌≡◌, ◌<◌, ℕ, Bool, not, nat_eq, List, [], length, min, arith, rules}
 use Rattle.std.proofs.lemmas.List.{nil_from_length}
 use Rattle.const_hex.specs.Prelude.{full_text, text_length}

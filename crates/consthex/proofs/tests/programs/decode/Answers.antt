@@ -1,4 +1,6 @@
--- Proofs of open goals: `c` has the facts that are known at a goal, `g` the type parameters and their traits' members.
+-- Proof of the open goal `returns`: the clauses of the contract hold at the return. `c` has the facts that are known
+-- there: `c.F.ensures` is what the call of F ensures. `g` has the type parameters and their traits' members.
+--
 -- `x` is the input that was read, `y` is the output that was written for it, and `has` is the fact that they match the
 -- state.
 use Rattle.std.proofs.Common.{arith, ◌≡◌, ◌≢◌, ◌∷◌, ◌⊎◌, ◌∙◌, [], List, Ok, Option, ℕ, codes, inl, inr, refl, sym, take}

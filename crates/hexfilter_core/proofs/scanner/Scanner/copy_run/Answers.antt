@@ -1,4 +1,6 @@
--- Proofs of open goals: `c` has the facts that are known at a goal.
+-- Proofs of open goals, named after their places: `returns` is the return at the end; `then-F` is the `then` branch of
+-- the `if` that tests F; `clause-X` is the clause X of the contract. `c` has the facts that are known there: `c.args`
+-- are the arguments; `c.F.ensures` is what the call of F ensures.
 use Rattle.std.proofs.Common.{◌≡◌, ◌≤◌, take, arith, false, length-take-le, nat_lt, take-take}
 use Rattle.std.proofs.lemmas.List.Elements.{All-take}
 use Rattle.hexfilter_core.proofs.lemmas.Texts.{high_added, group_fill_bound}

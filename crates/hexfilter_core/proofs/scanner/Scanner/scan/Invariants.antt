@@ -1,4 +1,5 @@
--- Loop invariant and measure: `l` has the live variables.
+-- The invariant of the loop `runs`, and its measure, which decreases with each iteration. `l` has the live variables,
+-- `l.fn` the function's arguments.
 use Rattle.std.proofs.Common.{◌-◌, ◌≤◌, List, ℕ, length, take}
 use Rattle.hexfilter_core.specs.Stages.{HasAdded, HasScanned}
 use Rattle.hexfilter_core.proofs.scanner.Scanner.scan.Given as goal

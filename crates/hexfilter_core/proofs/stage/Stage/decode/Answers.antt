@@ -1,5 +1,10 @@
--- Proofs of open goals: `c` has the facts that are known at a goal. `x` is the input that was read, `y` is the output
--- that was written for it, and `has` is the fact that they match the state.
+-- Proofs of open goals, named after their places: `returns` is the return at the end; `in-V` is the arm V of a `match`;
+-- `L-preserved` is the invariant after an iteration of the loop L; `clause-X` is the clause X of the contract. `c` has
+-- the facts that are known there: `c.args` are the arguments; `c.F.ensures` is what the call of F ensures;
+-- `c.L.invariant` is that of the loop L.
+--
+-- `x` is the input that was read, `y` is the output that was written for it, and `has` is the fact that they match the
+-- state.
 use Rattle.std.proofs.Common.{◌≡◌, ◌∷◌, ◌++◌, ◌+◌, ◌<◌, ℕ, List, length, take, drop, get_or, sym, arith, append_assoc, length-drop, take_all}
 use Rattle.std.proofs.lemmas.Grind.{common_steps}
 use Rattle.std.proofs.lemmas.Slice.{take-put_mid_below}

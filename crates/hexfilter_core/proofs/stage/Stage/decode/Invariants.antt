@@ -1,4 +1,4 @@
--- Loop invariant: `l` has the live variables.
+-- The invariant of the loop `bytes`. `l` has the live variables, `l.fn` the function's arguments.
 use Rattle.std.proofs.Common.{◌≤◌, ◌++◌, ℕ, List, take}
 use Rattle.hexfilter_core.specs.Stages.{HasDecoded}
 use Rattle.hexfilter_core.proofs.stage.Stage.decode.Given as goal

@@ -1,4 +1,5 @@
--- Proofs of open goals: `c` has the facts that are known at a goal.
+-- Proofs of open goals, named after their places: `returns` is a return; `in-V` is the arm V of a `match`. `c` has the
+-- facts that are known there: `c.args` are the arguments; `c.F.ensures` is what the call of F ensures.
 use Rattle.std.proofs.Common.{rules, refl}
 use Rattle.hexfilter_core.proofs.lemmas.Runs.{same_error}
 use Rattle.hexfilter_core.proofs.lemmas.Texts.{pairs}

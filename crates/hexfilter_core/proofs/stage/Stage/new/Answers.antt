@@ -1,4 +1,5 @@
--- Proofs of open goals: `c` has the facts that are known at a goal.
+-- Proof of an open goal, named after its place: `returns` is a return; `in-V` is the arm V of a `match`. `c` has the
+-- facts that are known there: `c.F.ensures` is what the call of F ensures.
 use Rattle.std.proofs.Common.{arith, refl}
 use Rattle.hexfilter_core.specs.Dumps.{group_fill_after_all, location_after, text_from}
 use Rattle.hexfilter_core.proofs.stage.Stage.new.Goals as goal

@@ -1,5 +1,9 @@
--- Proofs of open goals: `c` has the facts that are known at a goal. `x` is the input that was read, `y` is the output
--- that was written for it, and `has` is the fact that they match the state.
+-- Proofs of open goals, named after their places: `returns` is a return; `in-V` is the arm V of a `match`; `clause-X`
+-- is the clause X of the contract; `-2` is the second one of that name. `c` has the facts that are known there:
+-- `c.args` are the arguments; `c.F.ensures` is what the call of F ensures.
+--
+-- `x` is the input that was read, `y` is the output that was written for it, and `has` is the fact that they match the
+-- state.
 use Rattle.std.proofs.Common.{◌≡◌, ◌++◌, [], ℕ, List, Bool, true, false, if◌then◌else◌, ap, append-nil, arith, length}
 use Rattle.std.proofs.lemmas.Bool.Decides.{nat_tests}
 use Rattle.std.proofs.lemmas.Grind.{common_steps}

@@ -1,4 +1,6 @@
--- Proofs of open goals: `c` has the facts that are known at a goal, `g` the type parameters and their traits' members.
+-- Proofs of open goals, named after their places: `returns` is the return at the end; `then-F` is the `then` branch of
+-- the `if` that tests F. `c` has the facts that are known there: `c.args` are the arguments; `c.F.ensures` is what the
+-- call of F ensures; `c.if-F` is the test of F. `g` has the type parameters and their traits' members.
 use Rattle.std.proofs.Common.{◌++◌, ℕ, List, Err, arith, refl, sym, length, ◌≡◌, ◌∙◌, take, drop, rules, length-take-le, take_at, drop_at}
 use Rattle.const_hex.specs.Prelude.{HasRead, InvalidStringLength, ChunkResult}
 use Rattle.const_hex_arch.proofs.lemmas.Digits.{digits_append}
