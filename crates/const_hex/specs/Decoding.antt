@@ -1,4 +1,8 @@
--- Decoding a text that arrives in chunks.
+-- Decoding a text that arrives in chunks, by a `Decoder`.
+--
+-- `t` is the text read so far, `bs` are the bytes that were written for it, `n` is the space of an output, `r` the
+-- result of a call, and `e` an error. `Spells u bs` says that the digits u decode to the bytes bs, and `Partial old u
+-- new` what an output holds after u was rejected.
 use Rattle.std.specs.Prelude.{◌≡◌, ℕ, ◌+◌, ◌-◌, ◌/◌, ◌^◌, ◌≤◌, ◌<◌, ◌==◌, nat_le, min, if◌then◌else◌, List, [], ◌∷◌, ◌++◌, length, Option, Some, None, Result, Ok, Err, ◌*◌, ◌≢◌, take, drop, IfOk, IfErr, IfSome, OnOk}
 use Rattle.const_hex_arch.specs.Texts.{AllDigits, Partial, Spells}
 use Rattle.const_hex.specs.Results.{body_of, NamesFirstInvalid}

@@ -1,4 +1,8 @@
 -- The results for a text: its prefix, and the bytes or the error.
+--
+-- `t` is a text, `u` a text without a prefix, `bs` are bytes, `n` is their number, `r` a result, and `e` an error.
+-- `Spells u bs` says that the digits u decode to the bytes bs, and `Partial old u new` what an output holds after u
+-- was rejected.
 use Rattle.std.specs.Prelude.{◌≡◌, ℕ, ◌+◌, ◌-◌, ◌==◌, nat_le, ◌&&◌, ◌||◌, if◌then◌else◌, List, [], ◌∷◌, length, map, slice_index, ◌*◌, ◌%◌, ◌≢◌, ◌<◌, ◌≤◌, Bool, Result, Ok, Err, ◌++◌, ◌↔◌, true, false, String, string_bytes, take, drop, IfOk, IfErr, OnOk, OnErr, IsOk, IsTrue, MatchResult, is_some}
 use Rattle.const_hex_arch.specs.Texts.{FirstInvalidAt, hex_value, Spells, Partial, hex_text, full_text}
 use Rattle.const_hex.specs.declared.error.FromHexError.{FromHexError}
@@ -34,8 +38,8 @@ IsEven n = n % 2 ≡ 0
 abbrev pub AreBytes : List ℕ → Type 0
 AreBytes bs = (k : ℕ) → slice_index bs k < 256
 
--- the result when the text t is read: `OddLength` if the length of the whole text is odd; else the
--- bytes that its body decodes to, or else the first invalid character
+-- the result when the text t is decoded: `OddLength` if the length of the whole text is odd; else the bytes that its
+-- body decodes to, or else the first invalid character
 abbrev pub DecodesTo : List ℕ → Result (List ℕ) FromHexError → Type 0
 DecodesTo t (Ok bs) = IsEven (length t) × Spells (body_of t) bs
 DecodesTo t (Err OddLength) = IsOdd (length t)
@@ -43,8 +47,8 @@ DecodesTo t (Err InvalidStringLength) = ⊥
 DecodesTo t (Err (InvalidHexCharacter c i)) = IsEven (length t) × NamesFirstInvalid t c i
 DecodesTo t (Err NoMemory) = ⊥
 
--- the result when t is read as n bytes: if the length is not odd, a body of another length is
--- an error, before any of its bytes is tested
+-- the result when t is decoded to n bytes: if the length is not odd, a body of another length is an error, before any
+-- of its bytes is tested
 abbrev pub DecodesToExactly : List ℕ → ℕ → Result (List ℕ) FromHexError → Type 0
 DecodesToExactly t n (Ok bs) = (length (body_of t) ≡ 2 * n) × DecodesTo t (Ok bs)
 DecodesToExactly t n (Err OddLength) = IsOdd (length t)
@@ -61,8 +65,8 @@ all_digits u = list_all (λ b. is_some (hex_value b)) u
 abbrev pub is_text_of : ℕ → List ℕ → Bool
 is_text_of n t = (length (body_of t) == 2 * n) && all_digits (body_of t)
 
--- the result when t is read into space for n bytes: if the length is not odd, a body with too many
--- digits is an error, before any of its bytes is tested
+-- the result when t is decoded into space for n bytes: if the length is not odd, a body with too many digits is an
+-- error, before any of its bytes is tested
 abbrev pub DecodesWithin : List ℕ → ℕ → Result (List ℕ) FromHexError → Type 0
 DecodesWithin t n (Ok bs) = (length (body_of t) ≤ 2 * n) × DecodesTo t (Ok bs)
 DecodesWithin t n (Err OddLength) = IsOdd (length t)
@@ -71,7 +75,7 @@ DecodesWithin t n (Err (InvalidHexCharacter c i)) =
     (length (body_of t) ≤ 2 * n) × DecodesTo t (Err (InvalidHexCharacter c i))
 DecodesWithin t n (Err NoMemory) = ⊥
 
--- the result when t is checked: the result when it is read, without the bytes
+-- the result when t is checked: the result when it is decoded, without the bytes
 abbrev pub Checks : List ℕ → Result Unit FromHexError → Type 0
 Checks t (Ok u) = (bs : List ℕ) × DecodesTo t (Ok bs)
 Checks t (Err e) = DecodesTo t (Err e)

@@ -1,4 +1,9 @@
--- Lemmas for the law of `FromHex`.
+-- Proofs of the law `faithful` of `FromHex`, for each kind of type. A law is a statement that a trait demands of each
+-- impl.
+--
+-- `results t r` says that a type may have the result r for the text t, and `h` is the fact that it may. `bytes` and
+-- `items` are the bytes and the elements of a value, `fits` are the numbers of bytes that a value may have, and
+-- `is_memory` says which errors mean out of memory.
 use Rattle.std.proofs.Common.{inl, inr, sym, ◌∙◌, arith, ◌≡◌, ℕ, suc, ◌*◌, ◌%◌, ◌<◌, ◌≢◌, Bool, List, [], ◌∷◌, length, map, ℤ, Result, Ok, Err, refl}
 use Rattle.std.proofs.lemmas.Bool.{cases_eq}
 use Rattle.std.proofs.lemmas.Bool.Decides.{nat_tests}
@@ -36,6 +41,7 @@ AreFaithful bytes fits is_memory results =
 
 -- ---- owned bytes
 
+-- types that own their bytes are faithful
 pub DecodesToOwned-faithful : {V : Type 0} (bytes : V → List ℕ)
     → AreFaithful bytes AnyCount is_no_memory (DecodesToOwned bytes)
 DecodesToOwned-faithful bytes t (Ok v) h = (h, tt)
@@ -49,6 +55,7 @@ unfit : (n : ℕ) (t : List ℕ) → length (body_of t) ≢ 2 * n → (r : Resul
 unfit n t other (Ok bs, h) = inr (bs, h, λ same. other (omega (arith, Spells-length (body_of t) bs h.1, same)))
 unfit n t other (Err e, h) = inl (e, h)
 
+-- arrays are faithful
 pub DecodesToExactly-faithful : (n : ℕ) → AreFaithful (λ bs. bs) (IsCount n) is_no_memory (λ t r. DecodesToExactly t n r)
 DecodesToExactly-faithful n t (Ok bs) h = (h.1, omega (arith, Spells-length (body_of t) bs h.1.1, h.0))
 DecodesToExactly-faithful n t (Err OddLength) h = λ _. inl (OddLength, h)
@@ -62,6 +69,7 @@ DecodesToExactly-faithful n t (Err NoMemory) h = absurd h
 byte_of-signed_of : (b : ℕ) → b < 256 → byte_of (signed_of b) ≡ b
 byte_of-signed_of b h = grind (arith, nat_tests)
 
+-- bytes come back from their signed numbers
 bytes_back : (bs : List ℕ) → AreBytes bs → map byte_of (map signed_of bs) ≡ bs
 bytes_back [] h = refl
 bytes_back (b ∷ bs) h = rw (byte_of-signed_of b (h 0), bytes_back bs (λ k. h (suc k))) refl
@@ -78,6 +86,7 @@ module _ {V : Type 0} (items : V → List ℤ) (fits : ℕ → Type 0)
 
 -- ---- a type of your own
 
+-- a type whose values stand for bytes is faithful if the results for the bytes are
 pub DecodesToValue-faithful : {V : Type 0} (bytes : V → List ℕ) (fits : ℕ → Type 0)
     (results : List ℕ → Result (List ℕ) FromHexError → Type 0) → AreFaithful (λ bs. bs) fits is_no_memory results
     → AreFaithful bytes fits is_no_memory (DecodesToValue bytes results)
@@ -86,6 +95,7 @@ DecodesToValue-faithful bytes fits results law t (Err e) h = law t (Err e) h
 
 -- ---- pointers
 
+-- a pointer is faithful if its target is
 pub DecodesToPointer-faithful : {W V E : Type 0} (target : W → V) (bytes : V → List ℕ) (fits : ℕ → Type 0)
     (is_memory : E → Bool) (results : List ℕ → Result V E → Type 0) → AreFaithful bytes fits is_memory results
     → AreFaithful (λ w. bytes (target w)) fits is_memory (DecodesToPointer target is_memory results)

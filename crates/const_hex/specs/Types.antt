@@ -1,4 +1,8 @@
 -- Types that can be decoded from text, or encoded as it: their results, and the law of `FromHex`.
+--
+-- `t` is a text, `v` a value, `bs` are bytes, `r` is a result, and `e` an error. `results t r` says that a type may
+-- have the result r for the text t, `bytes` and `items` are the bytes and the elements of a value, `fits` are the
+-- numbers of bytes that a value may have, and `is_memory` says which errors mean out of memory.
 use Rattle.std.specs.Prelude.{ℕ, ◌-◌, nat_lt, if◌then◌else◌, ℤ, pos, negsuc, ◌≡◌, Bool, true, false, ◌⊎◌, List, length, map, Result, Ok, Err, Option, Some, codes, ◌∷◌, None}
 use Rattle.const_hex.specs.Results.{DecodesTo, IsEven, IsOdd}
 use Rattle.const_hex.specs.declared.error.FromHexError.{FromHexError}

@@ -1,4 +1,7 @@
 -- What formatters, sinks and writers hold after a write.
+--
+-- `s` and `t` are the states of a sink before and after a piece. `took` says what a write of text does to a
+-- formatter's destination, and `contents` is what a writer holds, or None if a contract cannot know it.
 use Rattle.std.specs.Prelude.{◌≡◌, ◌≢◌, ℕ, Bool, false, List, true, [], take, Option, is_some, IfSome}
 use Rattle.std.specs.Borrow.{GName}
 use Rattle.std.specs.Fmt.{IsFlush, HasWrittenStyled}

@@ -1,4 +1,8 @@
--- What a sink takes: the accepted pieces, and a text that is written in large pieces.
+-- What a sink takes: the accepted pieces, and a text that is written in large pieces. A sink receives text, and may
+-- fail at each call.
+--
+-- `step s piece t` says that a call with the piece takes a sink from the state s to t, and `has_failed s` that a call
+-- has failed. A sink reports the pieces that it accepted if its contract has them; else what it reports is None.
 use Rattle.std.specs.Prelude.{◌≡◌, ℕ, Bool, true, false, List, ◌++◌, Option, Some, None, ◌+◌, [], ◌∷◌, length, if◌then◌else◌, ◌-◌, ◌/◌, ◌≤◌, not, take}
 use Rattle.std.specs.Borrow.{GName}
 use Rattle.const_hex_arch.specs.declared.sink.output.SinkOutput.{SinkOutput}
@@ -39,8 +43,8 @@ pub record PieceState : Type 0 where
 abbrev pub count_of_calls : PieceState → ℕ
 count_of_calls s = length s.pieces + (if s.failed then 1 else 0)
 
--- one call: the piece is accepted and becomes the last one, or the call fails and the pieces are unchanged;
--- the call with the given number fails
+-- one call: the piece is accepted and becomes the last one, or the call fails and the pieces are unchanged; the call
+-- with the number `fail_at` fails
 pub record PieceStep (s : PieceState) (piece : List ℕ) (t : PieceState) : Type 0 where
   pub same_fail_at : t.fail_at ≡ s.fail_at
   pub accepted : t.failed ≡ false → t.pieces ≡ s.pieces ++ piece ∷ []

@@ -6,12 +6,15 @@ use Rattle.const_hex.specs.Texts.{text_length}
 abbrev pub AreFlags : ℕ → Type 0
 AreFlags flags = flags < 8
 
+-- whether digits are in uppercase
 abbrev pub is_upper : ℕ → Bool
 is_upper flags = flags % 2 == 1
 
+-- whether `0x` is written before the digits
 abbrev pub has_prefix : ℕ → Bool
 has_prefix flags = flags / 2 % 2 == 1
 
+-- whether a NUL is written after the text
 abbrev pub has_nul : ℕ → Bool
 has_nul flags = flags / 4 % 2 == 0
 

@@ -1,4 +1,7 @@
 -- The program: its modes, its result for an input, and its errors.
+--
+-- `m` is a mode, `x` an input, `bs` are the bytes of an output, and `e` is an error of the text. `DecodesTo t r` says
+-- that a text t decodes to the result r, and `Checks t r` that a check of it has that result.
 use Rattle.std.specs.Prelude.{ℕ, List, codes, ◌≡◌, ◌⊎◌, ⊤, ◌<◌, ◌≤◌, true, false, [], ◌∷◌, ◌++◌, length, Result, Ok, Err, Option, Some, if◌then◌else◌}
 use Rattle.consthex.specs.declared.mode.Mode.{Mode}
 use Rattle.consthex.specs.declared.mode.Mode.TheVariants.{Encode, EncodeUpper, EncodePrefixed, EncodeUpperPrefixed, Decode, Check}
@@ -52,7 +55,7 @@ Fails EncodeUpperPrefixed x e = ⊥
 Fails Decode x e = DecodesTo (without_newline x) (Err e)
 Fails Check x e = Checks (without_newline x) (Err e)
 
--- the result of the mode for the input x, which is unique
+-- r is the result of the mode for the input x. Each input has one result
 abbrev pub IsResult : Mode → List ℕ → Result (List ℕ) RunError → Type 0
 IsResult m x (Ok bs) = (length x ≤ limit) × Outputs m x bs
 IsResult m x (Err (Text e)) = (length x ≤ limit) × Fails m x e
@@ -80,7 +83,7 @@ MayAllocate Check x = Checks (without_newline x) (Ok tt)
 abbrev pub ReadsAll : Option (List ℕ) → Option (List ℕ) → List ℕ → Type 0
 ReadsAll in_before in_after x = Consumes in_before in_after x × IsAtEnd in_after
 
--- the reader was read to its end, and r is the mode's result for what was read
+-- the reader was read to its end, and r is the result of the mode for what was read
 abbrev pub IsResultOfInput : Mode → Option (List ℕ) → Option (List ℕ) → Result (List ℕ) RunError → Type 0
 IsResultOfInput m in_before in_after r = (x : List ℕ) × ReadsAll in_before in_after x × IsResult m x r
 

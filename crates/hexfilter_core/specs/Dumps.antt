@@ -1,4 +1,7 @@
--- A hex dump: the text of bytes in groups, as it is written, and an input that is read as such a text.
+-- A hex dump: the text of bytes in groups, as it is written, and an input that is decoded as such a text.
+--
+-- `g` are groups, and `k` is the number of characters in the last group so far. `x` is an input, `t` its text, `r`
+-- are the options of decoding, and `y` is an output. `Spells u y` says that the digits u decode to the bytes y.
 use Rattle.std.specs.Prelude.{◌≡◌, ℕ, ◌+◌, ◌-◌, ◌*◌, ◌/◌, ◌^◌, ◌==◌, nat_le, nat_lt, ◌<◌, min, ◌&&◌, ◌||◌, not, Bool, true, false, if◌then◌else◌, List, [], ◌∷◌, ◌++◌, length, take, Option, Some, None}
 use Rattle.std.specs.Io.KnownBytes.{IsAtEnd}
 pub use Rattle.const_hex.specs.Prelude.{IsOdd, body_of, saturated, AllDigits, Spells, full_text}
@@ -48,7 +51,7 @@ is_left_out r k b = (is_full r.groups k && (b == r.groups.separator)) || (r.igno
 abbrev pub text_of_byte : Reading → ℕ → ℕ → List ℕ
 text_of_byte r k b = if is_left_out r k b then [] else (if is_full r.groups k then 0 else b) ∷ []
 
--- the number of characters since the last separator, after the byte b
+-- the number of characters since the last separator, which is the fill of the last group, after the byte b
 abbrev pub group_fill_after : Reading → ℕ → ℕ → ℕ
 group_fill_after r k b =
     if is_full r.groups k && (b == r.groups.separator) then 0
@@ -60,7 +63,7 @@ unfoldable pub text_from : Reading → ℕ → List ℕ → List ℕ
 text_from r k [] = []
 text_from r k (b ∷ x) = text_of_byte r k b ++ text_from r (group_fill_after r k b) x
 
--- the number of characters since the last separator, after an input that begins k characters after the last one
+-- the fill of the last group after an input that begins in a group of k characters
 unfoldable pub group_fill_after_all : Reading → ℕ → List ℕ → ℕ
 group_fill_after_all r k [] = k
 group_fill_after_all r k (b ∷ x) = group_fill_after_all r (group_fill_after r k b) x
@@ -83,7 +86,7 @@ IgnoresLines i g = (g.separator == 10) && nat_lt 0 g.size ≡ true → i ≡ tru
 
 -- ---- the line and column of a character, as editors count them
 
--- the location after the bytes, which begin at the location p
+-- the location after the bytes t, of which the first is at the location p
 unfoldable pub location_after : Location → List ℕ → Location
 location_after p [] = p
 location_after p (b ∷ t) =

@@ -1,4 +1,7 @@
 -- What the arguments of the program ask for.
+--
+-- `o` and `p` are the options so far and after one more, `a` is an argument, `i` its index, and `v` the value of an
+-- option. `words` are arguments.
 use Rattle.std.specs.Prelude.{◌≡◌, ◌⊎◌, ◌++◌, ℕ, ◌+◌, ◌-◌, ◌*◌, ◌^◌, ◌==◌, nat_lt, min, ◌&&◌, ◌||◌, not, true, false, if◌then◌else◌, Bool, List, [], ◌∷◌, length, Option, Some, None, Result, Ok, Err, codes, is_some, unwrap_or}
 use Rattle.std.specs.Char.{is_ascii_hexdigit}
 use Rattle.std.specs.List.{after_first, before_first, list_any, position_or_len}
@@ -34,7 +37,7 @@ option_table o =
     ∷ (codes "s" ∷ codes "-separator" ∷ [], record o { grouped = true; value = Some Separator })
     ∷ []
 
--- the options with the one that the key names
+-- the options with the one that the key names, of a table of options
 abbrev pub find_option : List ℕ → List (List (List ℕ) × Options) → Result Options UsageErrorKind
 find_option key [] = Err UnknownOption
 find_option key (row ∷ rows) = if list_any (λ k. bytes_eq key k) row.0 then Ok row.1 else find_option key rows
@@ -116,7 +119,7 @@ unfoldable pub with_arguments : Options → ℕ → List (List ℕ) → Result R
 with_arguments o i [] = request o i
 with_arguments o i (a ∷ rest) = at_argument i (with_argument o i a) (λ p. with_arguments p (i + 1) rest)
 
--- no option is set
+-- no option is set yet
 abbrev pub no_options : Options
 no_options = record {
   decode = false;

@@ -1,4 +1,6 @@
 -- What a run writes for its input, its errors, and the exit status of the program.
+--
+-- `m` is the mode of a run, `x` the input that was read, and `y` the output that was written for it.
 use Rattle.std.specs.Prelude.{◌≡◌, ◌≢◌, ◌⊎◌, ℕ, if◌then◌else◌, Bool, true, false, List, [], ◌++◌, Option, None, Some, Result, Ok, Err, codes, get_or, bytes_eq}
 use Rattle.std.specs.Io.KnownBytes.{Appends, Consumes, IsAtEnd}
 use Rattle.std.specs.IoError.{error_kind}

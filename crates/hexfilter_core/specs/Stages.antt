@@ -1,4 +1,7 @@
 -- What a run has written for the chunks that it has read.
+--
+-- `r` are the options of decoding, `x` is the input so far, `z` or `y` the output so far, and `s` the state of a
+-- scanner or of a run.
 use Rattle.std.specs.Prelude.{◌≡◌, ◌<◌, ◌≤◌, ◌++◌, Bool, true, ℕ, List, Option, None, Some, length}
 pub use Rattle.const_hex.specs.Prelude.{HasRead, saturated}
 pub use Rattle.const_hex.specs.declared.codec.decoder.Decoder.{Decoder}
