@@ -1,7 +1,10 @@
--- A buffered output turns writes of small pieces into calls of a sink with large pieces.
+-- A buffered output turns writes of small pieces into calls of a sink with large pieces. The buffer has 4096 bytes,
+-- and a small piece at most 64, so a buffer that the next piece does not fit into has at least 4033.
 --
--- `s` and `t` are the states before and after, `m` is one in between, and `ps` are pieces. `pending` is the buffered
--- text before, and `rest` after. `has_failed` says whether a sink has failed.
+-- `s` and `t` are the states before and after, `m` and `mid` are states in between, and `ps` are pieces. `pending` is
+-- the buffered text before, and `rest` after. `step` is what a call of a sink does, and `has_failed` says whether one
+-- has failed. `FoldsTo step s ps t` says that a step for each piece takes the state s to t. In a proof, the letters
+-- that its statement does not name are the hypotheses, in order.
 use Rattle.std.proofs.Common.{◌≡◌, ℕ, zero, suc, ◌+◌, ◌*◌, ◌/◌, ◌<◌, ◌≤◌, Bool, true, false, not, List, [], ◌∷◌, ◌++◌, length, take, refl, sym, ap, ◌∙◌, arith, inl, inr, length-append, Option, ◌-◌, if◌then◌else◌, le-div_iff_mul-le}
 use Rattle.std.specs.List.{FoldsTo, concat, All}
 use Rattle.std.proofs.lemmas.Bool.{cases_Bool}
@@ -14,9 +17,11 @@ use Rattle.const_hex_arch.proofs.lemmas.Runs.{run_append, concat-piece_of}
 
 -- ---- what a buffered output passes on after several small writes
 
+-- a piece that is flushed from the buffer has 4033 to 4096 bytes
 abbrev IsFlushed : List ℕ → Type 0
 IsFlushed p = (4033 ≤ length p) × (length p ≤ 4096)
 
+-- what several small writes do: pieces are flushed, and with the rest they are the text
 record Buffered {O : Type 0} (step : O → List ℕ → O → Type 0) (old : O) (pending text : List ℕ) (new : O)
     (rest : List ℕ) : Type 0 where
   passed : List (List ℕ)
@@ -25,6 +30,7 @@ record Buffered {O : Type 0} (step : O → List ℕ → O → Type 0) (old : O) 
   sizes : All IsFlushed passed
   bound : length rest ≤ 4096
 
+-- the sizes of what one small write flushes
 flushed_sizes : (pending piece : List ℕ) (passed : List (List ℕ)) → length pending ≤ 4096 → IsKernelPiece piece
     → FlushesPending 4096 pending piece passed
     → All IsFlushed passed
@@ -33,6 +39,7 @@ flushed_sizes pending piece passed f k (inr (e, m)) =
     rw e (All-cons IsFlushed pending [] (omega arith) (All-nil IsFlushed))
 
 module _ {O : Type 0} (step : O → List ℕ → O → Type 0) (space : O → Option ℕ) where
+  -- one small write, and then more
   buffered_more : (old : O) (pending piece : List ℕ) (mid : O) (mid_rest text : List ℕ) (new : O) (rest : List ℕ)
       → length pending ≤ 4096 → IsKernelPiece piece
       → Buffers step space 4096 old pending piece mid mid_rest → Buffered step mid mid_rest text new rest
@@ -48,6 +55,7 @@ module _ {O : Type 0} (step : O → List ℕ → O → Type 0) (space : O → Op
   }
 
   module _ {B : Type 0} (inner : B → O) (pending : B → List ℕ) where
+    -- all small writes; a state of the buffered output has an inner output and a pending text
     buffered_run : (s : B) (ps : List (List ℕ)) (t : B) → length (pending s) ≤ 4096 → All IsKernelPiece ps
         → FoldsTo (λ s p t. Buffers step space 4096 (inner s) (pending s) p (inner t) (pending t)) s ps t
         → Buffered step (inner s) (pending s) (concat ps) (inner t) (pending t)
@@ -61,14 +69,17 @@ module _ {O : Type 0} (step : O → List ℕ → O → Type 0) (space : O → Op
 
 -- ---- what was passed on, and then the pending text, are pieces of the right size
 
+-- the pending text is at most one piece
 small_piece : (rest : List ℕ) → length (piece_of rest) ≤ 1 × length (piece_of rest) ≤ length rest
 small_piece [] = omega arith
 small_piece (x ∷ rest) = omega arith
 
+-- its size as a piece for a sink
 piece_of-sizes : (rest : List ℕ) → length rest ≤ 4096 → All IsSinkPiece (piece_of rest)
 piece_of-sizes [] f = All-nil IsSinkPiece
 piece_of-sizes (b ∷ bs) f = All-cons IsSinkPiece (b ∷ bs) [] (omega arith) (All-nil IsSinkPiece)
 
+-- the flushed pieces and the pending text are a cut of the whole text
 Cut-of : (text : List ℕ) (ps : List (List ℕ)) (rest : List ℕ) → concat ps ++ rest ≡ text → All IsFlushed ps
     → length rest ≤ 4096
     → Cut text (ps ++ piece_of rest)
@@ -88,6 +99,7 @@ many_bytes (p ∷ ps) a =
     let h = (All-head IsFlushed p ps a).0 in
     omega (arith, h, many_bytes ps (All-tail IsFlushed p ps a), length-append p (concat ps))
 
+-- so there are not many pieces
 few_pieces : (text : List ℕ) (ps : List (List ℕ)) (rest : List ℕ) → concat ps ++ rest ≡ text → All IsFlushed ps
     → length (ps ++ piece_of rest) ≤ (length text + 4032) / 4033
 few_pieces text ps rest w a =
@@ -99,22 +111,26 @@ few_pieces text ps rest w a =
 -- ---- what is offered to a sink
 
 module _ {S : Type 0} (step : S → List ℕ → S → Type 0) (has_failed : S → Bool) where
+  -- a run of writes goes to one sink
   sink_name-run : (s : SinkOutput S) (ps : List (List ℕ)) (t : SinkOutput S) → FoldsTo (SinkStep step has_failed) s ps t
       → sink_name t ≡ sink_name s
   sink_name-run s [] t h = ap (λ (x : SinkOutput S). sink_name x) (sym h)
   sink_name-run s (p ∷ ps) t (m, h, k) = sink_name-run m ps t k ∙ h.same_sink
 
+  -- a run after a failure changes nothing
   unchanged_after_failure : (s : SinkOutput S) (ps : List (List ℕ)) (t : SinkOutput S) → has_failed (output_sink s) ≡ true
       → FoldsTo (SinkStep step has_failed) s ps t → output_sink t ≡ output_sink s
   unchanged_after_failure s [] t r h = ap (λ (x : SinkOutput S). output_sink x) (sym h)
   unchanged_after_failure s (p ∷ ps) t r (m, h, k) = let e = h.after_failure r in unchanged_after_failure m ps t (ap has_failed e ∙ r) k ∙ e
 
+  -- how many of the pieces were passed to the sink: all, or those up to the first failure
   record Offered (old : S) (pieces : List (List ℕ)) (new : S) : Type 0 where
     count : ℕ
     within : count ≤ length pieces
     run : Offers step has_failed old (take count pieces) new
     complete : has_failed new ≡ false → count ≡ length pieces
 
+  -- what a run of writes passes to its sink
   offered_run : (s : SinkOutput S) (ps : List (List ℕ)) (t : SinkOutput S) → has_failed (output_sink s) ≡ false
       → FoldsTo (SinkStep step has_failed) s ps t → Offered (output_sink s) ps (output_sink t)
   offered_run s [] t e h =
@@ -195,6 +211,7 @@ module _ {S : Type 0} (step : S → List ℕ → S → Type 0) (has_failed : S �
       let large : 4033 ≤ length p = All-head IsLargePiece p (take (length ps) (q ∷ ps)) (rw count at front) in
       absurd (omega (arith, few, large, ap length h.whole, length-append p (concat (q ∷ ps))))
 
+  -- one piece that is passed to a sink
   one_step : (s : S) (text : List ℕ) (t : S) (offered : ℕ) → has_failed s ≡ false → offered ≤ 1
       → Offers step has_failed s (take offered (text ∷ [])) t → (has_failed t ≡ false → offered ≡ 1)
       → step s text t
@@ -225,6 +242,7 @@ module _ {S : Type 0} (step : S → List ℕ → S → Type 0) (has_failed : S �
 
   -- ---- what is offered to a sink that accepts all
 
+  -- a sink that has not failed after some pieces had not failed before them
   pub Offers-accepting : (s : S) (ps : List (List ℕ)) (t : S) → has_failed t ≡ false → Offers step has_failed s ps t
       → has_failed s ≡ false
   Offers-accepting s [] t e h = ap has_failed h ∙ e
@@ -237,9 +255,11 @@ module _ {S : Type 0} (step : S → List ℕ → S → Type 0) (has_failed : S �
 
 -- ---- what a sink reports
 
+-- no pieces more
 reported_after-none : (o : Option (List (List ℕ))) → reported_after o [] ≡ o
 reported_after-none o = grind (arith, append-nil)
 
+-- some pieces more, and then others
 reported_after-more : (o : Option (List (List ℕ))) (xs ys : List (List ℕ))
     → reported_after (reported_after o xs) ys ≡ reported_after o (xs ++ ys)
 reported_after-more o xs ys = grind (arith, append_assoc)
@@ -255,6 +275,7 @@ module _ {S : Type 0} (step : S → List ℕ → S → Type 0) (has_failed : S �
       rw (reported-Offers m ps t e k, reports s p m h, Offers-accepting step has_failed m ps t e k)
       (reported_after-more (reported s) (p ∷ []) ps)
 
+  -- from the stream and the result follow all fields of the contract of `write_to`
   pub StreamsWhole-of : (s : S) (text : List ℕ) (ok : Bool) (t : S) → Streams step has_failed s text t
       → ok ≡ not (has_failed t)
       → StreamsWhole step has_failed reported s text ok t

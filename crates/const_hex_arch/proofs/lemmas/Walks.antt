@@ -66,23 +66,28 @@ and_true false t = absurd t
 
 -- ---- the clauses of `decode_chunk`, from the clauses of the vector with a flag
 
+-- the clause of `decode_chunk` for None: there is an invalid character
 abbrev pub NoneClause : List ℕ → Option (List ℕ) → Type 0
 NoneClause text result = IsNone result ↔ ¬ AllDigits text
 
+-- the clause of `decode_chunk` for Some: the text decodes to these bytes
 abbrev pub SpellsClause : List ℕ → Option (List ℕ) → Type 0
 SpellsClause text result = IfSome result (Spells text)
 
 module _ (text bytes : List ℕ) (are_digits : Bool) (digits : IsTrue are_digits ↔ AllDigits text)
     (spells : IsTrue are_digits → Spells text bytes) where
+  -- both clauses hold if the flag is true
   pub some_is : T are_digits → NoneClause text (Some bytes) × SpellsClause text (Some bytes)
   some_is t = grind (arith, digits, spells, t)
 
+  -- both clauses hold if the flag is false
   pub none_is : T (not are_digits) → NoneClause text None × SpellsClause text None
   none_is t = grind (arith, digits, t)
 
 -- ---- vectors of n lanes
 
 module _ (n : ℕ) where
+  -- the type of a vector of n bytes
   abbrev pub Lanes : RattleType
   Lanes = Simd u8 tt n
 
@@ -90,12 +95,15 @@ module _ (n : ℕ) where
   abbrev pub Pair : {k : ℕ} → Slot k
   Pair = ArrayOf (SimdOf (plain (λ _. u8)) (λ _. tt) n) (λ _. tt) 2
 
+  -- the machine values of a vector
   abbrev pub lanes_vals : List ℕ → List Val
   lanes_vals = array_vals (uint_vals w8)
 
+  -- the machine values of two vectors
   abbrev pub pair_vals : List (List ℕ) → List Val
   pair_vals = array_vals lanes_vals
 
+  -- a vector's machine values are determined by its lanes
   pub lanes_Tells : Tells Lanes (Is Lanes) lanes_vals
   lanes_Tells = Simd-Tells u8 (uint_vals w8) (uint_Tells w8) n
 
@@ -103,11 +111,13 @@ module _ (n : ℕ) where
   abbrev pub Flagged : RattleType
   Flagged = Tuple (Lanes ∷ bool ∷ [])
 
+  -- the machine value of a vector with a flag is a struct of two fields
   pub flagged_is : (r : List ℕ × Bool) (v : Val) → Is Flagged r (v ∷ [])
       → v ≡ vstruct (of_list (only (lanes_vals r.0) ∷ vbool r.1 ∷ []))
   flagged_is r v is =
       ap only is.1.0 ∙ λ i. vstruct (of_list (lanes_Tells r.0 is.0.0 is.1.1.0 i ++ (is.1.1.1.0 i ++ [])))
 
+  -- its first field holds the vector
   pub flagged_lanes : (r : List ℕ × Bool) (v : Val) → Is Flagged r (v ∷ []) → Is Lanes r.0 (only (lanes_vals r.0) ∷ [])
   flagged_lanes r v is = subst (λ us. Is Lanes r.0 us) (lanes_Tells r.0 is.0.0 is.1.1.0) is.1.1.0
 
