@@ -1,6 +1,8 @@
 -- The characters that the iterator `BytesToHexChars` has left.
 --
--- `low` is the second character of a byte whose first was returned, and `u` are the bytes of which none was.
+-- `low` is the second character of a byte whose first was returned, and `u` are the bytes of which none was. `b` is
+-- the next of them, and `x` and `y` are its characters. In a proof, the letters that its statement does not name are
+-- the hypotheses, in order.
 use mir.Val.{bool_byte}
 use Rattle.std.proofs.Common.{◌≡◌, ℕ, ◌+◌, ◌*◌, ◌/◌, ◌%◌, Bool, List, [], ◌∷◌, length, Option, None, refl, arith, is_some}
 use Rattle.std.proofs.lemmas.List.{nil_from_length}

@@ -1,6 +1,8 @@
 -- Each text has exactly one result when it is decoded.
 --
--- `t` is the text, `r` and `s` are results for it, and `h` and `k` are the facts that they are.
+-- `t` is the text, `r` and `s` are results for it, and `h` and `k` are the facts that they are. `DecodesTo t r` says
+-- that t decodes to the result r, `DecodesToExactly t n r` the same for n bytes, and `Spells u bs` that the digits u
+-- decode to bs.
 use Rattle.std.proofs.Common.{◌≡◌, ℕ, ◌*◌, List, length, Result, Ok, Err, refl, ap, ◌∙◌, arith, eqb-true, eq-eqb, IsOk, IsTrue, ◌↔◌}
 use Rattle.std.proofs.lemmas.Bool.{and_parts, and_from}
 use Rattle.std.proofs.lemmas.List.Sums.{AllPass-from_list_all, list_all-from_AllPass}

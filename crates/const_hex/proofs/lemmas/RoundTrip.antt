@@ -1,6 +1,8 @@
 -- Encoded text decodes to the same bytes, and the decoded bytes encode to the text in lowercase.
 --
--- `t` and `u` are texts, `bs` are bytes, `r` is the result of decoding `t`, and `up` asks for uppercase.
+-- `t` and `u` are texts, `bs` are bytes, `r` is the result of decoding `t`, and `up` asks for uppercase. `DecodesTo t
+-- r` says that t decodes to the result r, `DecodesToExactly t n r` the same for n bytes, and `Spells u bs` that the
+-- digits u decode to bs. In a proof, the letters that its statement does not name are the hypotheses, in order.
 use Rattle.std.proofs.Common.{◌≡◌, ℕ, ◌+◌, ◌/◌, ◌%◌, nat_le, ◌&&◌, if◌then◌else◌, false, List, [], ◌∷◌, Some, refl, sym, ◌∙◌, arith, ◌↔◌, ◌*◌, Bool, true, length, Result, Ok, Err, IfOk, IfErr, ◌≢◌}
 use Rattle.std.proofs.lemmas.Bool.Decides.{nat_tests}
 use Rattle.const_hex.specs.Prelude.{hex_value, hex_digit, hex_text, Spells, lowered, full_text, body_of, DecodesTo, DecodesToExactly, IsOdd, AreBytes, Decodes, DecodesToArray, FromHexError, NoMemory, OddLength}

@@ -34,6 +34,7 @@ abbrev pub flag : Bool → Operand
 flag true = opd_true
 flag false = opd_false
 
+-- to evaluate this operand gives the Boolean
 pub flag_lit : {M : Type 1} {𝓤 : Ura M} {𝓛 : Logic 𝓤} {K : Type 0} {Γ : List (Item 𝓤)} {E : Env 𝓤 𝓛.H} (up : Bool) → K
     → Opd K 𝓛 Γ E (flag up) (vbool up)
 flag_lit true = true_lit

@@ -1,7 +1,9 @@
 -- Texts that are written to a writer in pieces.
 --
--- `s` and `t` are the states of a `WriteSink` before and after, `m` is one in between, and `ps` are the pieces. In the
--- loop that writes one piece, `done` bytes are written, and the writer accepts `n` more.
+-- `s` and `t` are the states of a `WriteSink` before and after, `m` is one in between, and `ps` are the pieces. In
+-- the loop that writes one piece, `done` bytes are written, and the writer accepts `n` more. `Appends a b text` says
+-- that the text was added to what a writer holds, a before and b after. In a proof, the letters that its statement
+-- does not name are the hypotheses, in order.
 use Rattle.std.proofs.Common.{◌≡◌, ℕ, ◌+◌, ◌-◌, ◌≤◌, true, false, List, [], ◌∷◌, ◌++◌, length, take, drop, Option, sym, ap, ◌∙◌, arith, inl, inr, min, Some, None, is_some, IfSome, ◌≢◌}
 use Rattle.std.proofs.lemmas.Bool.{cases_Bool, false_from_ne_true}
 use Rattle.std.proofs.KnownBytes.{Appends-kept, Appends-nil, Appends-trans}

@@ -1,7 +1,8 @@
 -- Parsing numbers and short options, and parsing the arguments for a mode.
 --
--- `o` are the options so far, `t` are the short options of an argument, `xs` are the arguments, and `i` is the index of
--- one.
+-- `o` are the options so far, `t` are the short options of an argument, `v` is the value of an option, `xs` are the
+-- arguments, and `i` is the index of one. Hypotheses whose names end in `_eq` are equations. In a proof, the letters
+-- that its statement does not name are the hypotheses, in order.
 use Rattle.std.proofs.Common.{◌≡◌, ◌∙◌, ap, sym, map, inl, inr, ◌⊎◌, None, ℕ, ◌+◌, ◌<◌, ◌≤◌, ◌==◌, ◌^◌, ◌&&◌, nat_lt, Bool, true, false, if◌then◌else◌, List, [], ◌∷◌, length, get_or, slice_index, take, drop, Result, Ok, Err, refl, arith, is_some, OkIff}
 use Rattle.std.proofs.lemmas.Bool.Decides.{nat_tests}
 use Rattle.std.specs.Str.{IsCharBoundary, IsUtf8, all_ascii_digits}
@@ -18,6 +19,7 @@ abbrev pub as_number : {E : Type 0} → Result ℕ E → Result ℕ UsageErrorKi
 as_number (Ok n) = Ok n
 as_number (Err e) = Err InvalidNumber
 
+-- the tests of `number`, if `parse` accepts exactly what passes them
 number_result : {E : Type 0} (a : Bool) (n v m : ℕ) (r : Result ℕ E) → OkIff r ((a ≡ true) × (0 < n) × (v < m)) v
     → (if nat_lt 0 n && a && nat_lt v m then Ok v else Err InvalidNumber) ≡ as_number r
 number_result a n v m r h = grind (arith, nat_tests)
@@ -30,7 +32,7 @@ parsed_number v r h plain =
     number_result (all_ascii_digits v) (length v) (digits_value 10 v) (2 ^ 64) r
     (parse_plain own 64 v r h (grind (arith, nat_tests)))
 
--- the first letter, and the rest
+-- the first of some short options, and the rest of them
 pub first_letter : (o : Options) (t first rest : List ℕ) (found : Result Options UsageErrorKind) → 0 < length t
     → first ≡ take 1 t → rest ≡ drop 1 t → found ≡ find_option first (option_table o)
     → with_letters o t ≡ and_then found
@@ -78,6 +80,7 @@ no_argument bytes xs i o h =
 
 -- ---- the arguments for a mode are parsed as this mode
 
+-- the arguments of a mode that decodes
 read_back_decode : (check ignores : Bool) (g : Groups) (words : List (List ℕ)) → IsPlain g words ⊎ WritesGroups g words
     → let m : Mode = Decode (record { is_check = check; ignore_whitespace = ignores; groups = g }) in
     request_for (arguments_of m words) ≡ Ok (Run m None)
@@ -92,6 +95,7 @@ read_back_decode _ _ g words (inl (words_eq, groups_eq)) = rw (words_eq, groups_
 read_back_decode _ _ g words (inr (v, n, number_eq, size_eq, separator_valid, words_eq)) =
     rw (words_eq, number_eq, separator_valid, ← size_eq) refl
 
+-- the arguments of any mode
 pub read_back : (m : Mode) (words : List (List ℕ)) → AsksFor m words
     → request_for (arguments_of m words) ≡ Ok (Run m None)
 unfolding with_arguments
@@ -109,6 +113,7 @@ read_back (Encode _ _ g) words (inr (inr (v, n, number_eq, size_eq, separator_va
     rw (words_eq, number_eq, separator_valid, ← size_eq) refl
 read_back (Decode r) words h = read_back_decode r.is_check r.ignore_whitespace r.groups words h
 
+-- the same for arguments that ask for the mode
 pub request_for_arguments : (m : Mode) (arguments : List (List ℕ)) → AreFor m arguments
     → request_for arguments ≡ Ok (Run m None)
 request_for_arguments m arguments (words, asks, arguments_eq) = rw arguments_eq (read_back m words asks)

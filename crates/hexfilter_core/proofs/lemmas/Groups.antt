@@ -1,7 +1,10 @@
 -- A text that is written in groups, and encoded in chunks.
 --
 -- `g` are the groups, and `c` is the number of characters that the last group has. `u` and `t` are parts of the text,
--- and `out` is what was written. `x` and `y` are the input and the output so far.
+-- `done` and `count` numbers of its characters, and `out` is what was written. `x` and `y` are the input and the
+-- output so far, `chunk` and `z` those that follow. `PutsInto g c t y d` says that t is written in groups as y, from
+-- c characters in the last group to d. In a proof, the letters that its statement does not name are the hypotheses,
+-- in order.
 use Rattle.std.proofs.Common.{◌≡◌, ℕ, ◌+◌, ◌-◌, ◌<◌, ◌≤◌, List, [], ◌∷◌, ◌++◌, length, min, take, drop, get_or, slice_set, refl, sym, ap, ◌∙◌, arith, append_assoc, length-append, Bool, false, Result, take-add, length-set, length-take, length-take-le, length-drop, take-take, take_all, append-nil, OnErr, OnOk}
 use Rattle.std.proofs.lemmas.Bool.Decides.{nat_tests}
 use Rattle.std.proofs.lemmas.List.{take_more_set}
@@ -101,9 +104,11 @@ unfolding groups_from
 puts_pairs s (a ∷ b ∷ c ∷ d ∷ e ∷ f ∷ g ∷ h ∷ text) rest many = refl
 puts_pairs s _ rest many = absurd (omega arith)
 
+-- what holds anyway holds if a result is `Ok`
 pub if_ok : {T E P : Type 0} (r : Result T E) → P → OnOk r P
 if_ok r p = grind arith
 
+-- what holds anyway holds if a result is `Err`
 pub if_err : {T E P : Type 0} (r : Result T E) → P → OnErr r P
 if_err r p = grind arith
 

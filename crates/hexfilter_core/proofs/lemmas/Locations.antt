@@ -1,15 +1,18 @@
 -- The line and column after parts of an input.
 --
--- `p` is a location, `x` is the input before it, and `u` are the bytes that follow.
+-- `p` is a location, `x` is the input before it, and `u` are the bytes that follow. 10 is a newline. In a proof, the
+-- letters that its statement does not name are the hypotheses, in order.
 use Rattle.std.proofs.Common.{◌≡◌, ◌≢◌, ℕ, ◌+◌, ◌%◌, ◌^◌, ◌-◌, ◌<◌, ◌≤◌, ◌==◌, cond, count_by, if◌then◌else◌, List, [], ◌∷◌, ◌++◌, length, refl, sym, ap, ◌∙◌, arith, length-append, All}
 use Rattle.std.proofs.lemmas.Bool.Decides.{nat_tests}
 use Rattle.std.proofs.lemmas.List.Elements.{All-head, All-tail}
 use Rattle.std.proofs.lemmas.List.Sums.{sum_by-cons}
 use Rattle.hexfilter_core.specs.Dumps.{IsLocation, Location, location_after_input, location_after}
 
+-- the location of the first byte
 abbrev start : Location
 start = record { line = 1; column = 1 }
 
+-- the location after one byte
 abbrev location_after_byte : Location → ℕ → Location
 location_after_byte p b =
     record { line = if b == 10 then p.line + 1 else p.line; column = if b == 10 then 1 else p.column + 1 }

@@ -1,8 +1,10 @@
 -- A text that was encoded in lines or groups is decoded to the same bytes, with the options that mirror those of
 -- encoding.
 --
--- `i` says whether whitespace is ignored, `n` and `s` are the size and the separator of groups, and `k` is a column.
--- `t` is the encoded text without separators.
+-- `i` says whether whitespace is ignored, `n` and `s` are the size and the separator of groups, and `k` is the number
+-- of characters in the last group so far. `t` is the encoded text without separators. `DecodesTo t r` says that t
+-- decodes to the result r, and `Spells u bs` that the digits u decode to bs. In a proof, the letters that its
+-- statement does not name are the hypotheses, in order.
 use Rattle.std.proofs.Common.{◌≡◌, ◌≢◌, ℕ, ◌+◌, ◌<◌, ◌≤◌, ◌==◌, ◌&&◌, ◌||◌, Bool, true, false, if◌then◌else◌, List, [], ◌∷◌, ◌++◌, length, min, Option, None, Some, Ok, refl, ap, ◌∙◌, arith, append_assoc, append-nil, All}
 use Rattle.std.proofs.KnownBytes.{Consumes-all}
 use Rattle.std.proofs.lemmas.Bool.Decides.{nat_tests}

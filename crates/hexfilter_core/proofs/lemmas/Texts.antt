@@ -1,8 +1,10 @@
 -- The text of an input that is scanned in parts, and what was written for it.
 --
--- `r` are the options of decoding. `x` is the input so far, `u` are the bytes that follow, and `v` is what they add to
--- the text. `y` and `z` are the output so far and what follows. `k` is a column, `s` a scanner or the state of a run,
--- and `has` the invariant of it.
+-- `r` are the options of decoding. `x` is the input so far, `u` are the bytes that follow, and `v` is what they add
+-- to the text. `y` and `z` are the output so far and what follows. `k` is the number of characters in the last group
+-- so far, `s` a scanner or the state of a run, and `has` the invariant of it. `Spells u y` says that the digits u
+-- decode to y, `SpellsPairs` that a text of digits does so by its pairs, and `SpellsBeginning` that some of its first
+-- digits do. In a proof, the letters that its statement does not name are the hypotheses, in order.
 use Rattle.std.proofs.lemmas.Grind.{common_steps}
 use borrow.Rule.Slice.PartMut.{put_mid, post_of}
 use Rattle.std.proofs.Common.{◌≡◌, ◌≢◌, ℕ, ◌+◌, ◌-◌, ◌*◌, ◌/◌, ◌<◌, ◌≤◌, ◌&&◌, min, if◌then◌else◌, Bool, true, false, List, [], ◌∷◌, ◌++◌, Option, None, Some, Ok, suc, zero, length, take, drop, get_or, refl, sym, ap, ◌∙◌, arith, append_assoc, length-append, All, nat_lt}
@@ -25,7 +27,7 @@ text-append r k [] y = refl
 text-append r k (b ∷ x) y =
     grind (arith, append_assoc, text-append r (group_fill_after r k b) x y)
 
--- the column after two parts of an input
+-- the fill of the last group after two parts of an input
 pub group_fill-append : (r : Reading) (k : ℕ) (x y : List ℕ)
     → group_fill_after_all r k (x ++ y) ≡ group_fill_after_all r (group_fill_after_all r k x) y
 unfolding group_fill_after_all
@@ -41,7 +43,7 @@ text-byte r x b =
 
 -- ---- bytes that are not left out
 
--- a column is at most the size of a group
+-- a group is filled at most to its size
 pub group_fill_bound : (r : Reading) (k : ℕ) (x : List ℕ) → k ≤ r.groups.size → group_fill_after_all r k x ≤ r.groups.size
 unfolding group_fill_after_all
 group_fill_bound r k [] h = h
@@ -101,12 +103,12 @@ decoded_more r old new s x part text y z has more wrote scanner_eq read_eq = rec
   count = omega (arith, has.count, read_eq, length-append x part);
 }
 
--- a byte above the space is neither whitespace nor a newline
+-- a byte above the space (33 or more) is neither whitespace nor a newline
 high : (ignores : Bool) (b : ℕ) → nat_lt b 33 ≡ false → ((ignores && is_whitespace b) ≡ false) × (b ≢ 10)
 high true b h = (grind (arith, nat_tests, h), λ e. grind (arith, nat_tests, h, e))
 high false b h = (refl, λ e. grind (arith, nat_tests, h, e))
 
--- the same for bytes above the space, within one group
+-- a run of such bytes, within one group, is added to the text as it is
 pub high_added : (r : Reading) (s : Scanner) (group_fill : ℕ) (location : Location) (x u : List ℕ) → HasScanned r s x
     → All (λ b. nat_lt b 33 ≡ false) u
     → (0 < r.groups.size → s.group_fill + length u ≤ r.groups.size) → group_fill ≡ min (s.group_fill + length u) r.groups.size
@@ -174,9 +176,11 @@ module _ (r : Reading) (before after : Scanner) (x chunk out : List ℕ) (end do
 -- ---- what a text decodes to
 
 module _ (r : Reading) (d : Decoder) (x y : List ℕ) (has : HasRead d (text_of r x) y) where
+  -- what was written is what some of the first digits decode to
   decodes : SpellsBeginning r x y
   decodes = rw append-nil at (read_front d (text_of r x) y [] has)
 
+  -- it is what all pairs of digits decode to
   pub pairs : SpellsPairs (text_of r x) y
   pairs =
       let twice = Spells-length has.pairs y has.decoded in
@@ -200,7 +204,7 @@ fewer_decoded r x y k h =
 take_written : (c : Bool) (bytes : List ℕ) (k : ℕ) → take k (if c then [] else bytes) ≡ (if c then [] else take k bytes)
 take_written c bytes k = grind (arith, take_all)
 
--- a beginning of a beginning is a beginning
+-- the first k bytes of such a beginning are one, too
 pub shorter_output : (m : Mode) (x y : List ℕ) (k : ℕ) → OutputsBeginning m x y → OutputsBeginning m x (take k y)
 shorter_output (Encode prefix upper g) x y k (rest, output_eq) = (
   drop k y ++ rest,
@@ -240,7 +244,7 @@ error_beginning r in_after x y (InvalidHexCharacter c i) location h =
     rw h.cut (pairs_beginning r h.front (c ∷ h.rest) y h.bytes)
 error_beginning r in_after x y _ location h = absurd h
 
--- the output so far is a beginning of the output
+-- the output so far is a beginning of the whole output
 pub output_so_far : (m : Mode) (s : Stage) (x y : List ℕ) → HasOutput m s x y → OutputsBeginning m x y
 output_so_far (Encode prefix upper g) s x y has =
     (_, ap (λ l. encoded prefix upper g l) (sym (append-nil x)) ∙ has.rest [])

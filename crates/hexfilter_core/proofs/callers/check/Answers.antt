@@ -13,24 +13,27 @@ use Rattle.hexfilter_core.specs.Options.{with_arguments}
 use Rattle.hexfilter_core.specs.Runs.{Decode, Ends, DecodesTo}
 use Rattle.hexfilter_core.proofs.callers.check.Goals as goal
 
+-- the options of `--check` alone
 abbrev plain : Reading
 plain = record { is_check = true; ignore_whitespace = false; groups = record { size = 0; separator = 10 } }
 
+-- a writer that got no bytes holds what it held
 nothing_written : (out_before out_after : Option (List ℕ)) (y : List ℕ) → y ≡ [] → Appends out_before out_after y
     → Keeps out_before out_after
 nothing_written None out_after y none wrote = tt
 nothing_written (Some x) None y none wrote = absurd wrote
 nothing_written (Some x) (Some z) y none wrote = wrote ∙ ap (λ l. x ++ l) none ∙ append-nil x
 
-nothing : (status : ℕ) (in_before in_after out_before out_after : Option (List ℕ))
+-- a run that only checks writes nothing, whatever its exit status
+check_writes_nothing : (status : ℕ) (in_before in_after out_before out_after : Option (List ℕ))
     → Ends (Decode plain) status in_before in_after out_before out_after → Keeps out_before out_after
-nothing status in_before in_after out_before out_after (done, text, partly_written, inl zero) =
+check_writes_nothing status in_before in_after out_before out_after (done, text, partly_written, inl zero) =
     let (x, y, read, end, (bytes, reads, output_eq), wrote) = done zero in
     nothing_written out_before out_after y output_eq wrote
-nothing status in_before in_after out_before out_after (done, text, partly_written, inr (inl one)) =
+check_writes_nothing status in_before in_after out_before out_after (done, text, partly_written, inr (inl one)) =
     let (e, location, (x, y, read, (bytes, fails, output_eq), wrote)) = text one in
     nothing_written out_before out_after y output_eq wrote
-nothing status in_before in_after out_before out_after (done, text, partly_written, inr (inr three)) =
+check_writes_nothing status in_before in_after out_before out_after (done, text, partly_written, inr (inr three)) =
     let (x, y, read, (bytes, decodes, output_eq), wrote) = partly_written three in
     nothing_written out_before out_after y output_eq wrote
 
@@ -48,5 +51,5 @@ returns g c =
           not_decoded plain x in_after z bytes y e location
           (subst (λ (in_before : Option (List ℕ)). Consumes in_before in_after z) remaining_eq read)
           fails (rw (text_plain plain x refl) reads);
-      nothing = nothing _ _ _ _ _ ends;
+      nothing_written = check_writes_nothing _ _ _ _ _ ends;
     }

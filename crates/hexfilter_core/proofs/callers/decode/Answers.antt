@@ -11,6 +11,7 @@ use Rattle.hexfilter_core.specs.Dumps.{InvalidHexCharacter, IsOdd, OddLength, Re
 use Rattle.hexfilter_core.specs.Runs.{DecodesTo}
 use Rattle.hexfilter_core.proofs.callers.decode.Goals as goal
 
+-- the options of decoding a text without groups
 abbrev plain : Reading
 plain = record { is_check = false; ignore_whitespace = false; groups = record { size = 0; separator = 32 } }
 

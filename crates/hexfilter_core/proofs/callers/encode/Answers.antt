@@ -11,9 +11,11 @@ use Rattle.hexfilter_core.specs.Options.{with_arguments}
 use Rattle.hexfilter_core.specs.Runs.{Encode, Mode}
 use Rattle.hexfilter_core.proofs.callers.encode.Goals as goal
 
+-- no groups and no lines
 abbrev plain : Groups
 plain = record { size = 0; separator = 10 }
 
+-- then the output is the text
 text : (x : List ℕ) → encoded false false plain x ≡ full_text false false x
 unfolding groups_from
 text x = simp append-nil at (without_groups plain 0 (full_text false false x) [] refl (omega arith))

@@ -12,6 +12,7 @@ ArgumentsMatch write read =
     (prefix : Bool) × (upper : Bool) × (ignores : Bool) × (g : Groups) × IgnoresLines ignores g
     × AreFor (Encode prefix upper g) write × AreFor (Decode (mirror ignores g)) read
 
+-- both pairs of arguments that the contract names do so
 arguments_match : (write read words : List (List ℕ))
     → words ≡ codes "--group" ∷ codes "1" ∷ codes "--separator" ∷ codes ":" ∷ []
     → ((write ≡ codes "--prefix" ∷ codes "--upper" ∷ codes "--wrap" ∷ codes "64" ∷ [])

@@ -5,6 +5,7 @@ use Rattle.hexfilter_core.specs.Options.{with_arguments}
 use Rattle.hexfilter_core.specs.Runs.{Encode, Mode}
 use Rattle.hexfilter_core.proofs.callers.encode_file.Goals as goal
 
+-- the mode of a run without options
 abbrev mode : Mode
 mode = Encode false false (record { size = 0; separator = 10 })
 

@@ -4,6 +4,7 @@ use Rattle.std.proofs.Common.{◌≡◌, ◌⊎◌, ◌∷◌, [], ℕ, List, Ok
 use Rattle.hexfilter_core.specs.Options.{Version, request_for, with_arguments, with_letters}
 use Rattle.hexfilter_core.proofs.callers.print_version.Goals as goal
 
+-- these arguments ask for the version
 is_version : (words : List (List ℕ)) → (words ≡ codes "--version" ∷ []) ⊎ (words ≡ codes "-V" ∷ [])
     → request_for words ≡ Ok Version
 unfolding with_arguments with_letters

@@ -6,6 +6,7 @@ use Rattle.std.proofs.Common.{◌≡◌, List, ℕ, Some, Option, true, false, r
 use Rattle.hexfilter_core.proofs.lemmas.Runs.{ends}
 use Rattle.hexfilter_core.proofs.process.run_on.Goals as goal
 
+-- a name that is there is the name that the contract speaks of
 same_name : (name : Option (Bor (List ℕ))) (b : Bor (List ℕ)) (n : List ℕ) → name ≡ Some b → option_copied name ≡ Some n
     → b.now ≡ n
 same_name name b n name_eq named = cc

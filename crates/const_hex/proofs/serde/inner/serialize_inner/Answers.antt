@@ -9,6 +9,7 @@ use Rattle.const_hex_arch.proofs.lemmas.Streams.{short_stream}
 use Rattle.const_hex_arch.proofs.lemmas.Texts.{full_text_size}
 use Rattle.const_hex.proofs.serde.inner.serialize_inner.Goals as goal
 
+-- if a saturating length of a text is 0, the text is empty
 empty_text : (p u : Bool) (bytes : List ℕ) (n most : ℕ) → n ≡ min (text_length p (length bytes)) most → 0 < most → n ≡ 0
     → full_text p u bytes ≡ []
 empty_text p u bytes n most e some none =

@@ -11,6 +11,7 @@ use Rattle.std.proofs.lemmas.Slice.{take-put_mid_below}
 use Rattle.hexfilter_core.proofs.lemmas.Texts.{append_chunk_byte, take_put}
 use Rattle.hexfilter_core.proofs.stage.Stage.decode.Goals as goal
 
+-- an input, cut before and after the byte with the index k of the chunk u
 cut_at : (x u : List ℕ) (k : ℕ) → k < length u → (x ++ take k u) ++ get_or u k 0 ∷ drop (k + 1) u ≡ x ++ u
 cut_at x u k h = grind (arith, common_steps)
 
