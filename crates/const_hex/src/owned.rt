@@ -1,5 +1,8 @@
 //! Encoding and decoding to owned strings and vectors.
 
+// Terms of the contracts:
+// - `DecodesTo t r`: the text t decodes to the result r
+// - `full_text prefix upper bs`: the text of bs, after `0x` if `prefix` is true
 ghost use Rattle.std.specs.Prelude.{◌≡◌, ◌≢◌, ◌↔◌, true, false, length, IfOk, IfErr, string_bytes, Ok, Err};
 ghost use Rattle.const_hex.specs.Prelude.{full_text, Decodes, Encodes, IsOdd, DecodesTo, OddLength, NoMemory};
 

@@ -3,6 +3,8 @@
 //! [`serialize`] writes `0x` before the digits, as the byte strings of JSON-RPC have it, and
 //! [`no_prefix`] writes the digits alone. [`deserialize`] reads both.
 
+// Terms of the contracts:
+// - `full_text prefix upper bs`: the text of bs, after `0x` if `prefix` is true
 ghost use Rattle.std.specs.Prelude.{◌≡◌, true, false, IfOk};
 ghost use Rattle.serde_json.specs.Data.{string};
 ghost use Rattle.serde_json.specs.Find.{as_str};

@@ -1,5 +1,10 @@
 //! A sink over any writer of std: a file, a socket, a vector of bytes.
 
+// Terms of the contracts:
+// - `full_text prefix upper bs`: the text of bs, after `0x` if `prefix` is true
+// - `Appends before after bs`: bs was appended to what a writer holds
+// - `WritesBeginning before after bs`: a beginning of bs was appended
+// - `WriteStep contents old text new`: a sink has written the text to its writer, or has failed
 ghost use Rattle.std.specs.Prelude.{◌≡◌, ◌≢◌, true, false, not, is_ok, None, IsOk, Err, OnOk, OnErr, IfErr, MatchOption, option_copied};
 ghost use Rattle.std.specs.Io.KnownBytes.{Appends};
 ghost use Rattle.std.specs.IoError.{error_kind};

@@ -1,5 +1,7 @@
 //! What a program in C can rely on. No export calls this.
 
+// Terms of the contracts:
+// - `DecodesTo t r`: the text t decodes to the result r
 ghost use Rattle.std.specs.Prelude.{◌≡◌, ◌<◌, ◌∷◌, ◌++◌, [], IfSome, Err, codes, drop, false, take, true};
 ghost use Rattle.const_hex.specs.Results.{DecodesTo};
 ghost use Rattle.const_hex.specs.declared.error.FromHexError.TheVariants.{InvalidHexCharacter};

@@ -1,5 +1,7 @@
 //! How a text is written: the flags that C passes.
 
+// Terms of the contracts:
+// - `after_text flags m old`: what follows a text of m bytes in a buffer that held `old`
 ghost use Rattle.std.specs.Prelude.{◌≡◌, ◌↔◌, ◌<◌, ◌≤◌, ◌+◌, if◌then◌else◌, false, IsTrue, IsSome, IfSome, length, drop};
 ghost use Rattle.const_hex.specs.Texts.{text_length};
 ghost use Rattle.const_hex_c.specs.Flags.{AreFlags, is_upper, has_prefix, has_nul, size_of, after_text, cleared};

@@ -6,6 +6,11 @@
 //! fit, which their callers make sure of, and which registers hold their arguments is left to the compiler:
 //! `machine_code` proves their code with the arguments where `rust/src/kernel/machine_code.rs` passes them.
 
+// Terms of the contracts:
+// - `Spells u bs`: the digits u decode to the bytes bs
+// - `Partial old u new`: what an output holds after the digits u were rejected: some bytes before the invalid
+//   character, and else what it held
+// - `hex_text upper bs`: two digits for each of the bytes bs
 ghost use Rattle.std.specs.Prelude.{◌≡◌, ◌*◌, ◌↔◌, IsTrue, true, false, length};
 ghost use Rattle.const_hex.specs.Texts.{hex_text, AllDigits, Spells, Partial};
 

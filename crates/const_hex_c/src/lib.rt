@@ -11,6 +11,20 @@
 //! The contracts use the terms of `const_hex`, and those defined in `specs/`.
 #![tactic(auto)]
 
+// Terms of the contracts:
+// - `DecodesTo t r`: the text t decodes to the result r
+// - `DecodesToExactly t n r`: t, as n bytes, decodes to r
+// - `DecodesWithin t n r`: t, as at most n bytes, decodes to r
+// - `ChunkResult t bs n r`: the last chunk of t has the result r, after the bytes bs, with space for n more
+// - `HasRead d t bs`: the decoder d has read t without an error, and has written bs for it
+// - `body_of t`: t without its prefix
+// - `Partial old u new`: what an output holds after the digits u were rejected: some bytes before the invalid
+//   character, and else what it held
+// - `LeavesOutput t old new e`: what an output holds after the error e for t
+// - `full_text prefix upper bs`: the text of bs, after `0x` if `prefix` is true
+// - `StandsFor s P`: the struct s stands for an error e, of which P holds
+// - `struct_of e`: the struct of an error
+// - `after_text flags m old`: what follows a text of m bytes in a buffer that held `old`
 ghost use Rattle.std.specs.Prelude.{◌≡◌, ◌↔◌, ◌*◌, ◌+◌, ◌-◌, ◌<◌, ◌≤◌, ◌≢◌, ◌++◌, ℕ, List, Some, IfSome, true, false, length, take, drop, min, slice_index, IsTrue, Ok, Err};
 ghost use Rattle.const_hex.specs.Texts.{full_text, text_length, AllDigits, Partial};
 ghost use Rattle.const_hex.specs.Results.{IsOdd, DecodesTo, DecodesToExactly, DecodesWithin, LeavesOutput, body_of};

@@ -1,5 +1,10 @@
 //! The result of a mode for an input.
 
+// Terms of the contracts:
+// - `DecodesTo t r`: the text t decodes to the result r
+// - `full_text prefix upper bs`: the text of bs, after `0x` if `prefix` is true
+// - `IsResult m x r`: r is the result of the mode m for the input x
+// - `MayAllocate m x`: the mode may allocate for x
 ghost use Rattle.std.specs.Prelude.{◌≡◌, ◌≢◌, ◌≤◌, ◌<◌, ◌++◌, ◌+◌, ◌↔◌, ◌⊎◌, List, ℕ, codes, length, IfOk, IfErr, Ok, Err};
 ghost use Rattle.const_hex.specs.Prelude.{IsOdd, DecodesTo, full_text, text_length};
 ghost use Rattle.const_hex.specs.declared.error.FromHexError.{FromHexError};

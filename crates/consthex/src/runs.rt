@@ -1,5 +1,14 @@
 //! A complete run, over any reader and writer.
 
+// Terms of the contracts:
+// - `Appends before after bs`: bs was appended to what a writer holds
+// - `Consumes before after bs`: bs was read from what a reader has left
+// - `Keeps before after`: these bytes did not change
+// - `WritesBeginning before after bs`: a beginning of bs was appended
+// - `IsResult m x r`: r is the result of the mode m for the input x
+// - `IsResultOfInput m in_before in_after r`: r is the result of the mode m for the input that was read, to its end
+// - `ReadsAll in_before in_after x`: x was read, to the end
+// - `MayAllocate m x`: the mode may allocate for x
 ghost use Rattle.std.specs.Prelude.{◌≡◌, ◌≢◌, ◌≤◌, ◌<◌, ◌+◌, ◌⊎◌, List, ℕ, length, OnOk, OnErr, IfOk, IfErr, Ok, Err};
 ghost use Rattle.std.specs.Io.KnownBytes.{Appends, Consumes, Keeps};
 ghost use Rattle.const_hex.specs.declared.error.FromHexError.{FromHexError};

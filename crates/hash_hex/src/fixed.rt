@@ -1,5 +1,10 @@
 //! Values of a fixed number of bytes, and their text and JSON strings.
 
+// Terms of the contracts:
+// - `DecodesToExactly t n r`: t, as n bytes, decodes to r
+// - `body_of t`: t without its prefix
+// - `lowered u`: u in lowercase
+// - `full_text prefix upper bs`: the text of bs, after `0x` if `prefix` is true
 ghost use Rattle.std.specs.Prelude.{◌≡◌, ◌↔◌, ℕ, List, Bool, length, true, false, Some, Ok, IfOk, IsOk, IsTrue, MatchResult};
 ghost use Rattle.serde_json.specs.Data.{string};
 ghost use Rattle.serde_json.specs.Find.{as_str};

@@ -1,6 +1,19 @@
 //! Examples of what callers of this library can prove, in terms of std and of `const_hex`. These functions are not
 //! exported.
 
+// Terms of the contracts:
+// - `DecodesTo t r`: the text t decodes to the result r
+// - `body_of t`: t without its prefix
+// - `Spells u bs`: the digits u decode to the bytes bs
+// - `full_text prefix upper bs`: the text of bs, after `0x` if `prefix` is true
+// - `saturated n`: n, but at most `usize::MAX`
+// - `Appends before after bs`: bs was appended to what a writer holds
+// - `Consumes before after bs`: bs was read from what a reader has left
+// - `Keeps before after`: these bytes did not change
+// - `IsAtEnd left`: nothing is left to read
+// - `mirror ignores g`: the options that decode a text in the groups g
+// - `IgnoresLines ignores g`: whitespace is ignored if g are lines
+// - `AreFor m arguments`: the arguments ask for the mode m
 ghost use Rattle.std.specs.Prelude.{◌≡◌, ◌≢◌, ◌⊎◌, ◌*◌, ◌+◌, ◌-◌, ◌/◌, ◌^◌, ◌<◌, ◌==◌, ◌++◌, ◌∷◌, [], All, Bool, List, ℕ, None, Ok, Err, Option, false, Some, OnErr, OnOk, codes, count_by, length, map, string_bytes, take};
 ghost use Rattle.std.specs.Io.KnownBytes.{Appends, Consumes, IsAtEnd, Keeps};
 ghost use Rattle.std.specs.IoError.{error_kind};

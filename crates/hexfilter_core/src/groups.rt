@@ -1,5 +1,9 @@
 //! Writing a text in groups, with a separator between them.
 
+// Terms of the contracts:
+// - `PutsInto g k t y m`: the text t is written in the groups g as y, if the first group has k characters already;
+//   the last one then has m
+// - `groups_from g k t`: the text t in the groups g, if the first has k characters already
 ghost use Rattle.std.specs.Prelude.{◌≡◌, ◌≢◌, ◌+◌, ◌*◌, ◌≤◌, ◌<◌, ◌++◌, ◌∷◌, [], List, ℕ, length, take, option_to_list};
 ghost use Rattle.hexfilter_core.specs.Dumps.{PutsInto, groups_from};
 

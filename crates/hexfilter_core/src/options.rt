@@ -1,5 +1,7 @@
 //! The command-line options.
 
+// Terms of the contracts:
+// - `AsksFor m words`: the words ask for the groups of the mode m
 ghost use Rattle.std.specs.Prelude.{◌≡◌, ℕ, List, None, Ok, map, string_bytes};
 ghost use Rattle.hexfilter_core.specs.Options.{AsksFor, Run, arguments_of, find_option, is_separator, number, request, request_for, option_table, with_argument, with_letters, with_value, with_word};
 ghost use Rattle.hexfilter_core.specs.declared.mode.Mode.{Mode};

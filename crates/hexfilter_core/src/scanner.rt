@@ -1,5 +1,8 @@
 //! Removes whitespace and separators from an input, and tracks the line and column.
 
+// Terms of the contracts:
+// - `HasScanned r s x`: s is the state of the scanner after the input x
+// - `HasAdded r s x u v`: the bytes u, after the input x, add v to the text
 ghost use Rattle.std.specs.Prelude.{◌≡◌, ◌+◌, ◌≤◌, ◌<◌, ◌∷◌, [], List, ℕ, false, length, min, take, not, nat_lt, option_to_list};
 ghost use Rattle.std.specs.List.{All, prefix_len};
 ghost use Rattle.hexfilter_core.specs.Stages.{HasAdded, HasScanned};

@@ -1,5 +1,18 @@
 //! The state of a run, which encodes or decodes one chunk after another.
 
+// Terms of the contracts:
+// - `body_of t`: t without its prefix
+// - `full_text prefix upper bs`: the text of bs, after `0x` if `prefix` is true
+// - `IsAtEnd left`: nothing is left to read
+// - `PutsInto g k t y m`: the text t is written in the groups g as y, if the first group has k characters already;
+//   the last one then has m
+// - `text_of r x`: the input x without the bytes that are left out
+// - `HasWritten r d t z`: the decoder d has read the text t, and z was written for it
+// - `HasDecoded r s x y`: s is the state of a run after the input x, for which y was written
+// - `HasOutput m s x y`: s is the state of a run in the mode m after the input x, for which y was written
+// - `Reaches m s in_after n x y e`: y was written for the input x, whose last chunk has n bytes, up to the error e
+//   if there is one
+// - `IsErrorOf m in_after x y e`: e is the error of the input x, before which y is written
 ghost use Rattle.std.specs.Prelude.{◌≡◌, ◌*◌, ◌+◌, ◌≤◌, ◌<◌, ◌++◌, [], List, ℕ, if◌then◌else◌, length, take, false, ◌/◌, ◌∷◌, Option, None, Some, IfOk, OnErr, option_to_list};
 ghost use Rattle.hexfilter_core.specs.Dumps.{Groups, PutsInto, last_newline, full_text, AllDigits, Reading, body_of, chunk_size, text_of};
 ghost use Rattle.hexfilter_core.specs.Stages.{HasDecoded, HasWritten, Reaches, HasOutput};

@@ -1,5 +1,14 @@
 //! The streaming decoder, for a text that arrives in chunks.
 
+// Terms of the contracts:
+// - `DecodesTo t r`: the text t decodes to the result r
+// - `HasRead d t bs`: the decoder d has read t without an error, and has written bs for it
+// - `body_of t`: t without its prefix
+// - `Spells u bs`: the digits u decode to the bytes bs
+// - `FirstInvalidAt u p`: p is the index of the first byte of u that is not a digit
+// - `Partial old u new`: what an output holds after the digits u were rejected: some bytes before the invalid
+//   character, and else what it held
+// - `saturated n`: n, but at most `usize::MAX`
 ghost use Rattle.std.specs.Prelude.{◌≡◌, ◌≢◌, ℕ, List, [], ◌∷◌, None, ◌++◌, ◌*◌, ◌+◌, ◌/◌, ◌%◌, ◌≤◌, ◌↔◌, Some, Ok, Err, true, false, length, take, drop, slice_index, IsOk, OnErr, IfSome, IsTrue, option_to_list};
 ghost use Rattle.const_hex.specs.Prelude.{AllDigits, FirstInvalidAt, IsDigit, Partial, Spells, IsOdd, DecodesTo, body_of, HasRead, saturated, error_of, position_of, pending_digit, zero_decoder, ChecksChunk, DecodesChunk, FromHexError, OddLength, InvalidStringLength, InvalidHexCharacter};
 

@@ -1,5 +1,8 @@
 //! Decoding a complete text.
 
+// Terms of the contracts:
+// - `DecodesToExactly t n r`: t, as n bytes, decodes to r
+// - `body_of t`: t without its prefix
 ghost use Rattle.std.specs.Prelude.{◌≡◌, ◌*◌, false, length, IsTrue, Ok};
 ghost use Rattle.const_hex.specs.Prelude.{body_of, DecodesToExactly, all_digits, DecodesToSlice, DecodesToFront, DecodesToArray};
 

@@ -1,5 +1,10 @@
 //! Writing hexadecimal text to a sink, with short text in one call.
 
+// Terms of the contracts:
+// - `full_text prefix upper bs`: the text of bs, after `0x` if `prefix` is true
+// - `Streams step has_failed old text new`: the text was passed to a sink in pieces, up to the first failure
+// - `ReportsCut old text new`: a sink accepted the text in pieces of 4033 to 4096 bytes, except for the last
+// - `ReportsWhole old text new`: a sink accepted the text in some pieces
 ghost use Rattle.std.specs.Prelude.{◌≡◌, ◌<◌, ◌≤◌, false, not, is_ok, length};
 ghost use Rattle.const_hex.specs.Prelude.{full_text, Streams, ReportsCut, ReportsWhole};
 

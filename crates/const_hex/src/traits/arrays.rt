@@ -1,5 +1,7 @@
 //! Decoding into arrays.
 
+// Terms of the contracts:
+// - `DecodesToExactly t n r`: t, as n bytes, decodes to r
 ghost use Rattle.const_hex.specs.Prelude.{DecodesToExactly, DecodesToArray, IsCount, DecodesToExactly-faithful};
 
 use crate::codec::decoders::decode_to_array;

@@ -1,5 +1,7 @@
 //! Decoding a text into a type.
 
+// Terms of the contracts:
+// - `IsFaithful bytes fits is_memory t r`: the law, for the result r of the text t
 ghost use Rattle.std.specs.Prelude.{ℕ, List, Result};
 ghost use Rattle.const_hex.specs.Prelude.{IsFaithful};
 

@@ -1,5 +1,7 @@
 //! Decoding into signed numbers, which have the bits of the bytes.
 
+// Terms of the contracts:
+// - `DecodesToExactly t n r`: t, as n bytes, decodes to r
 ghost use Rattle.std.specs.Prelude.{◌≡◌, length, map};
 ghost use Rattle.std.specs.Box.{boxed_slice_items};
 ghost use Rattle.const_hex.specs.Prelude.{DecodesToExactly, signed_of, byte_of, AnyCount, IsCount, DecodesToOwned, DecodesToSigned, DecodesToOwned-faithful, DecodesToExactly-faithful, DecodesToSigned-faithful};

@@ -1,5 +1,7 @@
 //! Constants that the source has as text. Verification rejects an invalid one.
 
+// Terms of the contracts:
+// - `DecodesToExactly t n r`: t, as n bytes, decodes to r
 ghost use Rattle.std.specs.Prelude.{Ok};
 ghost use Rattle.const_hex.specs.Prelude.{DecodesToExactly};
 

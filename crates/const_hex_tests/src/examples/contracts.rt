@@ -1,5 +1,7 @@
 //! A function that only calls `const_hex`, with a contract in the same terms.
 
+// Terms of the contracts:
+// - `DecodesTo t r`: the text t decodes to the result r
 ghost use Rattle.std.specs.Prelude.{◌≡◌, ◌≢◌, ◌↔◌, ◌⊎◌, ◌++◌, IsOk, IfOk, IfErr, OnOk, OnErr, Ok, Err, true, false, List, ℕ, length, string_bytes};
 ghost use Rattle.const_hex.specs.Prelude.{full_text, hex_text, DecodesTo, DecodesToExactly, body_of, lowered};
 ghost use Rattle.const_hex.specs.declared.error.FromHexError.TheVariants.{NoMemory, OddLength};

@@ -1,5 +1,7 @@
 //! A response of Ethereum's JSON-RPC with a contract's code.
 
+// Terms of the contracts:
+// - `DecodesTo t r`: the text t decodes to the result r
 ghost use Rattle.std.specs.Prelude.{◌≡◌, ◌↔◌, ◌++◌, ℕ, codes, decimal, string_bytes, None, Ok, Err, IfOk, IfSome, option_and_then};
 ghost use Rattle.serde_json.specs.Find.{as_str, get};
 ghost use Rattle.serde_json.specs.View.{view};

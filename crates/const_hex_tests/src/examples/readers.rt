@@ -1,5 +1,12 @@
 //! Callers that decode a text: to any type, by the law of `FromHex` alone; and into a key.
 
+// Terms of the contracts:
+// - `DecodesTo t r`: the text t decodes to the result r
+// - `DecodesToExactly t n r`: t, as n bytes, decodes to r
+// - `body_of t`: t without its prefix
+// - `lowered u`: u in lowercase
+// - `Spells u bs`: the digits u decode to the bytes bs
+// - `IsRejected fits t`: t cannot be decoded, or not to a number of bytes that fits
 ghost use Rattle.std.specs.Prelude.{◌≡◌, ◌≢◌, ◌∷◌, [], ◌↔◌, ◌⊎◌, ◌*◌, ℕ, false, drop, length, take, IsTrue, IfOk, IfErr, OnErr, Ok, Err};
 ghost use Rattle.const_hex.specs.Prelude.{IsOdd, DecodesTo, DecodesToExactly, body_of, lowered, Spells, IsRejected};
 ghost use Rattle.const_hex.specs.declared.error.FromHexError.TheVariants.{InvalidStringLength, NoMemory, OddLength};

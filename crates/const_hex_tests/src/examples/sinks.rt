@@ -1,5 +1,7 @@
 //! A text for any sink, and its pieces.
 
+// Terms of the contracts:
+// - `full_text prefix upper bs`: the text of bs, after `0x` if `prefix` is true
 ghost use Rattle.std.specs.Prelude.{◌≡◌, ◌≤◌, ◌-◌, ◌++◌, List, ℕ, Some, true, false, length, take, IfOk, OnOk};
 ghost use Rattle.std.specs.List.{All, concat};
 ghost use Rattle.const_hex.specs.Prelude.{full_text};

@@ -1,5 +1,9 @@
 //! Keys of a key-value store, which are found with or without a prefix and in either case.
 
+// Terms of the contracts:
+// - `DecodesTo t r`: the text t decodes to the result r
+// - `body_of t`: t without its prefix
+// - `lowered u`: u in lowercase
 ghost use Rattle.std.specs.Prelude.{◌≡◌, ◌≢◌, ◌↔◌, Ok, Err, string_bytes, IfOk, IfErr, IsTrue};
 ghost use Rattle.const_hex.specs.Prelude.{DecodesTo, body_of, lowered};
 ghost use Rattle.const_hex.specs.declared.error.FromHexError.TheVariants.{NoMemory};

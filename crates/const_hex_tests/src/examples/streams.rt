@@ -1,5 +1,9 @@
 //! Decoding a text that arrives in chunks.
 
+// Terms of the contracts:
+// - `DecodesTo t r`: the text t decodes to the result r
+// - `NamesFirstInvalid t c i`: c is the first invalid character of t, at the position i
+// - `body_of t`: t without its prefix
 ghost use Rattle.std.specs.Prelude.{◌≡◌, ◌≢◌, ◌/◌, ◌<◌, ◌++◌, ◌↔◌, ℕ, drop, take, length, IfOk, IfErr, IfSome, OnOk, Some, Ok, Err};
 ghost use Rattle.const_hex.specs.Prelude.{error_of, body_of, AllDigits, DecodesTo};
 ghost use Rattle.const_hex.specs.Results.{NamesFirstInvalid};

@@ -1,5 +1,11 @@
 //! The complete program, from its arguments to its exit status and its message on standard error.
 
+// Terms of the contracts:
+// - `DecodesTo t r`: the text t decodes to the result r
+// - `Appends before after bs`: bs was appended to what a writer holds
+// - `Consumes before after bs`: bs was read from what a reader has left
+// - `Keeps before after`: these bytes did not change
+// - `IsAtEnd left`: nothing is left to read
 ghost use Rattle.std.specs.Prelude.{◌≡◌, ◌∷◌, ◌⊎◌, [], List, ℕ, Ok, Err, codes, map, string_bytes, take};
 ghost use Rattle.std.specs.Io.BufRead.{strip_last};
 ghost use Rattle.std.specs.Io.KnownBytes.{Appends, Consumes, IsAtEnd, Keeps};

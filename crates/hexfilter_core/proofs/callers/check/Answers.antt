@@ -3,6 +3,12 @@
 --
 -- `x` is the input that was read, `y` is the output that was written for it, and `has` is the fact that they match the
 -- state.
+--
+-- Terms of the contracts:
+-- - `DecodesTo t r`: the text t decodes to the result r
+-- - `Appends before after bs`: bs was appended to what a writer holds
+-- - `Consumes before after bs`: bs was read from what a reader has left
+-- - `Keeps before after`: these bytes did not change
 use Rattle.std.proofs.Common.{◌≡◌, ◌∙◌, ◌++◌, [], ℕ, List, None, Option, Some, Ok, ap, append-nil, inl, inr, refl, subst, true, false}
 use Rattle.std.specs.Io.KnownBytes.{Appends, Consumes, Keeps}
 use Rattle.hexfilter_core.proofs.lemmas.Mirror.{not_decoded}

@@ -4,6 +4,11 @@
 --
 -- `x` is the input that was read, `y` is the output that was written for it, and `has` is the fact that they match the
 -- state.
+--
+-- Terms of the contracts:
+-- - `DecodesTo t r`: the text t decodes to the result r
+-- - `body_of t`: t without its prefix
+-- - `Spells u bs`: the digits u decode to the bytes bs
 use Rattle.std.proofs.Common.{◌∷◌, ◌++◌, ◌*◌, [], Ok, false, length, refl, take}
 use Rattle.std.proofs.lemmas.Result.{on_err_weaker, on_ok_weaker}
 use Rattle.hexfilter_core.proofs.lemmas.Texts.{text_plain}

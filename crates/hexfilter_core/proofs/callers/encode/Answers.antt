@@ -3,6 +3,10 @@
 --
 -- `x` is the input that was read, `y` is the output that was written for it, and `has` is the fact that they match the
 -- state.
+--
+-- Terms of the contracts:
+-- - `full_text prefix upper bs`: the text of bs, after `0x` if `prefix` is true
+-- - `groups_from g k t`: the text t in the groups g, if the first has k characters already
 use Rattle.std.proofs.Common.{◌≡◌, ◌∙◌, [], ℕ, List, None, append-nil, arith, false, refl, sym}
 use Rattle.hexfilter_core.proofs.lemmas.Groups.{without_groups}
 use Rattle.hexfilter_core.proofs.lemmas.Runs.{ends_always, not_rejected}

@@ -4,6 +4,9 @@
 --
 -- `x` is the input that was read, `y` is the output that was written for it, and `has` is the fact that they match the
 -- state.
+--
+-- Terms of the contracts:
+-- - `mirror ignores g`: the options that decode a text in the groups g
 use Rattle.std.proofs.Common.{arith, ◌≡◌, ◌∙◌, None, Some, refl}
 use Rattle.std.specs.Process.{exit_status}
 use Rattle.const_hex.specs.Prelude.{AreBytes}

@@ -1,5 +1,10 @@
 -- Proof of an open goal, named after its place: `F-requires` is what the call of F requires; `clause-X` is the clause X
 -- of the contract. `c` has the facts that are known there. `g` has the type parameters and their traits' members.
+--
+-- Terms of the contracts:
+-- - `mirror ignores g`: the options that decode a text in the groups g
+-- - `IgnoresLines ignores g`: whitespace is ignored if g are lines
+-- - `AreFor m arguments`: the arguments ask for the mode m
 use Rattle.std.proofs.Common.{◌≡◌, ◌⊎◌, ◌∷◌, [], Bool, ℕ, List, codes, false, inl, inr, refl, true}
 use Rattle.hexfilter_core.specs.Dumps.{Groups, IgnoresLines, mirror}
 use Rattle.hexfilter_core.specs.Options.{AreFor, WritesGroups, is_separator}

@@ -1,6 +1,9 @@
 -- Proof of the open goal `returns`: the clauses of the contract hold at the return. `c` has the facts that are known
 -- there: `c.args` are the arguments; `c.F.ensures` is what the call of F ensures. `g` has the type parameters and their
 -- traits' members.
+--
+-- Terms of the contracts:
+-- - `RunsToEnd m ..`: the whole input was read, and the mode's output for it written
 use Rattle.std.proofs.Common.{arith, ◌∙◌, Some}
 use Rattle.std.proofs.lemmas.Result.{on_ok_weaker}
 use Rattle.const_hex.specs.Prelude.{AreBytes}

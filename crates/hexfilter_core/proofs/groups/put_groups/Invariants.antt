@@ -1,5 +1,9 @@
 -- The invariant of the loop `groups`, and its measure, which decreases with each iteration. `l` has the live variables,
 -- `l.initial` their values before the loop.
+--
+-- Terms of the contracts:
+-- - `PutsInto g k t y m`: the text t is written in the groups g as y, if the first group has k characters already;
+--   the last one then has m
 use Rattle.std.proofs.Common.{◌-◌, ◌*◌, ◌≤◌, length, take}
 use Rattle.hexfilter_core.specs.Dumps.{PutsInto}
 use Rattle.hexfilter_core.proofs.groups.put_groups.Given as goal

@@ -1,6 +1,9 @@
 -- Proofs of open goals, named after their places: `returns` is the return at the end; `then-F` is the `then` branch of
 -- the `if` that tests F. `c` has the facts that are known there: `c.args` are the arguments; `c.F.ensures` is what the
 -- call of F ensures; `c.if-F` is the test of F.
+--
+-- Terms of the contracts:
+-- - `body_of t`: t without its prefix
 use Rattle.std.proofs.Common.{◌≡◌, ◌+◌, ◌-◌, length, Ok, arith}
 use Rattle.const_hex.specs.Prelude.{body_of}
 use Rattle.const_hex.proofs.lemmas.Decoding.{body-shorter}

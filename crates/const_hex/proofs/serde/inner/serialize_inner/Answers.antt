@@ -2,6 +2,9 @@
 -- the `if` that tests F; `clause-X` is the clause X of the contract. `c` has the facts that are known there: `c.args`
 -- are the arguments; `c.F.ensures` is what the call of F ensures; `c.if-F` is the test of F. `g` has the type
 -- parameters and their traits' members.
+--
+-- Terms of the contracts:
+-- - `full_text prefix upper bs`: the text of bs, after `0x` if `prefix` is true
 use Rattle.std.proofs.Common.{◌≡◌, ◌<◌, ℕ, Bool, not, nat_eq, List, [], length, min, arith, rules}
 use Rattle.std.proofs.lemmas.List.{nil_from_length}
 use Rattle.const_hex.specs.Prelude.{full_text, text_length}

@@ -1,5 +1,8 @@
 -- Proof of the open goal `returns`: the clauses of the contract hold at the return. `c` has the facts that are known
 -- there: `c.F.ensures` is what the call of F ensures.
+--
+-- Terms of the contracts:
+-- - `full_text prefix upper bs`: the text of bs, after `0x` if `prefix` is true
 use Rattle.std.proofs.Common.{◌≡◌, ◌+◌, ◌≤◌, ℕ, Bool, List, [], ◌∷◌, length, true, false, arith, length-append, refl, ap, take}
 use Rattle.std.proofs.lemmas.List.{length-take}
 use Rattle.const_hex.specs.Prelude.{Offers}

@@ -3,6 +3,15 @@
 --
 -- `x` is the input that was read, `y` is the output that was written for it, and `has` is the fact that they match the
 -- state.
+--
+-- Terms of the contracts:
+-- - `DecodesTo t r`: the text t decodes to the result r
+-- - `Appends before after bs`: bs was appended to what a writer holds
+-- - `Consumes before after bs`: bs was read from what a reader has left
+-- - `Keeps before after`: these bytes did not change
+-- - `WritesBeginning before after bs`: a beginning of bs was appended
+-- - `IsResultOfInput m in_before in_after r`: r is the result of the mode m for the input that was read, to its end
+-- - `Ends m status ..`: a run in the mode m ended with this exit status
 use Rattle.std.proofs.Common.{arith, ◌≡◌, ◌≢◌, ◌∷◌, ◌⊎◌, ◌∙◌, [], List, Ok, Option, ℕ, codes, inl, inr, refl, sym, take}
 use Rattle.std.specs.Io.BufRead.{strip_last}
 use Rattle.std.specs.Io.KnownBytes.{Appends, Consumes, Keeps}

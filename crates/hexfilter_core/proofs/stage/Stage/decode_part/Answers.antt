@@ -4,6 +4,9 @@
 --
 -- `x` is the input that was read, `y` is the output that was written for it, and `has` is the fact that they match the
 -- state.
+--
+-- Terms of the contracts:
+-- - `text_of r x`: the input x without the bytes that are left out
 use Rattle.std.proofs.Common.{arith, length-take, refl}
 use Rattle.std.proofs.lemmas.Result.{IfOk-weaker}
 use Rattle.hexfilter_core.proofs.lemmas.Texts.{decoded_more, plain_added}

@@ -1,5 +1,8 @@
 -- Proofs of open goals, named after their places: `returns` is a return; `in-V` is the arm V of a `match`. `c` has the
 -- facts that are known there: `c.args` are the arguments; `c.F.ensures` is what the call of F ensures.
+--
+-- Terms of the contracts:
+-- - `text_of r x`: the input x without the bytes that are left out
 use Rattle.std.proofs.Common.{rules, refl}
 use Rattle.hexfilter_core.proofs.lemmas.Runs.{same_error}
 use Rattle.hexfilter_core.proofs.lemmas.Texts.{pairs}

@@ -1,6 +1,10 @@
 -- Proofs of open goals, named after their places: `returns` is the return at the end; `then-F` is the `then` branch of
 -- the `if` that tests F. `c` has the facts that are known there: `c.args` are the arguments; `c.F.ensures` is what the
 -- call of F ensures; `c.if-F` is the test of F. `g` has the type parameters and their traits' members.
+--
+-- Terms of the contracts:
+-- - `ChunkResult t bs n r`: the last chunk of t has the result r, after the bytes bs, with space for n more
+-- - `HasRead d t bs`: the decoder d has read t without an error, and has written bs for it
 use Rattle.std.proofs.Common.{◌++◌, ℕ, List, Err, arith, refl, sym, length, ◌≡◌, ◌∙◌, take, drop, rules, length-take-le, take_at, drop_at}
 use Rattle.const_hex.specs.Prelude.{HasRead, InvalidStringLength, ChunkResult}
 use Rattle.const_hex_arch.proofs.lemmas.Digits.{digits_append}

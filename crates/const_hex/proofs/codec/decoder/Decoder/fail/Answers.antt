@@ -1,6 +1,9 @@
 -- Proof of an open goal, named after its place: `returns` is the return at the end; `clause-X` is the clause X of the
 -- contract. `c` has the facts that are known there: `c.args` are the arguments; `c.F.ensures` is what the call of F
 -- ensures. `g` has the type parameters and their traits' members.
+--
+-- Terms of the contracts:
+-- - `saturated n`: n, but at most `usize::MAX`
 use Rattle.std.proofs.Common.{◌≡◌, ◌+◌, arith}
 use Rattle.const_hex.specs.Prelude.{saturated, position_of}
 use Rattle.const_hex.proofs.codec.decoder.Decoder.fail.Goals as goal
