@@ -27,4 +27,5 @@ pub length-left : (up : Bool) (low : Option ℕ) (u : List ℕ)
     → length (with_low low (hex_text up u)) ≡ 2 * length u + bool_byte (is_some low)
 length-left up low u = grind (arith, length-hex_text)
 
+-- the lemmas that the proof search of `next` and `size_hint` may use
 pub ruleset remaining_characters = (left-none, left-more, length-left)

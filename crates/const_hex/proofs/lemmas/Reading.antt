@@ -67,4 +67,5 @@ sized_accepts n t (Err e) h = (
   λ accepted. absurd (grind (arith, digits_not_invalid, body-parity, is_text-parts n t accepted)),
 )
 
+-- the lemmas that the proof search of `check_with` may use
 pub ruleset checked = (DecodesTo-digits, Spells-not_invalid)

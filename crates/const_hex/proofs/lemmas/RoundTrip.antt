@@ -36,6 +36,7 @@ Spells-agree u v xs ys s t =
     let of_ys = Spells-hex_text false ys (Spells-bytes v ys t) in
     (λ e. cc, λ e. Spells-same (hex_text false xs) xs ys of_xs (rw (a ∙ e ∙ sym b) of_ys))
 
+-- the lemmas that the proof search of callers may use
 pub ruleset read_back = (hex_text-lowered, Spells-agree)
 
 -- ---- encoded text decodes to the same bytes

@@ -34,6 +34,7 @@ write_step a b c bytes done n p q =
     rw (take-add done n bytes)
     (Appends-trans a b c (take done bytes) (take n (drop done bytes)) p (rw (take_rest bytes done) at q))
 
+-- the lemmas that the proof search of a loop that writes may use
 pub ruleset writes = (step_within, write_step, Appends-kept)
 
 -- there is no error

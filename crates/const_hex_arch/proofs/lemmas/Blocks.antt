@@ -250,6 +250,7 @@ pub filled_one : {up : Bool} {u new : List ℕ} {i end : ℕ} (r : List ℕ) (m 
 filled_one {up} {u} {new} {i} r m d h e f s =
     filled_block r 1 m d e (omega arith) f (s ∙ sym (hex_text-one up u i h))
 
+-- the lemmas that the proof search of `Plain::fill` may use
 pub ruleset fills = (none_filled, filled_one, hex_text-nil)
 
 -- fewer bytes are written than there are

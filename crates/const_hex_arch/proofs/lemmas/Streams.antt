@@ -292,4 +292,5 @@ pub Streams-at : {S : Type 0} (step : S → List ℕ → S → Type 0) (has_fail
     → Streams step has_failed old text new → (end : S) → end ≡ new → Streams step has_failed old text end
 Streams-at step has_failed old text new h end e = rw e h
 
+-- the lemmas that the proof search of `write_whole` may use
 pub ruleset wholes = (StreamsWhole-of, Streams-none, Streams-one)

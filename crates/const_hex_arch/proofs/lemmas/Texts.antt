@@ -70,6 +70,7 @@ Spells-same [] [] (b ∷ ys) s t = absurd t
 Spells-same (x ∷ y ∷ u) (a ∷ xs) [] s t = absurd t
 Spells-same _ _ _ s t = absurd s
 
+-- the lemmas that the proof search of blocks may use
 pub ruleset spelled = (Spells-append, Spells-same)
 
 -- ---- one more pair of a text
@@ -165,6 +166,5 @@ Spells-hex_text up (b ∷ bs) h =
     let low = hex_value-hex_digit up (b % 16) (omega arith) in
     (IsPair-of _ _ (b / 16) (b % 16) b high low (omega arith), Spells-hex_text up bs (λ k. h (suc k)))
 
--- ---- the rules for proof search
-
+-- the lemmas that the proof search of functions that encode may use
 pub ruleset texts = (IsUtf8-from_ascii, IsAscii-full_text, hex_text-append)

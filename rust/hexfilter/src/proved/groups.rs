@@ -27,12 +27,12 @@ pub(crate) fn put_groups(
             end += put;
             continue;
         }
-        let (start, first) = separate(groups, group_fill, output, end);
-        let count = (groups.size - first).min(text.len() - done);
+        let (start, fill) = separate(groups, group_fill, output, end);
+        let count = (groups.size - fill).min(text.len() - done);
         end = start + count;
         output[start..end].copy_from_slice(&text[done..done + count]);
         done += count;
-        group_fill = first + count;
+        group_fill = fill + count;
     }
     (end, group_fill)
 }
