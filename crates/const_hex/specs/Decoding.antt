@@ -14,7 +14,7 @@ use Rattle.const_hex.specs.declared.error.FromHexError.TheVariants.{OddLength, I
 abbrev pub saturated : ℕ → ℕ
 saturated n = min n (2 ^ 64 - 1)
 
--- the pending digit, which is the first of an incomplete pair, if there is one
+-- the pending digit, which is the first of an incomplete pair, if there is one: if the state is 1 (`PENDING`)
 abbrev pub pending_digit : Decoder → List ℕ
 pending_digit d = if d.state == 1 then d.byte ∷ [] else []
 
@@ -22,7 +22,7 @@ pending_digit d = if d.state == 1 then d.byte ∷ [] else []
 abbrev pub position_of : Decoder → ℕ
 position_of d = d.index
 
--- the stored error, if a chunk had an invalid character
+-- the stored error, if a chunk had an invalid character: if the state is neither 0 (`EVEN`) nor 1
 abbrev pub error_of : Decoder → Option FromHexError
 error_of d = if nat_le d.state 1 then None else Some (InvalidHexCharacter d.byte d.index)
 

@@ -47,7 +47,7 @@ abbrev pub number : List ℕ → Result ℕ UsageErrorKind
 number v = if nat_lt 0 (length v) && all_ascii_digits v && nat_lt (digits_value 10 v) (2 ^ 64) then Ok
     (digits_value 10 v) else Err InvalidNumber
 
--- an ASCII character that is neither a hexadecimal digit nor a newline
+-- an ASCII character that is neither a hexadecimal digit nor a newline (10)
 unfoldable pub is_separator : ℕ → Bool
 is_separator b = nat_lt b 128 && not (b == 10) && not (is_ascii_hexdigit b)
 
@@ -74,7 +74,7 @@ with_letters o (c ∷ t) =
     and_then (find_option (c ∷ []) (option_table o))
     (λ p. if is_some p.value && nat_lt 0 (length t) then with_value p.value p t else with_letters p t)
 
--- letters after a dash, a name after two, which may have a value after an equals sign, or else a file
+-- letters after a dash (45), a name after two, which may have a value after an equals sign (61), or else a file
 abbrev pub dashed : Options → Result Options UsageErrorKind → List ℕ → Result Options UsageErrorKind
 dashed o file [] = file
 dashed o file (c ∷ []) = file
@@ -156,19 +156,19 @@ arguments_of (Decode r) words =
     (if r.is_check then codes "--check" else codes "--decode") ∷ flag r.ignore_whitespace
     (codes "--ignore-whitespace") ++ words
 
--- the words write the groups, by their bytes and separator
+-- the words ask for the groups, by their bytes, of which each has two characters, and by the separator
 abbrev pub WritesGroups : Groups → List (List ℕ) → Type 0
 WritesGroups g words =
     (v : List ℕ) × (n : ℕ) × (number v ≡ Ok n) × (g.size ≡ min (n * 2) (2 ^ 64 - 1))
     × (is_separator g.separator ≡ true)
     × (words ≡ codes "--group" ∷ v ∷ codes "--separator" ∷ (g.separator ∷ []) ∷ [])
 
--- no words write no groups
+-- without words, there are no groups
 abbrev pub IsPlain : Groups → List (List ℕ) → Type 0
 IsPlain g words = (words ≡ []) × (g ≡ record { size = 0; separator = 10 })
 
--- the words write the groups of a mode: lines, if they are written, by their columns, other groups by their bytes and
--- the separator
+-- the words ask for the groups of a mode: lines, if they are written, by their columns, other groups by their bytes
+-- and the separator
 abbrev pub AsksFor : Mode → List (List ℕ) → Type 0
 AsksFor (Encode prefix upper g) words =
     ((v : List ℕ) × (number v ≡ Ok g.size) × (g.separator ≡ 10) × (words ≡ codes "--wrap" ∷ v ∷ []))

@@ -1,6 +1,6 @@
 -- Proofs of open goals, named after their places: `returns` is the return at the end; `clause-X` is the clause X of the
 -- contract. `c` has the facts that are known there: `c.args` are the arguments. `g` has the type parameters and their
--- traits' members.
+-- traits' members. `search` is a proof search.
 --
 -- Terms of the contracts:
 -- - `full_text prefix upper bs`: the text of bs, after `0x` if `prefix` is true

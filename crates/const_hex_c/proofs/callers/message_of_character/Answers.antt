@@ -1,5 +1,5 @@
 -- Proof of the open goal `returns`: the clauses of the contract hold at the return. `c` has the facts that are known
--- there: `c.args` are the arguments; `c.F.ensures` is what the call of F ensures.
+-- there: `c.args` are the arguments; `c.F.ensures` is what the call of F ensures; `c.F.result` is its result.
 use Rattle.std.proofs.Common.{◌∙◌, ℕ, List, refl, arith}
 use Rattle.std.specs.Char.{encode_utf8}
 use Rattle.std.specs.Fmt.{digits}

@@ -9,7 +9,7 @@ invariant-bytes l = record {
   fits : l.count < length l.output;
   size : length l.output ≡ length l.initial.output;
   front : take l.count l.output ≡ take l.count l.text;
-  ended : slice_index l.output l.count ≡ 0;
+  nul_terminated : slice_index l.output l.count ≡ 0;
   rest : drop (l.count + 1) l.output ≡ drop (l.count + 1) l.initial.output;
 }
 

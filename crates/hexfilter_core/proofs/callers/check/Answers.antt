@@ -1,8 +1,9 @@
 -- Proof of the open goal `returns`: the clauses of the contract hold at the return. `c` has the facts that are known
--- there: `c.F.ensures` is what the call of F ensures. `g` has the type parameters and their traits' members.
+-- there: `c.F.ensures` is what the call of F ensures; `c.F.new` is what it has changed. `g` has the type parameters and
+-- their traits' members.
 --
--- `x` is the input that was read, `y` is the output that was written for it, and `has` is the fact that they match the
--- state.
+-- `x` is the input that was read, and `y` the output that was written for it: `read` and `wrote` are these facts, and
+-- `end` is the fact that the reader is at its end.
 --
 -- Terms of the contracts:
 -- - `DecodesTo t r`: the text t decodes to the result r

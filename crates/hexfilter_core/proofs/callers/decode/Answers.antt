@@ -1,9 +1,9 @@
 -- Proofs of open goals, named after their places: `returns` is the return at the end; `clause-X` is the clause X of the
--- contract. `c` has the facts that are known there: `c.F.ensures` is what the call of F ensures. `g` has the type
--- parameters and their traits' members.
+-- contract. `c` has the facts that are known there: `c.F.ensures` is what the call of F ensures; `c.F.result` is its
+-- result. `g` has the type parameters and their traits' members.
 --
--- `x` is the input that was read, `y` is the output that was written for it, and `has` is the fact that they match the
--- state.
+-- `x` is the input that was read, and `y` the output that was written for it: `read` and `wrote` are these facts, and
+-- `end` is the fact that the reader is at its end.
 --
 -- Terms of the contracts:
 -- - `DecodesTo t r`: the text t decodes to the result r

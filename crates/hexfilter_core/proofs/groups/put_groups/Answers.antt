@@ -1,7 +1,8 @@
 -- Proofs of open goals, named after their places: `then-F` is the `then` branch of the `if` that tests F; `L-preserved`
 -- is the invariant after an iteration of the loop L. `c` has the facts that are known there: `c.args` are the
--- arguments; `c.F.ensures` is what the call of F ensures; `c.if-F` is the test of F; `c.L.invariant` is that of the
--- loop L.
+-- arguments; `c.F.ensures` is what the call of F ensures; `c.F.result` is its result; `c.F.new` is what it has changed;
+-- `F-x` is a call whose result is named x; `c.if-F` is the test of F; `c.L` has the variables of the loop L and its
+-- invariant.
 use Rattle.std.proofs.Common.{◌≡◌, ◌∙◌, ◌+◌, ◌-◌, ◌++◌, take, drop, ap, arith, take-take}
 use Rattle.hexfilter_core.proofs.lemmas.Groups.{more_in_group, puts_more}
 use Rattle.hexfilter_core.proofs.lemmas.Texts.{take_put}

@@ -1,6 +1,6 @@
 -- Proofs of open goals, named after their places: `returns` is a return; `in-V` is the arm V of a `match`;
 -- `L-preserved` is the invariant after an iteration of the loop L. `c` has the facts that are known there:
--- `c.F.ensures` is what the call of F ensures; `c.L.invariant` is that of the loop L.
+-- `c.F.ensures` is what the call of F ensures; `c.L` has the variables of the loop L and its invariant.
 use Rattle.std.proofs.Common.{Err, Ok, string_bytes, sym, ap, ◌∙◌}
 use Rattle.hexfilter_core.proofs.lemmas.Arguments.{next_argument, read_back}
 use Rattle.hexfilter_core.specs.Options.{request_for}

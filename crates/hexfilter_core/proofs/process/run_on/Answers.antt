@@ -1,7 +1,8 @@
 -- Proofs of open goals, named after their places: `returns` is a return; `then-F` is the `then` branch of the `if` that
 -- tests F; `in-V` is the arm V of a `match`; `clause-X` is the clause X of the contract. `c` has the facts that are
--- known there: `c.args` are the arguments; `c.F.ensures` is what the call of F ensures. `g` has the type parameters and
--- their traits' members.
+-- known there: `c.args` are the arguments; `c.F.ensures` is what the call of F ensures; `c.F.result` is its result;
+-- `c.F.new` is what it has changed; `F-x` is a call whose result is named x. `g` has the type parameters and their
+-- traits' members.
 use Rattle.std.proofs.Common.{◌≡◌, List, ℕ, Some, Option, true, false, refl, Bor, option_copied}
 use Rattle.hexfilter_core.proofs.lemmas.Runs.{ends}
 use Rattle.hexfilter_core.proofs.process.run_on.Goals as goal

@@ -1,6 +1,6 @@
 -- Proofs of open goals, named after their places: `returns` is the return at the end; `then-F` is the `then` branch of
 -- the `if` that tests F. `c` has the facts that are known there: `c.args` are the arguments; `c.F.ensures` is what the
--- call of F ensures; `c.if-F` is the test of F.
+-- call of F ensures; `c.F.result` is its result; `F-x` is a call whose result is named x; `c.if-F` is the test of F.
 --
 -- Terms of the contracts:
 -- - `body_of t`: t without its prefix

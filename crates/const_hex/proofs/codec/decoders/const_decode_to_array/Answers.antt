@@ -1,8 +1,9 @@
 -- Proofs of open goals, named after their places: `returns` is the return at the end; `then-F` is the `then` branch of
 -- the `if` that tests F; `in-V` is the arm V of a `match`; `L-init` is the invariant before the loop L; `L-preserved`
 -- is the invariant after an iteration of the loop L. `c` has the facts that are known there: `c.args` are the
--- arguments; `c.F.ensures` is what the call of F ensures; `c.if-F` is the test of F; `c.L.invariant` is that of the
--- loop L. `g` has the type parameters and their traits' members.
+-- arguments; `c.F.ensures` is what the call of F ensures; `c.F.result` is its result; `F-x` is a call whose result is
+-- named x; `c.if-F` is the test of F; `c.L` has the variables of the loop L and its invariant. `g` has the type
+-- parameters and their traits' members. `search` is a proof search.
 use Rattle.std.proofs.Common.{◌*◌, rules, arith, take_all}
 use Rattle.std.proofs.lemmas.Grind.{common_steps}
 use Rattle.const_hex_arch.proofs.lemmas.Digits.{digit_values}

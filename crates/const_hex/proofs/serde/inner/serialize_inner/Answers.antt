@@ -1,7 +1,7 @@
 -- Proofs of open goals, named after their places: `returns` is the return at the end; `then-F` is the `then` branch of
 -- the `if` that tests F; `clause-X` is the clause X of the contract. `c` has the facts that are known there: `c.args`
--- are the arguments; `c.F.ensures` is what the call of F ensures; `c.if-F` is the test of F. `g` has the type
--- parameters and their traits' members.
+-- are the arguments; `c.F.ensures` is what the call of F ensures; `c.F.new` is what it has changed; `c.if-F` is the
+-- test of F. `g` has the type parameters and their traits' members. `search` is a proof search.
 --
 -- Terms of the contracts:
 -- - `full_text prefix upper bs`: the text of bs, after `0x` if `prefix` is true

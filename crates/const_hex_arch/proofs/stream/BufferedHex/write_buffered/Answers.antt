@@ -1,5 +1,7 @@
 -- Proof of the open goal `returns`: the clauses of the contract hold at the return. `c` has the facts that are known
--- there: `c.F.ensures` is what the call of F ensures. `g` has the type parameters and their traits' members.
+-- there: `c.F.ensures` is what the call of F ensures; `c.F.result` is its result; `c.F.new` is what it has changed;
+-- `F-x` is a call whose result is named x. `g` has the type parameters and their traits' members. `search` is a proof
+-- search.
 use Rattle.std.proofs.Common.{rules, ap, ◌∙◌, None}
 use Rattle.const_hex_arch.specs.{output_sink, sink_name}
 use Rattle.const_hex_arch.proofs.lemmas.Streams.{Streams-from_writes, Streams-at, StreamsWhole-of}

@@ -1,5 +1,6 @@
 -- Proof of the open goal `returns`: the clauses of the contract hold at the return. `c` has the facts that are known
--- there: `c.F.ensures` is what the call of F ensures.
+-- there: `c.F.ensures` is what the call of F ensures; `c.F.result` is its result; `c.F.new` is what it has changed;
+-- `F-x` is a call whose result is named x.
 --
 -- Terms of the contracts:
 -- - `full_text prefix upper bs`: the text of bs, after `0x` if `prefix` is true

@@ -1,7 +1,7 @@
 -- Proofs of open goals, named after their places: `returns` is the return at the end; `then-F` is the `then` branch of
 -- the `if` that tests F; `in_err-F` is the error that `?` returns after F; `L-preserved` is the invariant after an
 -- iteration of the loop L. `c` has the facts that are known there: `c.F.ensures` is what the call of F ensures;
--- `c.L.invariant` is that of the loop L.
+-- `c.F.result` is its result; `c.L` has the variables of the loop L and its invariant. `search` is a proof search.
 use Rattle.std.proofs.Common.{◌≡◌, Err, Ok, sym, ◌∙◌, rules, arith}
 use Rattle.std.proofs.lemmas.Bool.Decides.{nat_tests}
 use Rattle.hexfilter_core.proofs.lemmas.Arguments.{first_letter, no_letter}

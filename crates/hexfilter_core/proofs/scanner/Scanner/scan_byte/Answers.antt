@@ -1,5 +1,6 @@
 -- Proof of the open goal `returns`: the clauses of the contract hold at the return. `c` has the facts that are known
--- there: `c.args` are the arguments; `c.F.ensures` is what the call of F ensures.
+-- there: `c.args` are the arguments; `c.F.ensures` is what the call of F ensures; `F-x` is a call whose result is named
+-- x.
 use Rattle.std.proofs.Common.{[], ◌∷◌, refl}
 use Rattle.hexfilter_core.proofs.lemmas.Texts.{group_fill-append, text-byte}
 use Rattle.hexfilter_core.specs.Dumps.{group_fill_after_all}

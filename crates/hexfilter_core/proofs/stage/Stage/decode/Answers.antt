@@ -1,7 +1,8 @@
 -- Proofs of open goals, named after their places: `returns` is the return at the end; `in-V` is the arm V of a `match`;
 -- `L-preserved` is the invariant after an iteration of the loop L; `clause-X` is the clause X of the contract. `c` has
--- the facts that are known there: `c.args` are the arguments; `c.F.ensures` is what the call of F ensures;
--- `c.L.invariant` is that of the loop L.
+-- the facts that are known there: `c.args` are the arguments; `c.F.ensures` is what the call of F ensures; `c.F.new` is
+-- what it has changed; `F-x` is a call whose result is named x; `c.L` has the variables of the loop L and its
+-- invariant.
 --
 -- `x` is the input that was read, `y` is the output that was written for it, and `has` is the fact that they match the
 -- state.

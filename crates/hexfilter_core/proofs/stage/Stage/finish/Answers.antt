@@ -1,5 +1,6 @@
 -- Proofs of open goals, named after their places: `returns` is a return; `in-V` is the arm V of a `match`. `c` has the
--- facts that are known there: `c.args` are the arguments; `c.F.ensures` is what the call of F ensures.
+-- facts that are known there: `c.args` are the arguments; `c.F.ensures` is what the call of F ensures; `F-x` is a call
+-- whose result is named x. `search` is a proof search.
 --
 -- Terms of the contracts:
 -- - `text_of r x`: the input x without the bytes that are left out

@@ -1,6 +1,7 @@
 -- Proofs of open goals, named after their places: `returns` is a return; `in-V` is the arm V of a `match`; `clause-X`
 -- is the clause X of the contract; `-2` is the second one of that name. `c` has the facts that are known there:
--- `c.args` are the arguments; `c.F.ensures` is what the call of F ensures.
+-- `c.args` are the arguments; `c.F.ensures` is what the call of F ensures; `c.F.result` is its result; `c.F.new` is
+-- what it has changed; `F-x` is a call whose result is named x.
 --
 -- `x` is the input that was read, `y` is the output that was written for it, and `has` is the fact that they match the
 -- state.

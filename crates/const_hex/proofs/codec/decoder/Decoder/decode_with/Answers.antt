@@ -1,6 +1,8 @@
 -- Proofs of open goals, named after their places: `returns` is the return at the end; `then-F` is the `then` branch of
 -- the `if` that tests F. `c` has the facts that are known there: `c.args` are the arguments; `c.F.ensures` is what the
--- call of F ensures; `c.if-F` is the test of F. `g` has the type parameters and their traits' members.
+-- call of F ensures; `c.F.result` is its result; `c.F.new` is what it has changed; `F-x` is a call whose result is
+-- named x; `c.if-F` is the test of F. `g` has the type parameters and their traits' members. `search` is a proof
+-- search.
 --
 -- Terms of the contracts:
 -- - `ChunkResult t bs n r`: the last chunk of t has the result r, after the bytes bs, with space for n more

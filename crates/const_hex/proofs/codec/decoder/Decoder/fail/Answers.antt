@@ -1,6 +1,7 @@
 -- Proof of an open goal, named after its place: `returns` is the return at the end; `clause-X` is the clause X of the
 -- contract. `c` has the facts that are known there: `c.args` are the arguments; `c.F.ensures` is what the call of F
--- ensures. `g` has the type parameters and their traits' members.
+-- ensures; `c.F.result` is its result; `F-x` is a call whose result is named x. `g` has the type parameters and their
+-- traits' members.
 --
 -- Terms of the contracts:
 -- - `saturated n`: n, but at most `usize::MAX`

@@ -1,6 +1,7 @@
 -- Proof of an open goal, named after its place: `returns` is a return; `then-F` is the `then` branch of the `if` that
 -- tests F. `c` has the facts that are known there: `c.args` are the arguments; `c.F.ensures` is what the call of F
--- ensures; `c.if-F` is the test of F. `g` has the type parameters and their traits' members.
+-- ensures; `c.F.new` is what it has changed; `c.if-F` is the test of F. `g` has the type parameters and their traits'
+-- members.
 use Rattle.std.proofs.Common.{◌≡◌, [], take, refl, ap, ◌∙◌, arith}
 use Rattle.std.proofs.lemmas.List.{nil_from_length}
 use Rattle.const_hex_arch.proofs.lemmas.Runs.{Buffers-long}
