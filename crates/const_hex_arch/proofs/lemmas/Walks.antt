@@ -6,7 +6,9 @@
 -- The `Proof.antt` of each `decode_chunk` names its calls and passes them to it.
 --
 -- `𝓤` is the resource algebra of the separation logic `𝓛`, `𝓜` is the memory model, and `𝓡` is the running program.
--- Each line that ends in `$` applies a rule to the symbolic state.
+-- `κs` are the lifetimes, `qs` the shares of their tokens, `a` the arguments, `are` facts about them, and `l` are the
+-- locals. `G` is the contract of the call as a triple, `z` its arguments, `r` its result, and `v` the machine value of
+-- that. Each line that ends in `$` applies a rule to the symbolic state.
 -- `wired` says that this program has the code of the function and of those that it calls. `F.met`, which is generated,
 -- proves that F meets its contract.
 --
@@ -18,6 +20,15 @@
 -- steps and locals to `Code/Mir.antt` in that folder. Replace the old numbers by the new ones, from
 -- the top down, and check after each. The check names the first step that no longer fits. The
 -- toolchain's guide is its `docs/WALKS.md`.
+--
+-- The steps: `enter` begins the body; `alloc_all` allocates the locals; `pass_all` stores the arguments in them;
+-- `sets` executes an assignment; `sets_last` the last one of a branch; `calls_at` executes a call by its contract;
+-- `lands_as` stores its result; `branches` executes an `if`; `exec` goes on after it; `returns` reads the result;
+-- `free_all` frees the locals; `suffices` states what is left to prove; `split` and `join` take apart and build a
+-- separating conjunction; `drop` discards a resource; `use0`, `use1` and `use2` apply an entailment to so many
+-- resources; `pick` opens an existential; `await` removes an update of ghost state; `heard` extracts a pure fact;
+-- `owned` adds a value by its representation; `nothing` adds an empty resource; `group` joins several parts; `done`
+-- ends the proof.
 pub use Rattle.std.proofs.Common.{ℕ, List, [], ◌∷◌, Bool, refl, lit<, w8, IsTrue, ◌↔◌, ◌≡◌, ◌*◌, true, false, not, T, length, ap, ◌∙◌, Bor, MutBor, ◌++◌, ◌&&◌, subst, arith, IsNone, IfSome}
 pub use Rattle.std.proofs.option.Made.{Some-of, none_of}
 pub use Rattle.std.proofs.raw_atomic.Walks.{proved}

@@ -9,6 +9,15 @@
 -- of the separation logic `𝓛`, `𝓜` is the memory model, and `𝓡` is the running program. `κs` are the lifetimes, `qs`
 -- the shares of their tokens, `a` the arguments, `are` facts about them, and `v` is a machine value. Each line that
 -- ends in `$` applies a rule to the symbolic state.
+--
+-- The steps: `enter` begins the body; `alloc_all` allocates the locals; `pass_all` stores the arguments in them;
+-- `sets` executes an assignment; `calls_at` executes a call by its contract; `lands_as` stores its result; `returns`
+-- reads the result; `free_all` frees the locals; `suffices` states what is left to prove; `move` permutes the
+-- resources; `split` and `join` take apart and build a separating conjunction; `drop` discards a resource; `use0`,
+-- `use1` and `use2` apply an entailment to so many resources; `pick` opens an existential; `await` removes an update
+-- of ghost state; `heard` extracts a pure fact; `peeks` reads how a value is represented; `owned` adds a value by its
+-- representation; `rewrite` rewrites by an equation; `nothing` adds an empty resource; `frame` proves the first part
+-- of the goal; `group` joins several parts; `done` ends the proof.
 use Rattle.std.proofs.Common.{subst, IsAscii, ◌≢◌}
 use Rattle.std.proofs.result.Result.TheLaws.{the_row_laws as result_laws}
 use base.Fml.{Lft, Share}

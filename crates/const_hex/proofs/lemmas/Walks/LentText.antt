@@ -8,6 +8,14 @@
 -- of the separation logic `𝓛`, `𝓜` is the memory model, and `𝓡` is the running program. `κs` are the lifetimes, `qs`
 -- the shares of their tokens, `a` the arguments, `are` facts about them, and `v` is a machine value. Each line that
 -- ends in `$` applies a rule to the symbolic state.
+--
+-- The steps: `enter` begins the body; `alloc_all` allocates the locals; `pass_all` stores the arguments in them;
+-- `sets` executes an assignment; `calls_at` executes a call by its contract; `lands_as` stores its result; `returns`
+-- reads the result; `free_all` frees the locals; `suffices` states what is left to prove; `move` permutes the
+-- resources; `split` and `join` take apart and build a separating conjunction; `drop` discards a resource; `use0`,
+-- `use1` and `use2` apply an entailment to so many resources; `pick` opens an existential; `await` removes an update
+-- of ghost state; `peeks` reads how a value is represented; `owned` adds a value by its representation; `nothing`
+-- adds an empty resource; `done` ends the proof.
 use Rattle.const_hex_arch.proofs.lemmas.Walks.{ℕ, length, Bool, List, [], ◌∷◌, refl, ap, T, proved, id⊢, ftrue, Ty, Fn, Callee, local, value_local, ty_ref, ty_int, imm, mut, erased, field, deref, place, copy, rv_opd, addr_of, assign, call, seq, a_number, named, w8, Val, vptr, WT, has_ty, Running, tables, Model, Closed, Ura, Logic, ‵, raw, ◌⊛◌, some, later, ◌$◌, ◌∵◌, !, qed, done, move, drop, use1, use2, split, join, pick, await, suffices, enter, of_opd, addr, fld, stop, no_more, and_then, returns, alloc_all, pass_all, free_all, look_at, get, get_in, sub, whole, through, sets, lands_as, u8, bool, RefOf, SliceRefOf, RefMutOf, yes, no, left, Is, Tells, shows, bool_vals, bool_Makes, Slot, plain, nothing, owned, peeks, only, calls_at, Clauses, Ended, closing, lasts, Lasts, Meets, triple_of, RattleType, framed, ends_at}
 use mir.Syntax.{return as end}
 use types.Kit.{fsplit, fjoin}
@@ -45,7 +53,8 @@ abbrev pub ended_of : (params : List (Slot 5)) → Kepts params → Slot 5 → E
 ended_of params kept result =
     record { signature = record { lifetimes = 5; outlives = []; params = params; result = result }; kept = kept }
 
--- the parameter for the bytes: its type, and its value in MIR
+-- the parameter for the bytes: its place in the signature, the machine value of an argument, which its representation
+-- determines (`reports`), its type in MIR, and that the value has this type (`typed`)
 pub record Input : Type 2 where
   pub slot : Slot 5
   pub val : (κs : Lfts 5) → (slot.row κs).Denot → Val
