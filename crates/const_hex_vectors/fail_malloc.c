@@ -15,32 +15,36 @@ void *__libc_calloc(size_t count, size_t size);
 void *__libc_realloc(void *block, size_t size);
 void __libc_free(void *block);
 
+/* The counts begin when the program has started. */
 static int has_started;
 static unsigned long fail_from, fail_to, calls, failed;
 static long leaked;
 
-static unsigned long number(const char *name) {
+/* The number in a variable of the environment, or 0. */
+static unsigned long env_number(const char *name) {
   const char *text = getenv(name);
   return text ? strtoul(text, NULL, 10) : 0;
 }
 
 __attribute__((constructor)) static void start(void) {
-  fail_from = number("FAIL_FROM");
-  fail_to = number("FAIL_TO");
+  fail_from = env_number("FAIL_FROM");
+  fail_to = env_number("FAIL_TO");
   has_started = 1;
 }
 
 /* Runs after everything that the program does. */
 __attribute__((destructor)) static void report(void) {
-  dprintf((int)number("FAIL_REPORT_FD"), "%lu %lu %ld\n", calls, failed, leaked);
+  dprintf((int)env_number("FAIL_REPORT_FD"), "%lu %lu %ld\n", calls, failed, leaked);
 }
 
+/* Counts a failed call, and returns its result. */
 static void *fail(void) {
   failed++;
   errno = ENOMEM;
   return NULL;
 }
 
+/* Counts a call, and returns whether it must fail. */
 static int must_fail(void) { return has_started && ++calls >= fail_from && calls <= fail_to; }
 
 /* Counts a new block. */

@@ -1,4 +1,4 @@
--- What buffers hold.
+-- What a `Buffer` of n bytes holds.
 use Rattle.std.specs.Prelude.{ℕ, ◌*◌, Bool, List, ◌++◌, replicate}
 use Rattle.const_hex_arch.specs.Texts.{prefix_of}
 use Rattle.const_hex.specs.declared.buffer.Buffer.{Buffer}

@@ -1,4 +1,8 @@
 -- The results for a text: its prefix, and the bytes or the error.
+--
+-- `t` is a text, `u` a text without a prefix, `bs` are bytes, `n` is their number, `r` a result, and `e` an error.
+-- `Spells u bs` says that the digits u decode to the bytes bs, and `Partial old u new` what an output holds after u
+-- was rejected.
 use Rattle.std.specs.Prelude.{◌≡◌, ℕ, ◌+◌, ◌-◌, ◌==◌, nat_le, ◌&&◌, ◌||◌, if◌then◌else◌, List, [], ◌∷◌, length, map, slice_index, ◌*◌, ◌%◌, ◌≢◌, ◌<◌, ◌≤◌, Bool, Result, Ok, Err, ◌++◌, ◌↔◌, true, false, String, string_bytes, take, drop, IfOk, IfErr, OnOk, OnErr, IsOk, IsTrue, MatchResult, is_some}
 use Rattle.const_hex_arch.specs.Texts.{FirstInvalidAt, hex_value, Spells, Partial, hex_text, full_text}
 use Rattle.const_hex.specs.declared.error.FromHexError.{FromHexError}
@@ -34,24 +38,24 @@ IsEven n = n % 2 ≡ 0
 abbrev pub AreBytes : List ℕ → Type 0
 AreBytes bs = (k : ℕ) → slice_index bs k < 256
 
--- the result when the text t is read: `OddLength` if the length of the whole text is odd; else the
--- bytes that its body decodes to, or else the first invalid character
-abbrev pub Reads : List ℕ → Result (List ℕ) FromHexError → Type 0
-Reads t (Ok bs) = IsEven (length t) × Spells (body_of t) bs
-Reads t (Err OddLength) = IsOdd (length t)
-Reads t (Err InvalidStringLength) = ⊥
-Reads t (Err (InvalidHexCharacter c i)) = IsEven (length t) × NamesFirstInvalid t c i
-Reads t (Err NoMemory) = ⊥
+-- the result when the text t is decoded: `OddLength` if the length of the whole text is odd; else the bytes that its
+-- body decodes to, or else the first invalid character
+abbrev pub DecodesTo : List ℕ → Result (List ℕ) FromHexError → Type 0
+DecodesTo t (Ok bs) = IsEven (length t) × Spells (body_of t) bs
+DecodesTo t (Err OddLength) = IsOdd (length t)
+DecodesTo t (Err InvalidStringLength) = ⊥
+DecodesTo t (Err (InvalidHexCharacter c i)) = IsEven (length t) × NamesFirstInvalid t c i
+DecodesTo t (Err NoMemory) = ⊥
 
--- the result when t is read as n bytes: if the length is not odd, a body of another length is
--- an error, before any of its bytes is tested
-abbrev pub ReadsSized : List ℕ → ℕ → Result (List ℕ) FromHexError → Type 0
-ReadsSized t n (Ok bs) = (length (body_of t) ≡ 2 * n) × Reads t (Ok bs)
-ReadsSized t n (Err OddLength) = IsOdd (length t)
-ReadsSized t n (Err InvalidStringLength) = IsEven (length t) × (length (body_of t) ≢ 2 * n)
-ReadsSized t n (Err (InvalidHexCharacter c i)) =
-    (length (body_of t) ≡ 2 * n) × Reads t (Err (InvalidHexCharacter c i))
-ReadsSized t n (Err NoMemory) = ⊥
+-- the result when t is decoded to n bytes: if the length is not odd, a body of another length is an error, before any
+-- of its bytes is tested
+abbrev pub DecodesToExactly : List ℕ → ℕ → Result (List ℕ) FromHexError → Type 0
+DecodesToExactly t n (Ok bs) = (length (body_of t) ≡ 2 * n) × DecodesTo t (Ok bs)
+DecodesToExactly t n (Err OddLength) = IsOdd (length t)
+DecodesToExactly t n (Err InvalidStringLength) = IsEven (length t) × (length (body_of t) ≢ 2 * n)
+DecodesToExactly t n (Err (InvalidHexCharacter c i)) =
+    (length (body_of t) ≡ 2 * n) × DecodesTo t (Err (InvalidHexCharacter c i))
+DecodesToExactly t n (Err NoMemory) = ⊥
 
 -- whether every byte of u is a digit, as a test that can be computed
 abbrev pub all_digits : List ℕ → Bool
@@ -61,20 +65,20 @@ all_digits u = list_all (λ b. is_some (hex_value b)) u
 abbrev pub is_text_of : ℕ → List ℕ → Bool
 is_text_of n t = (length (body_of t) == 2 * n) && all_digits (body_of t)
 
--- the result when t is read into space for n bytes: if the length is not odd, a body with too many
--- digits is an error, before any of its bytes is tested
-abbrev pub ReadsWithin : List ℕ → ℕ → Result (List ℕ) FromHexError → Type 0
-ReadsWithin t n (Ok bs) = (length (body_of t) ≤ 2 * n) × Reads t (Ok bs)
-ReadsWithin t n (Err OddLength) = IsOdd (length t)
-ReadsWithin t n (Err InvalidStringLength) = IsEven (length t) × (2 * n < length (body_of t))
-ReadsWithin t n (Err (InvalidHexCharacter c i)) =
-    (length (body_of t) ≤ 2 * n) × Reads t (Err (InvalidHexCharacter c i))
-ReadsWithin t n (Err NoMemory) = ⊥
+-- the result when t is decoded into space for n bytes: if the length is not odd, a body with too many digits is an
+-- error, before any of its bytes is tested
+abbrev pub DecodesWithin : List ℕ → ℕ → Result (List ℕ) FromHexError → Type 0
+DecodesWithin t n (Ok bs) = (length (body_of t) ≤ 2 * n) × DecodesTo t (Ok bs)
+DecodesWithin t n (Err OddLength) = IsOdd (length t)
+DecodesWithin t n (Err InvalidStringLength) = IsEven (length t) × (2 * n < length (body_of t))
+DecodesWithin t n (Err (InvalidHexCharacter c i)) =
+    (length (body_of t) ≤ 2 * n) × DecodesTo t (Err (InvalidHexCharacter c i))
+DecodesWithin t n (Err NoMemory) = ⊥
 
--- the result when t is checked: the result when it is read, without the bytes
+-- the result when t is checked: the result when it is decoded, without the bytes
 abbrev pub Checks : List ℕ → Result Unit FromHexError → Type 0
-Checks t (Ok u) = (bs : List ℕ) × Reads t (Ok bs)
-Checks t (Err e) = Reads t (Err e)
+Checks t (Ok u) = (bs : List ℕ) × DecodesTo t (Ok bs)
+Checks t (Err e) = DecodesTo t (Err e)
 
 -- what an output that held `old` holds after an error for t
 abbrev pub LeavesOutput : List ℕ → List ℕ → List ℕ → FromHexError → Type 0
@@ -101,8 +105,8 @@ pub record EncodesToSlice (length_of_text : ℕ) (text_of_bytes old new : List �
 
 -- `decode`: the result for the text t, or out of memory for an even length
 pub record Decodes {V : Type 0} (items : V → List ℕ) (t : List ℕ) (r : Result V FromHexError) : Type 0 where
-  pub ok : IfOk r (λ v. Reads t (Ok (items v)))
-  pub err : IfErr r (λ e. e ≢ NoMemory → Reads t (Err e))
+  pub ok : IfOk r (λ v. DecodesTo t (Ok (items v)))
+  pub err : IfErr r (λ e. e ≢ NoMemory → DecodesTo t (Err e))
   pub odd : (r ≡ Err OddLength) ↔ IsOdd (length t)
   -- what was encoded is decoded to the same bytes
   pub round_trip : (prefix up : Bool) (bs : List ℕ) → AreBytes bs → t ≡ full_text prefix up bs
@@ -110,43 +114,43 @@ pub record Decodes {V : Type 0} (items : V → List ℕ) (t : List ℕ) (r : Res
   -- the text of the bytes is the body in lowercase
   pub canonical : IfOk r (λ v. hex_text false (items v) ≡ lowered (body_of t))
   -- another text decodes to the same bytes if and only if the two bodies differ only in case
-  pub agree : (u bs : List ℕ) → Reads u (Ok bs)
+  pub agree : (u bs : List ℕ) → DecodesTo u (Ok bs)
       → IfOk r (λ v. (bs ≡ items v) ↔ (lowered (body_of u) ≡ lowered (body_of t)))
 
 -- `decode_to_slice`: the result for the text t and an output of exactly its bytes, and what the output
 -- holds; if the kernel checks a text first, every error leaves it unchanged
 pub record DecodesToSlice (checks_first : Bool) (t old new : List ℕ) (r : Result Unit FromHexError) : Type 0 where
-  pub ok : IfOk r (λ _. ReadsSized t (length old) (Ok new))
-  pub err : IfErr r (λ e. ReadsSized t (length old) (Err e))
+  pub ok : IfOk r (λ _. DecodesToExactly t (length old) (Ok new))
+  pub err : IfErr r (λ e. DecodesToExactly t (length old) (Err e))
   pub after_error : IfErr r (λ e. LeavesOutput t old new e)
   pub unchanged : checks_first ≡ true → OnErr r (new ≡ old)
 
 -- `decode_to_front`: the result for the text t and an output that may be larger, the number of bytes,
 -- and what the output holds
 pub record DecodesToFront (t old new : List ℕ) (r : Result ℕ FromHexError) : Type 0 where
-  pub ok : IfOk r (λ n. ReadsWithin t (length old) (Ok (take n new)))
+  pub ok : IfOk r (λ n. DecodesWithin t (length old) (Ok (take n new)))
   pub count : IfOk r (λ n. length (body_of t) ≡ 2 * n)
   pub rest : IfOk r (λ n. drop n new ≡ drop n old)
-  pub err : IfErr r (λ e. ReadsWithin t (length old) (Err e))
+  pub err : IfErr r (λ e. DecodesWithin t (length old) (Err e))
   pub after_error : IfErr r (λ e. LeavesOutput t old new e)
 
 -- `decode_to_array`: the result for the text t and n bytes
 pub record DecodesToArray (n : ℕ) (t : List ℕ) (r : Result (List ℕ) FromHexError) : Type 0 where
-  pub outcome : ReadsSized t n r
+  pub outcome : DecodesToExactly t n r
   -- for a constant text this is computed, which proves that an `unwrap` succeeds
   pub accepts : IsOk r ↔ IsTrue (is_text_of n t)
   -- what was encoded of n bytes is decoded to the same bytes
   pub round_trip : (prefix up : Bool) (bs : List ℕ) → AreBytes bs → length bs ≡ n → t ≡ full_text prefix up bs
       → r ≡ Ok bs
   -- another text decodes to the same bytes if and only if the two bodies differ only in case
-  pub agree : (u bs : List ℕ) → ReadsSized u n (Ok bs)
+  pub agree : (u bs : List ℕ) → DecodesToExactly u n (Ok bs)
       → IfOk r (λ v. (bs ≡ v) ↔ (lowered (body_of u) ≡ lowered (body_of t)))
-  -- this is the only result that meets `ReadsSized`
-  pub unique : (s : Result (List ℕ) FromHexError) → ReadsSized t n s → s ≡ r
+  -- this is the only result that meets `DecodesToExactly`
+  pub unique : (s : Result (List ℕ) FromHexError) → DecodesToExactly t n s → s ≡ r
 
 -- `check`: the result for the text t
 pub record ChecksText (t : List ℕ) (r : Result Unit FromHexError) : Type 0 where
   pub outcome : Checks t r
-  pub accepts : IsOk r ↔ ((bs : List ℕ) × Reads t (Ok bs))
+  pub accepts : IsOk r ↔ ((bs : List ℕ) × DecodesTo t (Ok bs))
   -- this is the only result that meets `Checks`
   pub unique : (s : Result Unit FromHexError) → Checks t s → s ≡ r

@@ -1,4 +1,7 @@
 -- What formatters, sinks and writers hold after a write.
+--
+-- `s` and `t` are the states of a sink before and after a piece. `took` says what a write of text does to a
+-- formatter's destination, and `contents` is what a writer holds, or None if a contract cannot know it.
 use Rattle.std.specs.Prelude.{◌≡◌, ◌≢◌, ℕ, Bool, false, List, true, [], take, Option, is_some, IfSome}
 use Rattle.std.specs.Borrow.{GName}
 use Rattle.std.specs.Fmt.{IsFlush, HasWrittenStyled}
@@ -62,18 +65,18 @@ abbrev pub first_error : {W : Type 0} → WriteSink W → Option Error
 first_error s = s.error
 
 -- the writer of a sink has failed
-abbrev pub has_failed : {W : Type 0} → WriteSink W → Bool
-has_failed s = is_some s.error
+abbrev pub writer_failed : {W : Type 0} → WriteSink W → Bool
+writer_failed s = is_some s.error
 
 -- the same writer has written the text if it has not failed, or a beginning of the text if it has failed, with
 -- an error other than that of an interrupted call; an empty text changes nothing
 pub record WriteStep {W : Type 0} (contents : W → Option (List ℕ)) (s : WriteSink W) (text : List ℕ)
     (t : WriteSink W) : Type 0 where
   pub same_writer : writer_name t ≡ writer_name s
-  pub accepted : has_failed t ≡ false → Appends (contents (sink_writer s)) (contents (sink_writer t)) text
-  pub refused : has_failed t ≡ true → WritesBeginning (contents (sink_writer s)) (contents (sink_writer t)) text
-  pub retried : has_failed s ≡ false → IfSome (first_error t) (λ e. error_kind e ≢ Interrupted)
-  pub nothing : text ≡ [] → t ≡ s
+  pub accepted : writer_failed t ≡ false → Appends (contents (sink_writer s)) (contents (sink_writer t)) text
+  pub failed : writer_failed t ≡ true → WritesBeginning (contents (sink_writer s)) (contents (sink_writer t)) text
+  pub retried : writer_failed s ≡ false → IfSome (first_error t) (λ e. error_kind e ≢ Interrupted)
+  pub unchanged_if_empty : text ≡ [] → t ≡ s
 
 -- ---- text that is written to a sink
 

@@ -1,5 +1,8 @@
 //! A buffer that holds the text of a fixed number of bytes.
 
+// Terms of the contracts:
+// - `full_text prefix upper bs`: the text of bs, after `0x` if `prefix` is true
+// - `Rests R s P`: P holds of what s borrows once the result's borrow of it ends
 ghost use Rattle.std.specs.Prelude.{◌≡◌, length, true, false, IfOk, string_bytes};
 ghost use Rattle.std.specs.Borrow.{sem};
 ghost use Rattle.std.specs.Io.BufRead.{Rests};

@@ -1,7 +1,10 @@
 //! Encoding and decoding to owned strings and vectors.
 
+// Terms of the contracts:
+// - `DecodesTo t r`: the text t decodes to the result r
+// - `full_text prefix upper bs`: the text of bs, after `0x` if `prefix` is true
 ghost use Rattle.std.specs.Prelude.{◌≡◌, ◌≢◌, ◌↔◌, true, false, length, IfOk, IfErr, string_bytes, Ok, Err};
-ghost use Rattle.const_hex.specs.Prelude.{full_text, Decodes, Encodes, IsOdd, Reads, OddLength, NoMemory};
+ghost use Rattle.const_hex.specs.Prelude.{full_text, Decodes, Encodes, IsOdd, DecodesTo, OddLength, NoMemory};
 
 use crate::codec::body::{find_invalid_character, strip_even};
 use crate::error::FromHexError;
@@ -140,8 +143,8 @@ pub fn decode_with<K: Kernel>(alloc: Global, input: &[u8]) -> Result<Vec<u8>, Fr
 // `decode_with` derives three more from them.
 #[inline(always)]
 fn decode_owned<K: Kernel>(alloc: Global, input: &[u8]) -> Result<Vec<u8>, FromHexError>
-    ensures ok { IfOk result (λ v. Reads input.now (Ok v.items)) }
-    ensures err { IfErr result (λ e. e ≢ NoMemory → Reads input.now (Err e)) }
+    ensures ok { IfOk result (λ v. DecodesTo input.now (Ok v.items)) }
+    ensures err { IfErr result (λ e. e ≢ NoMemory → DecodesTo input.now (Err e)) }
     ensures odd { (result ≡ Err OddLength) ↔ IsOdd (length input.now) }
 {
     let digits = strip_even(input)?;

@@ -3,11 +3,13 @@
 //! [`serialize`] writes `0x` before the digits, as the byte strings of JSON-RPC have it, and
 //! [`no_prefix`] writes the digits alone. [`deserialize`] reads both.
 
+// Terms of the contracts:
+// - `full_text prefix upper bs`: the text of bs, after `0x` if `prefix` is true
 ghost use Rattle.std.specs.Prelude.{◌≡◌, true, false, IfOk};
 ghost use Rattle.serde_json.specs.Data.{string};
 ghost use Rattle.serde_json.specs.Find.{as_str};
 ghost use Rattle.serde_json.specs.View.{view};
-ghost use Rattle.const_hex.specs.Prelude.{full_text, ReadsInside};
+ghost use Rattle.const_hex.specs.Prelude.{full_text, DecodesJson};
 
 mod error;
 mod inner;
@@ -59,7 +61,7 @@ pub fn serialize_upper(alloc: Global, bytes: &[u8]) -> Result<Value, AllocError>
 /// assert_eq!(rt; const_hex::deserialize::<[u8; 4]>(rt.alloc(), &value), Ok(*b"kiwi"));
 /// ```
 pub fn deserialize<T: FromHex>(alloc: Global, value: &Value) -> Result<T, JsonError<T::Error>>
-    ensures { ReadsInside T.answers (as_str (view value.now)) result }
+    ensures { DecodesJson T.results (as_str (view value.now)) result }
 {
     match value.as_str() {
         None => Err(JsonError::NotText),

@@ -1,9 +1,14 @@
 //! A sink over any writer of std: a file, a socket, a vector of bytes.
 
+// Terms of the contracts:
+// - `full_text prefix upper bs`: the text of bs, after `0x` if `prefix` is true
+// - `Appends before after bs`: bs was appended to what a writer holds
+// - `WritesBeginning before after bs`: a beginning of bs was appended
+// - `WriteStep contents old text new`: a sink has written the text to its writer, or has failed
 ghost use Rattle.std.specs.Prelude.{◌≡◌, ◌≢◌, true, false, not, is_ok, None, IsOk, Err, OnOk, OnErr, IfErr, MatchOption, option_copied};
 ghost use Rattle.std.specs.Io.KnownBytes.{Appends};
 ghost use Rattle.std.specs.IoError.{error_kind};
-ghost use Rattle.const_hex.specs.Prelude.{full_text, WriteStep, WritesBeginning, sink_writer, writer_name, first_error, has_failed};
+ghost use Rattle.const_hex.specs.Prelude.{full_text, WriteStep, WritesBeginning, sink_writer, writer_name, first_error, writer_failed};
 
 use const_hex_arch::{BufferedHex, Sink, SinkError};
 use std::io::{self, ErrorKind, Write};
@@ -33,7 +38,7 @@ impl<'a, W: Write> WriteSink<'a, W> {
     ///
     /// ```rust
     /// let mut file = Vec::new(rt.alloc());
-    /// assert!(rt; !WriteSink::new(&mut file).refused());
+    /// assert!(rt; !WriteSink::new(&mut file).has_failed());
     /// ```
     #[inline]
     pub fn new(writer: &'a mut W) -> WriteSink<'a, W>
@@ -61,12 +66,12 @@ impl<'a, W: Write> WriteSink<'a, W> {
         &mut self,
         bytes: &[u8],
     ) -> Result<(), SinkError>
-        ensures text { has_failed self.old ≡ false
+        ensures text { writer_failed self.old ≡ false
             → WriteStep W.contents self.old (full_text PREFIX UPPER bytes.now) self.new }
-        ensures after_error { has_failed self.old ≡ true → self.new ≡ self.old }
-        ensures flag { is_ok result ≡ not (has_failed self.new) }
+        ensures after_error { writer_failed self.old ≡ true → self.new ≡ self.old }
+        ensures flag { is_ok result ≡ not (writer_failed self.new) }
     {
-        if self.refused() {
+        if self.has_failed() {
             return Err(SinkError);
         }
         BufferedHex::<UPPER, PREFIX>::new(bytes).write_to(self)
@@ -128,12 +133,12 @@ impl<'a, W: Write> WriteSink<'a, W> {
 impl<W: Write> Sink for WriteSink<'_, W> {
     ghost step = { WriteStep W.contents };
 
-    ghost is_refused = { has_failed };
+    ghost has_failed = { writer_failed };
 
     ghost reported = { λ _. None };
 
     #[inline]
-    fn refused(&self) -> bool {
+    fn has_failed(&self) -> bool {
         self.error.is_some()
     }
 

@@ -1,4 +1,9 @@
--- Vectors of bytes: the values of digits in their lanes, and the operations that check and decode them.
+-- Vectors of bytes: the values of digits in their lanes, and the operations that check and decode them, which
+-- docs/DESIGN.md explains under "Checking and decoding one vector". A lane is one byte of a vector, a nibble is four
+-- bits, and the error bits of a lane are those of the mask 0xD8.
+--
+-- `b` is a byte, `n` is a value, `v` has the lanes of a vector, and `ns` are nibbles, of which `h` is a high and `l`
+-- a low one.
 use Rattle.std.specs.Prelude.{◌≡◌, ℕ, ◌+◌, ◌*◌, ◌/◌, ◌%◌, ◌≤◌, List, [], ◌∷◌, ◌-◌, ◌↔◌, nat_le, nat_lt, if◌then◌else◌, Option, Some, None}
 use Rattle.std.specs.Int.{bit_at}
 use Rattle.std.specs.List.{AllByRecursion}
@@ -10,7 +15,7 @@ use Rattle.const_hex_arch.specs.Texts.{hex_value, IsDigit}
 abbrev pub AllNibbles : List ℕ → Type 0
 AllNibbles = AllByRecursion (λ n. n ≤ 15)
 
--- a lane has no error bit: four of its bits are clear
+-- a lane has no error bit: the bits 7, 6, 4 and 3, which the mask 0xD8 has, are clear
 abbrev pub IsClear : ℕ → Type 0
 IsClear z = bit_at z 7 + bit_at z 6 + bit_at z 4 + bit_at z 3 ≡ 0
 

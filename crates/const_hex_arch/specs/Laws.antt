@@ -1,4 +1,9 @@
--- Lemmas for the laws of impls.
+-- Lemmas that impls of `Output` and `Sink` cite for their laws. A law is a statement that a trait demands of each
+-- impl.
+--
+-- `step s piece t` says that a write of the piece takes an output from the state s to t, and `space s` is how many
+-- more bytes it accepts, or None if there is no limit. `ps` are pieces, and `j` is a state in between. In a proof,
+-- the letters that its statement does not name are the hypotheses, in order.
 use Rattle.std.specs.List.{FoldsTo, concat}
 use Rattle.std.proofs.Common.{sym, ap, ◌∙◌, arith, length-append, ◌≡◌, ℕ, ◌+◌, if◌then◌else◌, List, [], ◌∷◌, ◌++◌, length, Option, Some, append-nil}
 use Rattle.const_hex_arch.specs.Outputs.{remaining_space, Buffers}
@@ -34,5 +39,5 @@ module _ {S : Type 0} (step : S → List ℕ → S → Type 0) (space : S → Op
 
 -- the sink reports each accepted piece
 pub PieceStep-reports : (s : PieceState) (piece : List ℕ) (t : PieceState) → PieceStep s piece t
-    → Some t.pieces ≡ Some (s.pieces ++ (if t.refused then [] else piece ∷ []))
+    → Some t.pieces ≡ Some (s.pieces ++ (if t.failed then [] else piece ∷ []))
 PieceStep-reports s piece t h = grind (arith, append-nil, h)

@@ -1,4 +1,8 @@
--- What an output takes: pieces of text, the space that they leave, and a write to each kind of output.
+-- What an output takes: pieces of text, the space that they leave, and a write to each kind of output. An output
+-- receives text, and cannot fail.
+--
+-- `step old piece new` says that a write of the piece takes an output from the state `old` to `new`. `space` is how
+-- many more bytes the output accepts, or None if there is no limit.
 use Rattle.std.specs.Prelude.{◌≡◌, ℕ, ◌-◌, ◌≤◌, List, length, Option, Some, None, unwrap_or, ◌+◌, ◌++◌, take, drop, ◌<◌, [], ◌∷◌, ◌⊎◌}
 use Rattle.std.specs.List.{FoldsTo, concat, All}
 use Rattle.std.specs.Borrow.{GName}

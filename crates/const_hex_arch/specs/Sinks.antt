@@ -1,4 +1,8 @@
--- What a sink takes: the accepted pieces, and a text that is written in large pieces.
+-- What a sink takes: the accepted pieces, and a text that is written in large pieces. A sink receives text, and may
+-- fail at each call.
+--
+-- `step s piece t` says that a call with the piece takes a sink from the state s to t, and `has_failed s` that a call
+-- has failed. A sink reports the pieces that it accepted if its contract has them; else what it reports is None.
 use Rattle.std.specs.Prelude.{◌≡◌, ℕ, Bool, true, false, List, ◌++◌, Option, Some, None, ◌+◌, [], ◌∷◌, length, if◌then◌else◌, ◌-◌, ◌/◌, ◌≤◌, not, take}
 use Rattle.std.specs.Borrow.{GName}
 use Rattle.const_hex_arch.specs.declared.sink.output.SinkOutput.{SinkOutput}
@@ -21,11 +25,11 @@ abbrev pub sink_name : {S : Type 0} → SinkOutput S → GName
 sink_name o = o.sink.ghost_name
 
 -- a step of the same sink if it has not failed, and nothing if it has
-pub record SinkStep {S : Type 0} (step : S → List ℕ → S → Type 0) (is_refused : S → Bool) (s : SinkOutput S)
+pub record SinkStep {S : Type 0} (step : S → List ℕ → S → Type 0) (has_failed : S → Bool) (s : SinkOutput S)
     (piece : List ℕ) (t : SinkOutput S) : Type 0 where
   pub same_sink : sink_name t ≡ sink_name s
-  pub accepting : is_refused (output_sink s) ≡ false → step (output_sink s) piece (output_sink t)
-  pub after_refusal : is_refused (output_sink s) ≡ true → output_sink t ≡ output_sink s
+  pub accepting : has_failed (output_sink s) ≡ false → step (output_sink s) piece (output_sink t)
+  pub after_failure : has_failed (output_sink s) ≡ true → output_sink t ≡ output_sink s
 
 -- ---- a sink that stores its pieces
 
@@ -33,19 +37,19 @@ pub record SinkStep {S : Type 0} (step : S → List ℕ → S → Type 0) (is_re
 pub record PieceState : Type 0 where
   pub pieces : List (List ℕ)
   pub fail_at : ℕ
-  pub refused : Bool
+  pub failed : Bool
 
 -- how many calls there were: one for each accepted piece, and the one that failed
 abbrev pub count_of_calls : PieceState → ℕ
-count_of_calls s = length s.pieces + (if s.refused then 1 else 0)
+count_of_calls s = length s.pieces + (if s.failed then 1 else 0)
 
--- one call: the piece is accepted and becomes the last one, or the call fails and the pieces are unchanged;
--- the call with the given number fails
+-- one call: the piece is accepted and becomes the last one, or the call fails and the pieces are unchanged; the call
+-- with the number `fail_at` fails
 pub record PieceStep (s : PieceState) (piece : List ℕ) (t : PieceState) : Type 0 where
-  pub same_number : t.fail_at ≡ s.fail_at
-  pub accepted : t.refused ≡ false → t.pieces ≡ s.pieces ++ piece ∷ []
-  pub kept : t.refused ≡ true → t.pieces ≡ s.pieces
-  pub due : length s.pieces + 1 ≡ s.fail_at → t.refused ≡ true
+  pub same_fail_at : t.fail_at ≡ s.fail_at
+  pub accepted : t.failed ≡ false → t.pieces ≡ s.pieces ++ piece ∷ []
+  pub unchanged : t.failed ≡ true → t.pieces ≡ s.pieces
+  pub injected_failure : length s.pieces + 1 ≡ s.fail_at → t.failed ≡ true
 
 -- ---- a text that is passed to a sink in large pieces
 
@@ -73,21 +77,21 @@ pub record Cut (text : List ℕ) (pieces : List (List ℕ)) : Type 0 where
 
 -- a sink takes a step for each piece, in order, and has not failed before any of them
 abbrev pub Offers : {S : Type 0} → (S → List ℕ → S → Type 0) → (S → Bool) → S → List (List ℕ) → S → Type 0
-Offers step is_refused s [] t = s ≡ t
-Offers {S} step is_refused s (p ∷ ps) t =
-    (is_refused s ≡ false) × ((m : S) × step s p m × Offers step is_refused m ps t)
+Offers step has_failed s [] t = s ≡ t
+Offers {S} step has_failed s (p ∷ ps) t =
+    (has_failed s ≡ false) × ((m : S) × step s p m × Offers step has_failed m ps t)
 
 -- the text, cut in some way, is passed to a sink piece by piece, up to the first error or to the end;
 -- without an error, that is all of the text; there are no more calls than pieces of 4033 bytes would
 -- need
-pub record Streams {S : Type 0} (step : S → List ℕ → S → Type 0) (is_refused : S → Bool) (old : S) (text : List ℕ)
+pub record Streams {S : Type 0} (step : S → List ℕ → S → Type 0) (has_failed : S → Bool) (old : S) (text : List ℕ)
     (new : S) : Type 0 where
   pub pieces : List (List ℕ)
   pub offered : ℕ
   pub cut : Cut text pieces
   pub within : offered ≤ length pieces
-  pub run : Offers step is_refused old (take offered pieces) new
-  pub complete : is_refused new ≡ false → offered ≡ length pieces
+  pub run : Offers step has_failed old (take offered pieces) new
+  pub complete : has_failed new ≡ false → offered ≡ length pieces
   pub calls : offered ≤ (length text + 4032) / 4033
 
 -- the pieces that the sink reports after are those before, and then the pieces of the text
@@ -97,9 +101,9 @@ pub record ReportsCut (old : Option (List (List ℕ))) (text : List ℕ) (new : 
   pub reported : new ≡ reported_after old pieces
 
 -- what happens to a sink that is passed a text, and the result
-pub record StreamsWhole {S : Type 0} (step : S → List ℕ → S → Type 0) (is_refused : S → Bool)
+pub record StreamsWhole {S : Type 0} (step : S → List ℕ → S → Type 0) (has_failed : S → Bool)
     (reports : S → Option (List (List ℕ))) (old : S) (text : List ℕ)
     (ok : Bool) (new : S) : Type 0 where
-  pub streams : Streams step is_refused old text new
-  pub flag : ok ≡ not (is_refused new)
-  pub reported : is_refused new ≡ false → ReportsCut (reports old) text (reports new)
+  pub streams : Streams step has_failed old text new
+  pub flag : ok ≡ not (has_failed new)
+  pub reported : has_failed new ≡ false → ReportsCut (reports old) text (reports new)

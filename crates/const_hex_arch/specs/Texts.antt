@@ -1,4 +1,7 @@
 -- Digits, the text of bytes, and the bytes that a text decodes to.
+--
+-- Bytes are numbers, and a text is a list of bytes. `u` is a text of digits, `b` and `bs` are bytes, `c` and `d` are
+-- characters, and `up` asks for uppercase.
 use Rattle.std.specs.Prelude.{ℕ, ◌+◌, ◌-◌, nat_lt, nat_le, ◌&&◌, Bool, if◌then◌else◌, Option, Some, None, unwrap_or, IsSome, ◌≡◌, ◌*◌, ◌/◌, ◌%◌, ◌<◌, ◌≤◌, List, [], ◌∷◌, ◌++◌, length, take, drop, slice_index, IsNone, All}
 
 -- ---- hexadecimal digits and their values

@@ -34,7 +34,7 @@ impl Error for SinkError {}
 ///
 /// ```rust
 /// fn offer<S: Sink>(sink: &mut S, piece: &str) {
-///     if !sink.refused() {
+///     if !sink.has_failed() {
 ///         let _ = sink.write_str(piece);
 ///     }
 /// }
@@ -44,7 +44,7 @@ pub trait Sink {
     ghost step: { Self → List ℕ → Self → Type 0 };
 
     /// Whether it has rejected a piece.
-    ghost is_refused: { Self → Bool };
+    ghost has_failed: { Self → Bool };
 
     /// The pieces that it accepted, in order, if its contract reports them.
     ghost reported: { Self → Option (List (List ℕ)) };
@@ -52,10 +52,10 @@ pub trait Sink {
     /// Whether it has rejected a piece.
     ///
     /// ```rust
-    /// assert!(rt; !PieceSink::new(rt.alloc(), 1).refused());
+    /// assert!(rt; !PieceSink::new(rt.alloc(), 1).has_failed());
     /// ```
-    fn refused(&self) -> bool
-        ensures { result ≡ is_refused self.now };
+    fn has_failed(&self) -> bool
+        ensures { result ≡ has_failed self.now };
 
     /// Writes a piece. Returns `Ok` if the sink accepts it, and an error if it rejects it. The sink
     /// must not have rejected a piece before.
@@ -64,21 +64,21 @@ pub trait Sink {
     /// assert!(rt; PieceSink::new(rt.alloc(), 0).write_str("one").is_ok());
     /// ```
     fn write_str(&mut self, s: &str) -> Result<(), SinkError>
-        requires { is_refused self.old ≡ false }
+        requires { has_failed self.old ≡ false }
         ensures step { step self.old s.now self.new }
-        ensures flag { is_ok result ≡ not (is_refused self.new) };
+        ensures flag { is_ok result ≡ not (has_failed self.new) };
 
     /// An accepted piece is the last of `reported`. A rejected piece adds nothing to it.
     ghost reports: { (s : Self) (piece : List ℕ) (t : Self) → step s piece t
-        → reported t ≡ reported_after (reported s) (if is_refused t then [] else piece ∷ []) };
+        → reported t ≡ reported_after (reported s) (if has_failed t then [] else piece ∷ []) };
 }
 
 /// Returns an error if the sink has rejected a piece.
 #[inline]
-pub(crate) fn fail_if_refused<S: Sink>(sink: &S) -> Result<(), SinkError>
-    ensures { is_ok result ≡ not (S.is_refused sink.now) }
+pub(crate) fn error_if_failed<S: Sink>(sink: &S) -> Result<(), SinkError>
+    ensures { is_ok result ≡ not (S.has_failed sink.now) }
 {
-    if sink.refused() {
+    if sink.has_failed() {
         Err(SinkError)
     } else {
         Ok(())

@@ -6,7 +6,7 @@ ghost use Rattle.const_hex_arch.specs.{full_text, text_length, StreamsWhole, hex
 use crate::arch::{FixedKernel, Kernel};
 use crate::output::buffered::BufferedOutput;
 use crate::sink::output::SinkOutput;
-use crate::sink::{Sink, SinkError, fail_if_refused};
+use crate::sink::{Sink, SinkError, error_if_failed};
 use crate::text::{ascii_text, encode_full, fill_text, text_length};
 
 /// How many bytes are buffered for one call of a sink. A text of at most this length is written in
@@ -60,8 +60,8 @@ impl<'a, const UPPER: bool, const PREFIX: bool> BufferedHex<'a, UPPER, PREFIX> {
     /// assert_eq!(rt; hex.write_to(&mut sink), Err(SinkError));
     /// ```
     pub fn write_to<S: Sink>(&self, sink: &mut S) -> Result<(), SinkError>
-        requires { S.is_refused sink.old ≡ false }
-        ensures { StreamsWhole S.step S.is_refused S.reported sink.old
+        requires { S.has_failed sink.old ≡ false }
+        ensures { StreamsWhole S.step S.has_failed S.reported sink.old
             (full_text PREFIX UPPER (hex_bytes self.now)) (is_ok result) sink.new }
     {
         self.write_with::<FixedKernel, S>(sink)
@@ -76,8 +76,8 @@ impl<'a, const UPPER: bool, const PREFIX: bool> BufferedHex<'a, UPPER, PREFIX> {
     /// assert_eq!(rt; sink.pieces()[0].as_str(), "6b697769");
     /// ```
     pub fn write_with<K: Kernel, S: Sink>(&self, sink: &mut S) -> Result<(), SinkError>
-        requires { S.is_refused sink.old ≡ false }
-        ensures { StreamsWhole S.step S.is_refused S.reported sink.old
+        requires { S.has_failed sink.old ≡ false }
+        ensures { StreamsWhole S.step S.has_failed S.reported sink.old
             (full_text PREFIX UPPER (hex_bytes self.now)) (is_ok result) sink.new }
     {
         let size = text_length(PREFIX, self.bytes.len());
@@ -95,10 +95,10 @@ impl<'a, const UPPER: bool, const PREFIX: bool> BufferedHex<'a, UPPER, PREFIX> {
     /// As `write_with`, for a text of at most `N` bytes: one call, or none if the text is empty.
     #[tactic(auto, using(std::proofs::lemmas::Grind::common_steps, std::proofs::lemmas::List::nil_from_length, crate::proofs::lemmas::Streams::wholes))]
     fn write_whole<K: Kernel, S: Sink, const N: usize>(&self, sink: &mut S) -> Result<(), SinkError>
-        requires accepting { S.is_refused sink.old ≡ false }
+        requires accepting { S.has_failed sink.old ≡ false }
         requires size { N ≤ 4096 }
         requires short { text_length PREFIX (length (hex_bytes self.now)) ≤ N }
-        ensures { StreamsWhole S.step S.is_refused S.reported sink.old
+        ensures { StreamsWhole S.step S.has_failed S.reported sink.old
             (full_text PREFIX UPPER (hex_bytes self.now)) (is_ok result) sink.new }
     {
         let mut buffer = [0; N];
@@ -114,8 +114,8 @@ impl<'a, const UPPER: bool, const PREFIX: bool> BufferedHex<'a, UPPER, PREFIX> {
     // Not inlined: the machine code for long texts is faster on its own.
     #[inline(never)]
     fn write_buffered<K: Kernel, S: Sink>(&self, sink: &mut S) -> Result<(), SinkError>
-        requires { S.is_refused sink.old ≡ false }
-        ensures { StreamsWhole S.step S.is_refused S.reported sink.old
+        requires { S.has_failed sink.old ≡ false }
+        ensures { StreamsWhole S.step S.has_failed S.reported sink.old
             (full_text PREFIX UPPER (hex_bytes self.now)) (is_ok result) sink.new }
     {
         let mut output = BufferedOutput::<SinkOutput<'_, S>, BUFFER_SIZE>::new(SinkOutput::new(
@@ -134,6 +134,6 @@ impl<'a, const UPPER: bool, const PREFIX: bool> BufferedHex<'a, UPPER, PREFIX> {
         // This has no effect at run time. The proof reads the state of the sink here, through the
         // reference that came back.
         let _ = &*back;
-        fail_if_refused(sink)
+        error_if_failed(sink)
     }
 }

@@ -6,12 +6,15 @@ use Rattle.const_hex.specs.Texts.{text_length}
 abbrev pub AreFlags : ℕ → Type 0
 AreFlags flags = flags < 8
 
+-- whether digits are in uppercase
 abbrev pub is_upper : ℕ → Bool
 is_upper flags = flags % 2 == 1
 
+-- whether `0x` is written before the digits
 abbrev pub has_prefix : ℕ → Bool
 has_prefix flags = flags / 2 % 2 == 1
 
+-- whether a NUL is written after the text
 abbrev pub has_nul : ℕ → Bool
 has_nul flags = flags / 4 % 2 == 0
 
@@ -24,10 +27,10 @@ abbrev pub after_text : ℕ → ℕ → List ℕ → List ℕ
 after_text flags m old = if has_nul flags then 0 ∷ drop (m + 1) old else drop m old
 
 -- the buffer with a NUL at its start, if it has space for one
-abbrev ended : List ℕ → List ℕ
-ended [] = []
-ended (b ∷ bs) = 0 ∷ bs
+abbrev nul_first : List ℕ → List ℕ
+nul_first [] = []
+nul_first (b ∷ bs) = 0 ∷ bs
 
 -- the buffer as the empty string, unless no NUL is written
-abbrev pub emptied : ℕ → List ℕ → List ℕ
-emptied flags bs = if has_nul flags then ended bs else bs
+abbrev pub cleared : ℕ → List ℕ → List ℕ
+cleared flags bs = if has_nul flags then nul_first bs else bs

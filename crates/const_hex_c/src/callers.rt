@@ -1,7 +1,9 @@
 //! What a program in C can rely on. No export calls this.
 
+// Terms of the contracts:
+// - `DecodesTo t r`: the text t decodes to the result r
 ghost use Rattle.std.specs.Prelude.{◌≡◌, ◌<◌, ◌∷◌, ◌++◌, [], IfSome, Err, codes, drop, false, take, true};
-ghost use Rattle.const_hex.specs.Results.{Reads};
+ghost use Rattle.const_hex.specs.Results.{DecodesTo};
 ghost use Rattle.const_hex.specs.declared.error.FromHexError.TheVariants.{InvalidHexCharacter};
 
 use crate::error::{HexError, INVALID_CHARACTER};
@@ -53,7 +55,7 @@ fn encode_with_unknown_flag(text: &mut [u8; 9]) -> bool
 
 /// The first invalid character of a text and its position, as an error names them.
 fn invalid_character(text: &[u8]) -> Option<(u32, usize)>
-    ensures { IfSome result (λ found. Reads text.now (Err (InvalidHexCharacter found.0 found.1))) }
+    ensures { IfSome result (λ found. DecodesTo text.now (Err (InvalidHexCharacter found.0 found.1))) }
 {
     let mut error = HexError {
         kind: 0,

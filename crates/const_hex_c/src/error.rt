@@ -1,5 +1,7 @@
 //! Why a text was rejected, as C has it.
 
+// Terms of the contracts:
+// - `struct_of e`: the struct of an error
 ghost use Rattle.std.specs.Prelude.{◌≡◌, ◌==◌, ◌&&◌, nat_lt, if◌then◌else◌, []};
 ghost use Rattle.const_hex.specs.Messages.{message_text};
 ghost use Rattle.const_hex.specs.declared.error.FromHexError.TheVariants.{InvalidHexCharacter};

@@ -1,8 +1,10 @@
 //! How a text is written: the flags that C passes.
 
+// Terms of the contracts:
+// - `after_text flags m old`: what follows a text of m bytes in a buffer that held `old`
 ghost use Rattle.std.specs.Prelude.{◌≡◌, ◌↔◌, ◌<◌, ◌≤◌, ◌+◌, if◌then◌else◌, false, IsTrue, IsSome, IfSome, length, drop};
 ghost use Rattle.const_hex.specs.Texts.{text_length};
-ghost use Rattle.const_hex_c.specs.Flags.{AreFlags, is_upper, has_prefix, has_nul, size_of, after_text, emptied};
+ghost use Rattle.const_hex_c.specs.Flags.{AreFlags, is_upper, has_prefix, has_nul, size_of, after_text, cleared};
 
 /// Whether the flags are known ones: 1 asks for uppercase digits, 2 for a prefix, and 4 for no NUL.
 #[inline(always)]
@@ -64,7 +66,7 @@ pub(crate) fn size_of_extras(flags: u32) -> usize
 pub(crate) fn terminate(text: &mut [u8], end: usize, flags: u32) -> bool
     ensures fits { IsTrue result
         ↔ AreFlags flags × (end + (if has_nul flags then 1 else 0) ≤ length text.old) }
-    ensures ended { IsTrue result → drop end text.new ≡ after_text flags end text.old }
+    ensures terminated { IsTrue result → drop end text.new ≡ after_text flags end text.old }
     ensures unchanged { result ≡ false → text.new ≡ text.old }
 {
     match flags {
@@ -81,7 +83,7 @@ pub(crate) fn terminate(text: &mut [u8], end: usize, flags: u32) -> bool
 /// it needs, would cost the caller two instructions where the text fits.
 #[inline(always)]
 pub(crate) fn clear(text: &mut [u8], flags: u32)
-    ensures { text.new ≡ emptied flags text.old }
+    ensures { text.new ≡ cleared flags text.old }
 {
     if has_nul(flags) {
         if let Some(first) = text.first_mut() {

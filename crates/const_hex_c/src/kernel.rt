@@ -6,6 +6,11 @@
 //! fit, which their callers make sure of, and which registers hold their arguments is left to the compiler:
 //! `machine_code` proves their code with the arguments where `rust/src/kernel/machine_code.rs` passes them.
 
+// Terms of the contracts:
+// - `Spells u bs`: the digits u decode to the bytes bs
+// - `Partial old u new`: what an output holds after the digits u were rejected: some bytes before the invalid
+//   character, and else what it held
+// - `hex_text upper bs`: two digits for each of the bytes bs
 ghost use Rattle.std.specs.Prelude.{◌≡◌, ◌*◌, ◌↔◌, IsTrue, true, false, length};
 ghost use Rattle.const_hex.specs.Texts.{hex_text, AllDigits, Spells, Partial};
 
@@ -91,7 +96,7 @@ fn rewrite<K: Kernel>(text: &mut [u8], upper: bool, bytes: &mut [u8]) -> bool
     ensures accepted { IsTrue result ↔ (length text.old ≡ 2 * length bytes.old) × AllDigits text.old }
     ensures spells { IsTrue result → Spells text.old bytes.new }
     ensures text { IsTrue result → text.new ≡ hex_text upper bytes.new }
-    ensures kept { result ≡ false → (text.new ≡ text.old) × (bytes.new ≡ bytes.old) }
+    ensures unchanged { result ≡ false → (text.new ≡ text.old) × (bytes.new ≡ bytes.old) }
 {
     if text.len() % 2 != 0
         || bytes.len() != text.len() / 2
@@ -119,7 +124,7 @@ pub extern "C" fn const_hex_rewrite_interleaved(
     ensures accepted { IsTrue result ↔ (length text.old ≡ 2 * length bytes.old) × AllDigits text.old }
     ensures spells { IsTrue result → Spells text.old bytes.new }
     ensures text { IsTrue result → text.new ≡ hex_text upper bytes.new }
-    ensures kept { result ≡ false → (text.new ≡ text.old) × (bytes.new ≡ bytes.old) }
+    ensures unchanged { result ≡ false → (text.new ≡ text.old) × (bytes.new ≡ bytes.old) }
 {
     rewrite::<Interleaved>(text, upper, bytes)
 }
@@ -130,7 +135,7 @@ pub extern "C" fn const_hex_rewrite_lanes16(text: &mut [u8], upper: bool, bytes:
     ensures accepted { IsTrue result ↔ (length text.old ≡ 2 * length bytes.old) × AllDigits text.old }
     ensures spells { IsTrue result → Spells text.old bytes.new }
     ensures text { IsTrue result → text.new ≡ hex_text upper bytes.new }
-    ensures kept { result ≡ false → (text.new ≡ text.old) × (bytes.new ≡ bytes.old) }
+    ensures unchanged { result ≡ false → (text.new ≡ text.old) × (bytes.new ≡ bytes.old) }
 {
     rewrite::<Lanes16>(text, upper, bytes)
 }

@@ -11,13 +11,27 @@
 //! The contracts use the terms of `const_hex`, and those defined in `specs/`.
 #![tactic(auto)]
 
+// Terms of the contracts:
+// - `DecodesTo t r`: the text t decodes to the result r
+// - `DecodesToExactly t n r`: t, as n bytes, decodes to r
+// - `DecodesWithin t n r`: t, as at most n bytes, decodes to r
+// - `ChunkResult t bs n r`: the last chunk of t has the result r, after the bytes bs, with space for n more
+// - `HasRead d t bs`: the decoder d has read t without an error, and has written bs for it
+// - `body_of t`: t without its prefix
+// - `Partial old u new`: what an output holds after the digits u were rejected: some bytes before the invalid
+//   character, and else what it held
+// - `LeavesOutput t old new e`: what an output holds after the error e for t
+// - `full_text prefix upper bs`: the text of bs, after `0x` if `prefix` is true
+// - `StandsFor s P`: the struct s stands for an error e, of which P holds
+// - `struct_of e`: the struct of an error
+// - `after_text flags m old`: what follows a text of m bytes in a buffer that held `old`
 ghost use Rattle.std.specs.Prelude.{◌≡◌, ◌↔◌, ◌*◌, ◌+◌, ◌-◌, ◌<◌, ◌≤◌, ◌≢◌, ◌++◌, ℕ, List, Some, IfSome, true, false, length, take, drop, min, slice_index, IsTrue, Ok, Err};
 ghost use Rattle.const_hex.specs.Texts.{full_text, text_length, AllDigits, Partial};
-ghost use Rattle.const_hex.specs.Results.{IsOdd, Reads, ReadsSized, ReadsWithin, LeavesOutput, body_of};
-ghost use Rattle.const_hex.specs.Decoding.{HasRead, ReadsOn, error_of};
+ghost use Rattle.const_hex.specs.Results.{IsOdd, DecodesTo, DecodesToExactly, DecodesWithin, LeavesOutput, body_of};
+ghost use Rattle.const_hex.specs.Decoding.{HasRead, ChunkResult, error_of};
 ghost use Rattle.const_hex.specs.declared.error.FromHexError.TheVariants.{OddLength, InvalidStringLength};
 ghost use Rattle.const_hex_c.specs.Errors.{StandsFor, message_of_struct, struct_of};
-ghost use Rattle.const_hex_c.specs.Flags.{AreFlags, is_upper, has_prefix, size_of, after_text, emptied};
+ghost use Rattle.const_hex_c.specs.Flags.{AreFlags, is_upper, has_prefix, size_of, after_text, cleared};
 
 mod callers;
 mod error;
@@ -68,7 +82,7 @@ pub extern "C" fn const_hex_encode(bytes: &[u8], text: &mut [u8], flags: u32) ->
         ↔ AreFlags flags × (size_of flags (length bytes.now) ≤ length text.old) }
     ensures text { IsTrue result → text.new ≡ full_text (has_prefix flags) (is_upper flags) bytes.now
         ++ after_text flags (text_length (has_prefix flags) (length bytes.now)) text.old }
-    ensures emptied { result ≡ false → text.new ≡ emptied flags text.old }
+    ensures cleared { result ≡ false → text.new ≡ cleared flags text.old }
 {
     match length_of(flags, bytes.len()) {
         Some(length) if terminate(text, length, flags) => {
@@ -107,15 +121,15 @@ pub extern "C" fn const_hex_decode_nonnull(
     error: &mut HexError,
 ) -> bool
     ensures ok { IsTrue result
-        → ReadsWithin text.now (length bytes.old) (Ok (take written.new bytes.new)) }
+        → DecodesWithin text.now (length bytes.old) (Ok (take written.new bytes.new)) }
     ensures count { IsTrue result → length (body_of text.now) ≡ 2 * written.new }
     ensures rest { IsTrue result → drop written.new bytes.new ≡ drop written.new bytes.old }
-    ensures kept { IsTrue result → error.new ≡ error.old }
+    ensures error_unchanged { IsTrue result → error.new ≡ error.old }
     ensures err { result ≡ false
-        → StandsFor error.new (λ e. ReadsWithin text.now (length bytes.old) (Err e)) }
+        → StandsFor error.new (λ e. DecodesWithin text.now (length bytes.old) (Err e)) }
     ensures after_error { result ≡ false
         → StandsFor error.new (λ e. LeavesOutput text.now bytes.old bytes.new e) }
-    ensures none { result ≡ false → written.new ≡ 0 }
+    ensures none_written { result ≡ false → written.new ≡ 0 }
 {
     match const_hex::decode_to_front_with::<Linked>(text, bytes) {
         Ok(count) => {
@@ -145,10 +159,10 @@ pub extern "C" fn const_hex_decode_exact_nonnull(
     bytes: &mut [u8],
     error: &mut HexError,
 ) -> bool
-    ensures ok { IsTrue result → ReadsSized text.now (length bytes.old) (Ok bytes.new) }
-    ensures kept { IsTrue result → error.new ≡ error.old }
+    ensures ok { IsTrue result → DecodesToExactly text.now (length bytes.old) (Ok bytes.new) }
+    ensures error_unchanged { IsTrue result → error.new ≡ error.old }
     ensures err { result ≡ false
-        → StandsFor error.new (λ e. ReadsSized text.now (length bytes.old) (Err e)) }
+        → StandsFor error.new (λ e. DecodesToExactly text.now (length bytes.old) (Err e)) }
     ensures after_error { result ≡ false
         → StandsFor error.new (λ e. LeavesOutput text.now bytes.old bytes.new e) }
 {
@@ -197,23 +211,23 @@ pub extern "C" fn const_hex_decoder_update_nonnull(
     ensures ok { IsTrue result → (t bs : List ℕ) → HasRead decoder.old t bs
         → HasRead decoder.new (t ++ text.now) (bs ++ take written.new bytes.new) }
     ensures count { IsTrue result → (t bs : List ℕ) → HasRead decoder.old t bs
-        → ReadsOn (t ++ text.now) bs (length bytes.old) (Ok written.new) }
+        → ChunkResult (t ++ text.now) bs (length bytes.old) (Ok written.new) }
     ensures within { IsTrue result → written.new ≤ length bytes.old }
     ensures rest { IsTrue result → drop written.new bytes.new ≡ drop written.new bytes.old }
-    ensures kept { IsTrue result → error.new ≡ error.old }
+    ensures error_unchanged { IsTrue result → error.new ≡ error.old }
     ensures err { result ≡ false → (t bs : List ℕ) → HasRead decoder.old t bs
-        → StandsFor error.new (λ e. ReadsOn (t ++ text.now) bs (length bytes.old) (Err e)) }
+        → StandsFor error.new (λ e. ChunkResult (t ++ text.now) bs (length bytes.old) (Err e)) }
     ensures unchanged { result ≡ false → error.new ≡ struct_of InvalidStringLength
         → (decoder.new ≡ decoder.old) × (bytes.new ≡ bytes.old) }
     ensures after_error { result ≡ false → (t bs : List ℕ) → HasRead decoder.old t bs
         → StandsFor error.new (λ e. e ≢ InvalidStringLength
         → Partial bytes.old (drop (2 * length bs) (body_of (t ++ text.now))) bytes.new) }
-    ensures ended { result ≡ false → StandsFor error.new (λ e. e ≢ InvalidStringLength
+    ensures remembers_error { result ≡ false → StandsFor error.new (λ e. e ≢ InvalidStringLength
         → error_of decoder.new ≡ Some e) }
-    ensures again { IfSome (error_of decoder.old) (λ e.
+    ensures repeats_error { IfSome (error_of decoder.old) (λ e.
         (result ≡ false) × (error.new ≡ struct_of e)
         × (decoder.new ≡ decoder.old) × (bytes.new ≡ bytes.old)) }
-    ensures none { result ≡ false → written.new ≡ 0 }
+    ensures none_written { result ≡ false → written.new ≡ 0 }
 {
     match decoder.decode_with::<Linked>(text, bytes) {
         Ok(more) => {
@@ -240,11 +254,11 @@ pub extern "C" fn const_hex_decoder_update_nonnull(
 /// ```
 #[unsafe(no_mangle)]
 pub extern "C" fn const_hex_decoder_finish_nonnull(decoder: &Decoder, error: &mut HexError) -> bool
-    ensures ok { (t bs : List ℕ) → HasRead decoder.now t bs → IsTrue result ↔ Reads t (Ok bs) }
+    ensures ok { (t bs : List ℕ) → HasRead decoder.now t bs → IsTrue result ↔ DecodesTo t (Ok bs) }
     ensures odd { (t bs : List ℕ) → HasRead decoder.now t bs → result ≡ false
         → (error.new ≡ struct_of OddLength) × IsOdd (length t) }
-    ensures kept { IsTrue result → error.new ≡ error.old }
-    ensures again { IfSome (error_of decoder.now) (λ e.
+    ensures error_unchanged { IsTrue result → error.new ≡ error.old }
+    ensures repeats_error { IfSome (error_of decoder.now) (λ e.
         (result ≡ false) × (error.new ≡ struct_of e)) }
 {
     match decoder.finish() {
@@ -267,9 +281,9 @@ pub extern "C" fn const_hex_decoder_finish_nonnull(decoder: &Decoder, error: &mu
 /// ```
 #[unsafe(no_mangle)]
 pub extern "C" fn const_hex_check_nonnull(text: &[u8], error: &mut HexError) -> bool
-    ensures accepts { IsTrue result ↔ ((bs : List ℕ) × Reads text.now (Ok bs)) }
-    ensures kept { IsTrue result → error.new ≡ error.old }
-    ensures err { result ≡ false → StandsFor error.new (λ e. Reads text.now (Err e)) }
+    ensures accepts { IsTrue result ↔ ((bs : List ℕ) × DecodesTo text.now (Ok bs)) }
+    ensures error_unchanged { IsTrue result → error.new ≡ error.old }
+    ensures err { result ≡ false → StandsFor error.new (λ e. DecodesTo text.now (Err e)) }
 {
     match const_hex::check_with::<Linked>(text) {
         Ok(()) => true,
@@ -308,7 +322,7 @@ pub extern "C" fn const_hex_check_raw(text: &[u8]) -> bool
 pub extern "C" fn const_hex_error_message(error: &HexError, message: &mut [u8]) -> usize
     ensures count { result ≡ min (length (message_of_struct error.now)) (length message.old - 1) }
     ensures text { take result message.new ≡ take result (message_of_struct error.now) }
-    ensures ended { 0 < length message.old → slice_index message.new result ≡ 0 }
+    ensures nul_terminated { 0 < length message.old → slice_index message.new result ≡ 0 }
     ensures rest { drop (result + 1) message.new ≡ drop (result + 1) message.old }
 {
     match error.kind {

@@ -87,7 +87,7 @@ pub(crate) fn prepend_character(byte: u8, index: usize, space: &mut [u8; MAX_MES
 pub(crate) fn write_ended(text: &[u8], output: &mut [u8]) -> usize
     ensures count { result ≡ min (length text.now) (length output.old - 1) }
     ensures text { take result output.new ≡ take result text.now }
-    ensures ended { 0 < length output.old → slice_index output.new result ≡ 0 }
+    ensures nul_terminated { 0 < length output.old → slice_index output.new result ≡ 0 }
     ensures rest { drop (result + 1) output.new ≡ drop (result + 1) output.old }
 {
     if output.is_empty() {

@@ -19,6 +19,7 @@ pub(crate) fn calls(line: &mut Line<'_>, count: usize) -> AllocResult<()> {
     Ok(())
 }
 
+/// Compares the calls for the text in lowercase and in uppercase, for each kernel.
 fn compare_cases(line: &mut Line<'_>, bytes: &[u8], prefix: bool, lower: &str, upper: &str) {
     if prefix {
         for_each_kernel!(compare_calls[false, true](line, bytes, lower));

@@ -3,7 +3,7 @@
 ghost use Rattle.std.specs.Prelude.{◌≤◌};
 
 use crate::kernels::prefix_length;
-use crate::line::{AllocResult, Line};
+use crate::line::{AllocResult, FILLER, Line};
 use const_hex::{
     Decoder, FromHex, FromHexError, JsonError, Kernel, check, check_raw, check_with, const_check,
     const_check_raw, const_decode_to_array, decode_to_array, decode_to_front_with, decode_to_slice,
@@ -39,7 +39,7 @@ fn decode_with_kernel<K: Kernel>(line: &mut Line<'_>, kernel: KernelCase) -> All
     let (alloc, text) = (line.alloc, line.input);
     expect_check(line, kernel.name, check_with::<K>(text));
     line.expect_bytes(kernel.name, decode_with::<K>(alloc, text), line.result);
-    let mut output = vec![in alloc; 0xEEu8; text.len()]?;
+    let mut output = vec![in alloc; FILLER; text.len()]?;
     let returned = decode_to_front_with::<K>(text, &mut output);
     output.truncate(returned.unwrap_or(text.len()));
     line.expect_output(kernel.name, returned, &output, line.result);
@@ -71,7 +71,7 @@ fn read_array<const N: usize>(line: &mut Line<'_>)
         result,
     );
     line.expect_bytes("from_hex", <[u8; N]>::from_hex(alloc, text), result);
-    let mut output = [0xEE; N];
+    let mut output = [FILLER; N];
     line.expect_output(
         "decode_to_slice",
         decode_to_slice(text, &mut output),
@@ -85,7 +85,7 @@ fn decode_to_slice_with_kernel<K: Kernel>(
     size: usize,
     kernel: KernelCase,
 ) -> AllocResult<()> {
-    let mut output = vec![in line.alloc; 0xEEu8; size]?;
+    let mut output = vec![in line.alloc; FILLER; size]?;
     let returned = decode_to_slice_with::<K>(line.input, &mut output);
     line.expect_output(kernel.name, returned, &output, line.result);
     Ok(())
@@ -137,7 +137,7 @@ fn expect_bool(line: &mut Line<'_>, call: &str, returned: bool) {
 
 /// Compares the message of the error for a text or, if `size` is not 0, for an output of `size` bytes.
 pub(crate) fn read_message(line: &mut Line<'_>, size: usize) -> AllocResult<()> {
-    let mut output = vec![in line.alloc; 0xEEu8; size]?;
+    let mut output = vec![in line.alloc; FILLER; size]?;
     line.expect_message(match size {
         0 => check(line.input).err(),
         _ => decode_to_slice(line.input, &mut output).err(),

@@ -1,6 +1,6 @@
 //! The lines of bytes that are encoded. The contracts show that the other encoders write the same.
 
-use crate::line::{AllocResult, Line, escape};
+use crate::line::{AllocResult, FILLER, Line, escape};
 use const_hex::{
     Kernel, decode_with, display, encode_full_to_slice_with, encode_to_slice,
     encode_to_slice_upper, encode_to_str, encode_to_str_upper, encode_with,
@@ -28,7 +28,7 @@ pub(crate) fn write_into(line: &mut Line<'_>, size: usize) -> AllocResult<()> {
         let size = if form.0 { size.saturating_add(2) } else { size };
         for_each_kernel!(encode_form(line, size, form, &text)?);
     }
-    let mut output = vec![in line.alloc; 0xEEu8; size]?;
+    let mut output = vec![in line.alloc; FILLER; size]?;
     let (lower, upper) = (
         in_form(line, (false, false))?,
         in_form(line, (false, true))?,
@@ -71,7 +71,7 @@ fn encode_form<K: Kernel>(
     text: &str,
     kernel: KernelCase,
 ) -> AllocResult<()> {
-    let mut output = vec![in line.alloc; 0xEEu8; size]?;
+    let mut output = vec![in line.alloc; FILLER; size]?;
     let returned = encode_full_to_slice_with::<K>(line.input, prefix, upper, &mut output);
     line.expect_output(kernel.name, returned, &output, text);
     Ok(())

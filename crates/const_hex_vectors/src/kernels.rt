@@ -1,6 +1,6 @@
 //! Which bytes each kernel accepts, and what an output holds after an error.
 
-use crate::line::{AllocResult, Line, escape};
+use crate::line::{AllocResult, FILLER, Line, escape};
 use const_hex::{
     FromHexError, Kernel, check_raw, check_with, decode_to_slice, decode_to_slice_with, decode_with,
 };
@@ -37,10 +37,11 @@ fn compare_each_byte<K: Kernel>(line: &mut Line<'_>, kernel: KernelCase) {
     }
 }
 
+/// The bytes that the kernel accepts at a position of a text.
 fn accepted_bytes<K: Kernel>(alloc: Global, text: &[u8], index: usize) -> AllocResult<String> {
     let (mut text, mut bytes) = (text.to_vec(alloc)?, Vec::new(alloc));
     for byte in 0..=255u8 {
-        set(&mut text, index, byte);
+        set_byte(&mut text, index, byte);
         if K::check(&text) {
             bytes.push(byte)?;
         }
@@ -48,7 +49,7 @@ fn accepted_bytes<K: Kernel>(alloc: Global, text: &[u8], index: usize) -> AllocR
     escape(alloc, &bytes)
 }
 
-fn set(text: &mut [u8], index: usize, byte: u8) {
+fn set_byte(text: &mut [u8], index: usize, byte: u8) {
     if let Some(target) = text.get_mut(index) {
         *target = byte;
     }
@@ -73,7 +74,7 @@ fn compare_decoded_before_error<K: Kernel>(
         let count = if kernel.checks_first { "0" } else { count };
         let count = count.parse().unwrap_or(bytes.len()).min(bytes.len());
         let mut expected = bytes.clone()?;
-        expected[count..].fill(0xEE);
+        expected[count..].fill(FILLER);
         let index = start.saturating_add(pair.saturating_mul(2));
         compare_invalid_bytes::<K>(line, &mut text, index, &expected, kernel)?;
         compare_invalid_bytes::<K>(line, &mut text, index.saturating_add(1), &expected, kernel)?;
@@ -92,18 +93,18 @@ fn compare_invalid_bytes<K: Kernel>(
     let digit = text.get(index).copied().unwrap_or(0);
     let mut output = expected.to_vec(line.alloc)?;
     for byte in INVALID {
-        set(text, index, byte);
+        set_byte(text, index, byte);
         let is_prefix = (index == 1) & (prefix_length(text) > 0);
         let error = invalid_character(byte, index);
         if !(is_prefix | is_expected::<K>(line.alloc, text, error, &mut output, expected, kernel)) {
             let _ = write!(line.failures, "\n    {}: {byte} at {index}", kernel.name);
         }
     }
-    set(text, index, digit);
+    set_byte(text, index, digit);
     Ok(())
 }
 
-/// Whether each call with a kernel returns this error, and an output that was filled with 0xEE then holds `expected`.
+/// Whether each call with a kernel returns this error, and an output that was filled with [`FILLER`] then holds `expected`.
 /// `FixedKernel` is tested together with `Lanes32`.
 fn is_expected<K: Kernel>(
     alloc: Global,
@@ -113,12 +114,12 @@ fn is_expected<K: Kernel>(
     expected: &[u8],
     kernel: KernelCase,
 ) -> bool {
-    output.fill(0xEE);
+    output.fill(FILLER);
     let is_reported = (decode_to_slice_with::<K>(text, output) == Err(error))
         & (check_with::<K>(text) == Err(error))
         & (decode_with::<K>(alloc, text).err() == Some(error));
     let is_right = is_reported & (*output == *expected) & !check_raw(text);
-    output.fill(0xEE);
+    output.fill(FILLER);
     let is_fixed_right = (decode_to_slice(text, output) == Err(error)) & (*output == *expected);
     is_right & (is_fixed_right | (kernel.name != "Lanes32"))
 }

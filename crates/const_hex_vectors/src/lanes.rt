@@ -1,9 +1,10 @@
 //! The lines about one block of 16 or of 32 bytes, in a vector of as many lanes.
 
-use crate::line::{AllocResult, Line, escape};
+use crate::line::{AllocResult, FILLER, Line, escape};
 use const_hex::{Lanes16, Lanes32, decode_to_slice_with, lanes16, lanes32};
 use std::simd::prelude::*;
 
+// These macros take the line, its bytes, the module of the kernel, and the type of its vectors.
 macro_rules! values {
     ($line:ident, $bytes:ident, $lanes:ident, $vector:ident) => {{
         let bytes = $vector::from_array(*$bytes);
@@ -44,9 +45,9 @@ pub(crate) fn text(line: &mut Line<'_>) {
     }
 }
 
-/// Compares the bytes that 32 or 64 characters decode to, or 0xEE for each if one is invalid.
+/// Compares the bytes that 32 or 64 characters decode to, or [`FILLER`] for each if one is invalid.
 pub(crate) fn bytes(line: &mut Line<'_>) -> AllocResult<()> {
-    let mut output = vec![in line.alloc; 0xEEu8; line.input.len() / 2]?;
+    let mut output = vec![in line.alloc; FILLER; line.input.len() / 2]?;
     let _ = match output.len() {
         32 => decode_to_slice_with::<Lanes32>(line.input, &mut output),
         _ => decode_to_slice_with::<Lanes16>(line.input, &mut output),

@@ -8,6 +8,9 @@ use std::fmt::{Display, Write};
 
 pub(crate) type AllocResult<T> = Result<T, AllocError>;
 
+/// The byte that fills an output before a call, which shows what the call leaves unchanged.
+pub(crate) const FILLER: u8 = 0xEE;
+
 /// The input and the expected result of a line, and the calls that returned something else, one per line.
 #[derive(Drop)]
 pub(crate) struct Line<'a> {
@@ -68,7 +71,7 @@ impl Line<'_> {
         self.expect_text(call, actual, expected);
     }
 
-    /// As `expect_bytes`, for an output that was filled with 0xEE. An error for a length leaves it unchanged.
+    /// As `expect_bytes`, for an output that was filled with [`FILLER`]. An error for a length leaves it unchanged.
     pub(crate) fn expect_output<T: Drop>(
         &mut self,
         call: &str,
@@ -76,7 +79,7 @@ impl Line<'_> {
         output: &[u8],
         expected: &str,
     ) {
-        let is_unchanged = output.iter().all(|byte| *byte == 0xEE);
+        let is_unchanged = output.iter().all(|byte| *byte == FILLER);
         match returned {
             Ok(_) => self.expect_bytes(call, Ok(output), expected),
             Err(error) => {

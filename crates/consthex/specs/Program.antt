@@ -1,9 +1,12 @@
 -- The program: its modes, its result for an input, and its errors.
+--
+-- `m` is a mode, `x` an input, `bs` are the bytes of an output, and `e` is an error of the text. `DecodesTo t r` says
+-- that a text t decodes to the result r, and `Checks t r` that a check of it has that result.
 use Rattle.std.specs.Prelude.{ℕ, List, codes, ◌≡◌, ◌⊎◌, ⊤, ◌<◌, ◌≤◌, true, false, [], ◌∷◌, ◌++◌, length, Result, Ok, Err, Option, Some, if◌then◌else◌}
 use Rattle.consthex.specs.declared.mode.Mode.{Mode}
 use Rattle.consthex.specs.declared.mode.Mode.TheVariants.{Encode, EncodeUpper, EncodePrefixed, EncodeUpperPrefixed, Decode, Check}
 use Rattle.std.specs.Io.BufRead.{strip_last}
-use Rattle.const_hex.specs.Prelude.{full_text, message_of, IsEven, Reads, Checks, is_no_memory, WritesBeginning}
+use Rattle.const_hex.specs.Prelude.{full_text, message_of, IsEven, DecodesTo, Checks, is_no_memory, WritesBeginning}
 use Rattle.const_hex.specs.declared.error.FromHexError.{FromHexError}
 use Rattle.consthex.specs.declared.error.RunError.{RunError}
 use Rattle.consthex.specs.declared.error.RunError.TheVariants.{Text, ReadFailed, WriteFailed, TooLong, NoMemory}
@@ -40,7 +43,7 @@ Outputs Encode x bs = bs ≡ full_text false false x ++ newline
 Outputs EncodeUpper x bs = bs ≡ full_text false true x ++ newline
 Outputs EncodePrefixed x bs = bs ≡ full_text true false x ++ newline
 Outputs EncodeUpperPrefixed x bs = bs ≡ full_text true true x ++ newline
-Outputs Decode x bs = Reads (without_newline x) (Ok bs)
+Outputs Decode x bs = DecodesTo (without_newline x) (Ok bs)
 Outputs Check x bs = Checks (without_newline x) (Ok tt) × (bs ≡ codes "ok" ++ newline)
 
 -- the text in the input x has the error e in this mode
@@ -49,17 +52,17 @@ Fails Encode x e = ⊥
 Fails EncodeUpper x e = ⊥
 Fails EncodePrefixed x e = ⊥
 Fails EncodeUpperPrefixed x e = ⊥
-Fails Decode x e = Reads (without_newline x) (Err e)
+Fails Decode x e = DecodesTo (without_newline x) (Err e)
 Fails Check x e = Checks (without_newline x) (Err e)
 
--- the result of the mode for the input x, which is unique
-abbrev pub Answer : Mode → List ℕ → Result (List ℕ) RunError → Type 0
-Answer m x (Ok bs) = (length x ≤ limit) × Outputs m x bs
-Answer m x (Err (Text e)) = (length x ≤ limit) × Fails m x e
-Answer m x (Err TooLong) = limit < length x
-Answer m x (Err ReadFailed) = ⊥
-Answer m x (Err WriteFailed) = ⊥
-Answer m x (Err NoMemory) = ⊥
+-- r is the result of the mode for the input x. Each input has one result
+abbrev pub IsResult : Mode → List ℕ → Result (List ℕ) RunError → Type 0
+IsResult m x (Ok bs) = (length x ≤ limit) × Outputs m x bs
+IsResult m x (Err (Text e)) = (length x ≤ limit) × Fails m x e
+IsResult m x (Err TooLong) = limit < length x
+IsResult m x (Err ReadFailed) = ⊥
+IsResult m x (Err WriteFailed) = ⊥
+IsResult m x (Err NoMemory) = ⊥
 
 -- the mode may allocate for the input x: `decode` only if the length is even, and `check` only
 -- if the text is accepted
@@ -80,19 +83,19 @@ MayAllocate Check x = Checks (without_newline x) (Ok tt)
 abbrev pub ReadsAll : Option (List ℕ) → Option (List ℕ) → List ℕ → Type 0
 ReadsAll in_before in_after x = Consumes in_before in_after x × IsAtEnd in_after
 
--- the reader was read to its end, and r is the mode's result for what was read
-abbrev pub Answers : Mode → Option (List ℕ) → Option (List ℕ) → Result (List ℕ) RunError → Type 0
-Answers m in_before in_after r = (x : List ℕ) × ReadsAll in_before in_after x × Answer m x r
+-- the reader was read to its end, and r is the result of the mode for what was read
+abbrev pub IsResultOfInput : Mode → Option (List ℕ) → Option (List ℕ) → Result (List ℕ) RunError → Type 0
+IsResultOfInput m in_before in_after r = (x : List ℕ) × ReadsAll in_before in_after x × IsResult m x r
 
 -- what a run in the mode did that ended with this exit status: with 0, the whole result for the input was written;
 -- with 1, the result is an error of the text; with 3, at most a beginning of the result was written; with 1 and 4,
 -- nothing was written
 abbrev pub Ends : Mode → ℕ → Option (List ℕ) → Option (List ℕ) → Option (List ℕ) → Option (List ℕ) → Type 0
 Ends m status in_before in_after out_before out_after =
-    (status ≡ 0 → (bs : List ℕ) × Answers m in_before in_after (Ok bs) × Appends out_before out_after bs)
-    × (status ≡ 1 → (e : FromHexError) × Answers m in_before in_after (Err (Text e))
+    (status ≡ 0 → (bs : List ℕ) × IsResultOfInput m in_before in_after (Ok bs) × Appends out_before out_after bs)
+    × (status ≡ 1 → (e : FromHexError) × IsResultOfInput m in_before in_after (Err (Text e))
     × Keeps out_before out_after)
-    × (status ≡ 3 → Keeps out_before out_after ⊎ ((bs : List ℕ) × Answers m in_before in_after (Ok bs)
+    × (status ≡ 3 → Keeps out_before out_after ⊎ ((bs : List ℕ) × IsResultOfInput m in_before in_after (Ok bs)
     × WritesBeginning out_before out_after bs))
     × (status ≡ 4 → Keeps out_before out_after)
 

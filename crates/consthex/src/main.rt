@@ -4,11 +4,11 @@
 //! defined in `specs/`; what a text decodes to, in `const_hex`.
 #![tactic(auto)]
 
-mod answers;
 mod arguments;
 mod error;
 mod mode;
 mod process;
+mod results;
 mod runs;
 #[cfg(test)]
 mod tests;

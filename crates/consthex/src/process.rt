@@ -1,5 +1,7 @@
 //! The complete program, from its arguments to its exit status.
 
+// Terms of the contracts:
+// - `Ends m status ..`: a run in the mode m ended with this exit status
 ghost use Rattle.std.specs.Prelude.{◌≡◌, ◌≢◌, ◌≤◌, ◌∷◌, [], map, string_bytes};
 ghost use Rattle.std.specs.Process.{exit_status};
 ghost use Rattle.consthex.specs.Program.{status_of, word_of, Ends};

@@ -1,17 +1,26 @@
 //! A complete run, over any reader and writer.
 
+// Terms of the contracts:
+// - `Appends before after bs`: bs was appended to what a writer holds
+// - `Consumes before after bs`: bs was read from what a reader has left
+// - `Keeps before after`: these bytes did not change
+// - `WritesBeginning before after bs`: a beginning of bs was appended
+// - `IsResult m x r`: r is the result of the mode m for the input x
+// - `IsResultOfInput m in_before in_after r`: r is the result of the mode m for the input that was read, to its end
+// - `ReadsAll in_before in_after x`: x was read, to the end
+// - `MayAllocate m x`: the mode may allocate for x
 ghost use Rattle.std.specs.Prelude.{◌≡◌, ◌≢◌, ◌≤◌, ◌<◌, ◌+◌, ◌⊎◌, List, ℕ, length, OnOk, OnErr, IfOk, IfErr, Ok, Err};
 ghost use Rattle.std.specs.Io.KnownBytes.{Appends, Consumes, Keeps};
 ghost use Rattle.const_hex.specs.declared.error.FromHexError.{FromHexError};
 ghost use Rattle.const_hex.specs.Prelude.{WritesBeginning, IsOdd};
-ghost use Rattle.consthex.specs.Program.{limit, without_newline, ReadsAll, Answer, Answers, MayAllocate};
+ghost use Rattle.consthex.specs.Program.{limit, without_newline, ReadsAll, IsResult, IsResultOfInput, MayAllocate};
 ghost use Rattle.consthex.specs.declared.mode.Mode.TheVariants.{Check, Decode};
 ghost use Rattle.const_hex.specs.declared.error.FromHexError.TheVariants.{OddLength};
 ghost use Rattle.consthex.specs.declared.error.RunError.TheVariants.{NoMemory, Text, WriteFailed, TooLong};
 
-use crate::answers::{LIMIT, answer};
 use crate::error::RunError;
 use crate::mode::Mode;
+use crate::results::{LIMIT, result_of};
 use std::alloc::Global;
 use std::io::{Read, Write};
 
@@ -40,16 +49,16 @@ pub fn run<R: Read, W: Write>(
 ) -> Result<(), RunError>
     // The reader was read to its end, and the result for all of it was written.
     ensures ok { OnOk result ((bs : List ℕ)
-        × Answers mode (R.remaining input.old) (R.remaining input.new) (Ok bs)
+        × IsResultOfInput mode (R.remaining input.old) (R.remaining input.new) (Ok bs)
         × Appends (W.contents output.old) (W.contents output.new) bs) }
     // The reader was read to its end, and the result for all of it is this error.
     ensures text { (e : FromHexError) → result ≡ Err (Text e)
-        → Answers mode (R.remaining input.old) (R.remaining input.new) (Err (Text e)) }
+        → IsResultOfInput mode (R.remaining input.old) (R.remaining input.new) (Err (Text e)) }
     ensures too_long { result ≡ Err TooLong → (x : List ℕ) × (limit < length x)
         × Consumes (R.remaining input.old) (R.remaining input.new) x }
     // The reader was read to its end, and a beginning of the result for all of it was written.
     ensures write_failed { result ≡ Err WriteFailed → (bs : List ℕ)
-        × Answers mode (R.remaining input.old) (R.remaining input.new) (Ok bs)
+        × IsResultOfInput mode (R.remaining input.old) (R.remaining input.new) (Ok bs)
         × WritesBeginning (W.contents output.old) (W.contents output.new) bs }
     ensures nothing_written { OnErr result (result ≢ Err WriteFailed
         → Keeps (W.contents output.old) (W.contents output.new)) }
@@ -73,21 +82,21 @@ pub fn run_bytes<W: Write>(
     output: &mut W,
 ) -> Result<(), RunError>
     // The result was written.
-    ensures ok { OnOk result ((bs : List ℕ) × Answer mode input.now (Ok bs)
+    ensures ok { OnOk result ((bs : List ℕ) × IsResult mode input.now (Ok bs)
         × Appends (W.contents output.old) (W.contents output.new) bs) }
     // Unless memory or the writer fails, an error is the result of the mode.
-    ensures err { IfErr result (λ e. e ≢ NoMemory → e ≢ WriteFailed → Answer mode input.now (Err e)) }
+    ensures err { IfErr result (λ e. e ≢ NoMemory → e ≢ WriteFailed → IsResult mode input.now (Err e)) }
     ensures no_memory { result ≡ Err NoMemory → MayAllocate mode input.now }
     // An odd length never leads to `NoMemory`.
     ensures odd { (mode ≡ Decode) ⊎ (mode ≡ Check) → length input.now ≤ limit
         → IsOdd (length (without_newline input.now)) → result ≡ Err (Text OddLength) }
     // A beginning of the result was written.
-    ensures write_failed { result ≡ Err WriteFailed → (bs : List ℕ) × Answer mode input.now (Ok bs)
+    ensures write_failed { result ≡ Err WriteFailed → (bs : List ℕ) × IsResult mode input.now (Ok bs)
         × WritesBeginning (W.contents output.old) (W.contents output.new) bs }
     ensures nothing_written { OnErr result (result ≢ Err WriteFailed
         → Keeps (W.contents output.old) (W.contents output.new)) }
 {
-    let bytes = answer(alloc, mode, input)?;
+    let bytes = result_of(alloc, mode, input)?;
     write_all(&bytes, output)
 }
 

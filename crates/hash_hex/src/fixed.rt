@@ -1,11 +1,16 @@
 //! Values of a fixed number of bytes, and their text and JSON strings.
 
+// Terms of the contracts:
+// - `DecodesToExactly t n r`: t, as n bytes, decodes to r
+// - `body_of t`: t without its prefix
+// - `lowered u`: u in lowercase
+// - `full_text prefix upper bs`: the text of bs, after `0x` if `prefix` is true
 ghost use Rattle.std.specs.Prelude.{◌≡◌, ◌↔◌, ℕ, List, Bool, length, true, false, Some, Ok, IfOk, IsOk, IsTrue, MatchResult};
 ghost use Rattle.serde_json.specs.Data.{string};
 ghost use Rattle.serde_json.specs.Find.{as_str};
 ghost use Rattle.serde_json.specs.View.{view};
-ghost use Rattle.const_hex.specs.Prelude.{AreBytes, ReadsSized, is_text_of, body_of, lowered, ReadsInside, IsCount, full_text, ReadsAs-faithful, ReadsSized-faithful};
-ghost use Rattle.hash_hex.specs.Fixed.{fixed_bytes, ReadsFixed};
+ghost use Rattle.const_hex.specs.Prelude.{AreBytes, DecodesToExactly, is_text_of, body_of, lowered, DecodesJson, IsCount, full_text, DecodesToValue-faithful, DecodesToExactly-faithful};
+ghost use Rattle.hash_hex.specs.Fixed.{fixed_bytes, DecodesToFixed};
 ghost use Rattle.hash_hex.specs.declared.fixed.FixedBytes.{FixedBytes};
 
 use const_hex::{FromHex, FromHexError, JsonError, deserialize, display, serialize};
@@ -80,7 +85,7 @@ impl<const N: usize> FixedBytes<N> {
         alloc: Global,
         value: &Value,
     ) -> Result<FixedBytes<N>, JsonError<FromHexError>>
-        ensures { ReadsInside (ReadsFixed N) (as_str (view value.now)) result }
+        ensures { DecodesJson (DecodesToFixed N) (as_str (view value.now)) result }
     {
         deserialize(alloc, value)
     }
@@ -94,12 +99,12 @@ impl<const N: usize> FromHex for FixedBytes<N> {
 
     ghost fits = { IsCount N };
 
-    ghost answers = { ReadsFixed N };
+    ghost results = { DecodesToFixed N };
 
-    ghost faithful = { ReadsAs-faithful fixed_bytes (IsCount N) (λ t r. ReadsSized t N r) (ReadsSized-faithful N) };
+    ghost faithful = { DecodesToValue-faithful fixed_bytes (IsCount N) (λ t r. DecodesToExactly t N r) (DecodesToExactly-faithful N) };
 
     fn from_hex(alloc: Global, hex: &[u8]) -> Result<FixedBytes<N>, FromHexError>
-        ensures outcome { ReadsFixed N hex.now result }
+        ensures outcome { DecodesToFixed N hex.now result }
         // For a constant text the prover computes this, and so accepts an `unwrap`.
         ensures accepts { IsOk result ↔ IsTrue (is_text_of N hex.now) }
         // The text of N bytes, with or without a prefix and in either case, decodes to their value.
@@ -107,7 +112,7 @@ impl<const N: usize> FromHex for FixedBytes<N> {
             → hex.now ≡ full_text prefix up bs
             → MatchResult result (λ v. fixed_bytes v ≡ bs) (λ _. ⊥) }
         // Another text decodes to an equal value if and only if the two bodies differ only in case.
-        ensures agree { (t : List ℕ) (w : FixedBytes N) → ReadsFixed N t (Ok w)
+        ensures agree { (t : List ℕ) (w : FixedBytes N) → DecodesToFixed N t (Ok w)
             → IfOk result (λ v. (w ≡ v) ↔ (lowered (body_of t) ≡ lowered (body_of hex.now))) }
     {
         let bytes = <[u8; N] as FromHex>::from_hex(alloc, hex)?;

@@ -1,5 +1,7 @@
 //! Hashes of 32 bytes and addresses of 20 bytes.
 
+// Terms of the contracts:
+// - `full_text prefix upper bs`: the text of bs, after `0x` if `prefix` is true
 ghost use Rattle.std.specs.Prelude.{◌≡◌, true, false};
 ghost use Rattle.const_hex.specs.Prelude.{buffer_text, full_text};
 ghost use Rattle.hash_hex.specs.Fixed.{fixed_bytes};

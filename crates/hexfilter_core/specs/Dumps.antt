@@ -1,4 +1,7 @@
--- A hex dump: the text of bytes in groups, as it is written, and an input that is read as such a text.
+-- A hex dump: the text of bytes in groups, as it is written, and an input that is decoded as such a text.
+--
+-- `g` are groups, and `k` is the number of characters in the last group so far. `x` is an input, `t` its text, `r`
+-- are the options of decoding, and `y` is an output. `Spells u y` says that the digits u decode to the bytes y.
 use Rattle.std.specs.Prelude.{◌≡◌, ℕ, ◌+◌, ◌-◌, ◌*◌, ◌/◌, ◌^◌, ◌==◌, nat_le, nat_lt, ◌<◌, min, ◌&&◌, ◌||◌, not, Bool, true, false, if◌then◌else◌, List, [], ◌∷◌, ◌++◌, length, take, Option, Some, None}
 use Rattle.std.specs.Io.KnownBytes.{IsAtEnd}
 pub use Rattle.const_hex.specs.Prelude.{IsOdd, body_of, saturated, AllDigits, Spells, full_text}
@@ -11,19 +14,19 @@ pub use Rattle.hexfilter_core.specs.declared.location.Location.{Location}
 -- ---- groups
 
 -- whether a group of k characters is full
-abbrev pub is_whole : Groups → ℕ → Bool
-is_whole g k = nat_lt 0 g.size && (k == g.size)
+abbrev pub is_full : Groups → ℕ → Bool
+is_full g k = nat_lt 0 g.size && (k == g.size)
 
 -- what follows the last group, which has k characters: a newline, if groups are lines and the last one is not empty
-abbrev pub ended : Groups → ℕ → List ℕ
-ended g k = if (g.separator == 10) && not (k == 0) then 10 ∷ [] else []
+abbrev pub last_newline : Groups → ℕ → List ℕ
+last_newline g k = if (g.separator == 10) && not (k == 0) then 10 ∷ [] else []
 
 -- the text in groups, if its first group has k characters already: a separator comes before each character that
 -- follows a full group
 unfoldable pub groups_from : Groups → ℕ → List ℕ → List ℕ
-groups_from g k [] = ended g k
+groups_from g k [] = last_newline g k
 groups_from g k (b ∷ t) =
-    if is_whole g k then g.separator ∷ b ∷ groups_from g 1 t else b ∷ groups_from g (min (k + 1) g.size) t
+    if is_full g k then g.separator ∷ b ∷ groups_from g 1 t else b ∷ groups_from g (min (k + 1) g.size) t
 
 -- the text t is written in groups as y, whatever follows, if the first group has k characters already; the last group
 -- then has m characters
@@ -42,28 +45,28 @@ is_whitespace b = (b == 32) || (nat_le 9 b && nat_le b 13)
 
 -- whether the byte b is left out, k characters after the last separator: a separator after a full group, or whitespace
 abbrev pub is_left_out : Reading → ℕ → ℕ → Bool
-is_left_out r k b = (is_whole r.groups k && (b == r.groups.separator)) || (r.ignore_whitespace && is_whitespace b)
+is_left_out r k b = (is_full r.groups k && (b == r.groups.separator)) || (r.ignore_whitespace && is_whitespace b)
 
 -- what the byte b adds to the text: instead of a byte that is not left out after a full group, a NUL, which is invalid
 abbrev pub text_of_byte : Reading → ℕ → ℕ → List ℕ
-text_of_byte r k b = if is_left_out r k b then [] else (if is_whole r.groups k then 0 else b) ∷ []
+text_of_byte r k b = if is_left_out r k b then [] else (if is_full r.groups k then 0 else b) ∷ []
 
--- the number of characters since the last separator, after the byte b
-abbrev pub column_after : Reading → ℕ → ℕ → ℕ
-column_after r k b =
-    if is_whole r.groups k && (b == r.groups.separator) then 0
+-- the number of characters since the last separator, which is the fill of the last group, after the byte b
+abbrev pub group_fill_after : Reading → ℕ → ℕ → ℕ
+group_fill_after r k b =
+    if is_full r.groups k && (b == r.groups.separator) then 0
     else if r.ignore_whitespace && is_whitespace b then k
     else min (k + 1) r.groups.size
 
 -- the text of an input that begins k characters after the last separator
 unfoldable pub text_from : Reading → ℕ → List ℕ → List ℕ
 text_from r k [] = []
-text_from r k (b ∷ x) = text_of_byte r k b ++ text_from r (column_after r k b) x
+text_from r k (b ∷ x) = text_of_byte r k b ++ text_from r (group_fill_after r k b) x
 
--- the number of characters since the last separator, after an input that begins k characters after the last one
-unfoldable pub column_after_all : Reading → ℕ → List ℕ → ℕ
-column_after_all r k [] = k
-column_after_all r k (b ∷ x) = column_after_all r (column_after r k b) x
+-- the fill of the last group after an input that begins in a group of k characters
+unfoldable pub group_fill_after_all : Reading → ℕ → List ℕ → ℕ
+group_fill_after_all r k [] = k
+group_fill_after_all r k (b ∷ x) = group_fill_after_all r (group_fill_after r k b) x
 
 -- the text of an input: the input without what is left out
 abbrev pub text_of : Reading → List ℕ → List ℕ
@@ -83,7 +86,7 @@ IgnoresLines i g = (g.separator == 10) && nat_lt 0 g.size ≡ true → i ≡ tru
 
 -- ---- the line and column of a character, as editors count them
 
--- the location after the bytes, which begin at the location p
+-- the location after the bytes t, of which the first is at the location p
 unfoldable pub location_after : Location → List ℕ → Location
 location_after p [] = p
 location_after p (b ∷ t) =
@@ -91,12 +94,12 @@ location_after p (b ∷ t) =
     (record { line = if b == 10 then p.line + 1 else p.line; column = if b == 10 then 1 else p.column + 1 }) t
 
 -- the location after the input x
-abbrev pub after : List ℕ → Location
-after x = location_after (record { line = 1; column = 1 }) x
+abbrev pub location_after_input : List ℕ → Location
+location_after_input x = location_after (record { line = 1; column = 1 }) x
 
 -- p is the location after x, if the length of x is below `usize::MAX`
 abbrev pub IsLocation : List ℕ → Location → Type 0
-IsLocation x p = length x < 2 ^ 64 - 1 → (p.line ≡ (after x).line) × (p.column ≡ (after x).column)
+IsLocation x p = length x < 2 ^ 64 - 1 → (p.line ≡ (location_after_input x).line) × (p.column ≡ (location_after_input x).column)
 
 -- whether bytes may be left out
 abbrev pub leaves_out : Reading → Bool

@@ -1,4 +1,7 @@
 -- What the arguments of the program ask for.
+--
+-- `o` and `p` are the options so far and after one more, `a` is an argument, `i` its index, and `v` the value of an
+-- option. `words` are arguments.
 use Rattle.std.specs.Prelude.{◌≡◌, ◌⊎◌, ◌++◌, ℕ, ◌+◌, ◌-◌, ◌*◌, ◌^◌, ◌==◌, nat_lt, min, ◌&&◌, ◌||◌, not, true, false, if◌then◌else◌, Bool, List, [], ◌∷◌, length, Option, Some, None, Result, Ok, Err, codes, is_some, unwrap_or}
 use Rattle.std.specs.Char.{is_ascii_hexdigit}
 use Rattle.std.specs.List.{after_first, before_first, list_any, position_or_len}
@@ -20,8 +23,8 @@ pub use Rattle.hexfilter_core.specs.declared.options.Value.TheVariants.{Size, Se
 -- what may follow the first dash of each option, a letter or a dash and a name, and what it sets. The last three take
 -- a value: the columns of lines, the bytes of groups, or the separator of groups. --upper, --prefix and --wrap are for
 -- bytes that are encoded, --ignore-whitespace is for a text that is decoded, and each mode takes all of them
-abbrev pub table : Options → List (List (List ℕ) × Options)
-table o =
+abbrev pub option_table : Options → List (List (List ℕ) × Options)
+option_table o =
     (codes "d" ∷ codes "-decode" ∷ [], record o { decode = true })
     ∷ (codes "-check" ∷ [], record o { check = true })
     ∷ (codes "u" ∷ codes "-upper" ∷ [], record o { upper = true })
@@ -34,17 +37,17 @@ table o =
     ∷ (codes "s" ∷ codes "-separator" ∷ [], record o { grouped = true; value = Some Separator })
     ∷ []
 
--- the options with the one that the key names
-abbrev pub find : List ℕ → List (List (List ℕ) × Options) → Result Options UsageErrorKind
-find key [] = Err UnknownOption
-find key (row ∷ rows) = if list_any (λ k. bytes_eq key k) row.0 then Ok row.1 else find key rows
+-- the options with the one that the key names, of a table of options
+abbrev pub find_option : List ℕ → List (List (List ℕ) × Options) → Result Options UsageErrorKind
+find_option key [] = Err UnknownOption
+find_option key (row ∷ rows) = if list_any (λ k. bytes_eq key k) row.0 then Ok row.1 else find_option key rows
 
 -- the number that decimal digits write, if it is below 2^64
 abbrev pub number : List ℕ → Result ℕ UsageErrorKind
 number v = if nat_lt 0 (length v) && all_ascii_digits v && nat_lt (digits_value 10 v) (2 ^ 64) then Ok
     (digits_value 10 v) else Err InvalidNumber
 
--- an ASCII character that is neither a hexadecimal digit nor a newline
+-- an ASCII character that is neither a hexadecimal digit nor a newline (10)
 unfoldable pub is_separator : ℕ → Bool
 is_separator b = nat_lt b 128 && not (b == 10) && not (is_ascii_hexdigit b)
 
@@ -68,10 +71,10 @@ with_value (Some Separator) o v = Err InvalidSeparator
 unfoldable pub with_letters : Options → List ℕ → Result Options UsageErrorKind
 with_letters o [] = Ok o
 with_letters o (c ∷ t) =
-    and_then (find (c ∷ []) (table o))
+    and_then (find_option (c ∷ []) (option_table o))
     (λ p. if is_some p.value && nat_lt 0 (length t) then with_value p.value p t else with_letters p t)
 
--- letters after a dash, a name after two, which may have a value after an equals sign, or else a file
+-- letters after a dash (45), a name after two, which may have a value after an equals sign (61), or else a file
 abbrev pub dashed : Options → Result Options UsageErrorKind → List ℕ → Result Options UsageErrorKind
 dashed o file [] = file
 dashed o file (c ∷ []) = file
@@ -81,8 +84,8 @@ dashed o file (c ∷ d ∷ t) =
     if not (c == 45) then file
     else if not (d == 45) then with_letters o key
     else if bytes_eq t [] then Ok (record o { only_files = true })
-    else if position_or_len is_equals key == length key then find key (table o)
-    else and_then (find (before_first is_equals key) (table o)) (λ p. with_value p.value p (after_first is_equals key))
+    else if position_or_len is_equals key == length key then find_option key (option_table o)
+    else and_then (find_option (before_first is_equals key) (option_table o)) (λ p. with_value p.value p (after_first is_equals key))
 
 -- the options after the argument a, which has the number i
 abbrev pub with_word : Options → ℕ → List ℕ → Result Options UsageErrorKind
@@ -116,9 +119,9 @@ unfoldable pub with_arguments : Options → ℕ → List (List ℕ) → Result R
 with_arguments o i [] = request o i
 with_arguments o i (a ∷ rest) = at_argument i (with_argument o i a) (λ p. with_arguments p (i + 1) rest)
 
--- no option is set
-abbrev pub start : Options
-start = record {
+-- no option is set yet
+abbrev pub no_options : Options
+no_options = record {
   decode = false;
   check = false;
   upper = false;
@@ -137,7 +140,7 @@ start = record {
 
 -- what the arguments ask for
 abbrev pub request_for : List (List ℕ) → Result Request UsageError
-request_for arguments = with_arguments start 0 arguments
+request_for arguments = with_arguments no_options 0 arguments
 
 -- ---- the arguments that ask for a mode
 
@@ -153,19 +156,19 @@ arguments_of (Decode r) words =
     (if r.is_check then codes "--check" else codes "--decode") ∷ flag r.ignore_whitespace
     (codes "--ignore-whitespace") ++ words
 
--- the words write the groups, by their bytes and separator
+-- the words ask for the groups, by their bytes, of which each has two characters, and by the separator
 abbrev pub WritesGroups : Groups → List (List ℕ) → Type 0
 WritesGroups g words =
     (v : List ℕ) × (n : ℕ) × (number v ≡ Ok n) × (g.size ≡ min (n * 2) (2 ^ 64 - 1))
     × (is_separator g.separator ≡ true)
     × (words ≡ codes "--group" ∷ v ∷ codes "--separator" ∷ (g.separator ∷ []) ∷ [])
 
--- no words write no groups
+-- without words, there are no groups
 abbrev pub IsPlain : Groups → List (List ℕ) → Type 0
 IsPlain g words = (words ≡ []) × (g ≡ record { size = 0; separator = 10 })
 
--- the words write the groups of a mode: lines, if they are written, by their columns, other groups by their bytes and
--- the separator
+-- the words ask for the groups of a mode: lines, if they are written, by their columns, other groups by their bytes
+-- and the separator
 abbrev pub AsksFor : Mode → List (List ℕ) → Type 0
 AsksFor (Encode prefix upper g) words =
     ((v : List ℕ) × (number v ≡ Ok g.size) × (g.separator ≡ 10) × (words ≡ codes "--wrap" ∷ v ∷ []))

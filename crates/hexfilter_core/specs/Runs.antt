@@ -1,9 +1,11 @@
 -- What a run writes for its input, its errors, and the exit status of the program.
+--
+-- `m` is the mode of a run, `x` the input that was read, and `y` the output that was written for it.
 use Rattle.std.specs.Prelude.{◌≡◌, ◌≢◌, ◌⊎◌, ℕ, if◌then◌else◌, Bool, true, false, List, [], ◌++◌, Option, None, Some, Result, Ok, Err, codes, get_or, bytes_eq}
 use Rattle.std.specs.Io.KnownBytes.{Appends, Consumes, IsAtEnd}
 use Rattle.std.specs.IoError.{error_kind}
 use Rattle.std.specs.declared.io.ErrorKind.TheVariants.{Interrupted}
-pub use Rattle.const_hex.specs.Prelude.{Reads, WritesBeginning}
+pub use Rattle.const_hex.specs.Prelude.{DecodesTo, WritesBeginning}
 use Rattle.hexfilter_core.specs.Dumps.{FromHexError, HasError, Location, Reading, SpellsBeginning, encoded, text_of}
 pub use Rattle.hexfilter_core.specs.declared.error.RunError.{RunError}
 pub use Rattle.hexfilter_core.specs.declared.error.RunError.TheVariants.{Text, Read, Write}
@@ -17,14 +19,14 @@ abbrev pub written : Reading → List ℕ → List ℕ
 written r bytes = if r.is_check then [] else bytes
 
 -- the mode's output for the input x is y
-abbrev pub Makes : Mode → List ℕ → List ℕ → Type 0
-Makes (Encode prefix upper groups) x y = y ≡ encoded prefix upper groups x
-Makes (Decode r) x y = (bytes : List ℕ) × Reads (text_of r x) (Ok bytes) × (y ≡ written r bytes)
+abbrev pub Outputs : Mode → List ℕ → List ℕ → Type 0
+Outputs (Encode prefix upper groups) x y = y ≡ encoded prefix upper groups x
+Outputs (Decode r) x y = (bytes : List ℕ) × DecodesTo (text_of r x) (Ok bytes) × (y ≡ written r bytes)
 
 -- y is a beginning of the mode's output for the input x: in decoding, what some of the first digits decode to
-abbrev pub MakesBeginning : Mode → List ℕ → List ℕ → Type 0
-MakesBeginning (Encode prefix upper groups) x y = (rest : List ℕ) × (encoded prefix upper groups x ≡ y ++ rest)
-MakesBeginning (Decode r) x y = (bytes : List ℕ) × SpellsBeginning r x bytes × (y ≡ written r bytes)
+abbrev pub OutputsBeginning : Mode → List ℕ → List ℕ → Type 0
+OutputsBeginning (Encode prefix upper groups) x y = (rest : List ℕ) × (encoded prefix upper groups x ≡ y ++ rest)
+OutputsBeginning (Decode r) x y = (bytes : List ℕ) × SpellsBeginning r x bytes × (y ≡ written r bytes)
 
 -- the mode fails with the error e at this location, in an input of which x was read; before the error, it writes y
 abbrev pub FailsWith : Mode → Option (List ℕ) → List ℕ → List ℕ → FromHexError → Option Location → Type 0
@@ -46,7 +48,7 @@ IsErrorOf m in_after x y (Write e) = ⊥
 -- all of the input is read, and the mode's output for it is written
 abbrev pub RunsToEnd : Mode → Option (List ℕ) → Option (List ℕ) → Option (List ℕ) → Option (List ℕ) → Type 0
 RunsToEnd m in_before in_after out_before out_after =
-    (x : List ℕ) × (y : List ℕ) × Consumes in_before in_after x × IsAtEnd in_after × Makes m x y
+    (x : List ℕ) × (y : List ℕ) × Consumes in_before in_after x × IsAtEnd in_after × Outputs m x y
     × Appends out_before out_after y
 
 -- the mode fails with the error e in what is read, and the output before it is written
@@ -59,7 +61,7 @@ RunsToError m in_before in_after out_before out_after e location =
 -- a beginning of the mode's output for what is read is written
 abbrev pub RunsPartly : Mode → Option (List ℕ) → Option (List ℕ) → Option (List ℕ) → Option (List ℕ) → Type 0
 RunsPartly m in_before in_after out_before out_after =
-    (x : List ℕ) × (y : List ℕ) × Consumes in_before in_after x × MakesBeginning m x y × Appends out_before out_after y
+    (x : List ℕ) × (y : List ℕ) × Consumes in_before in_after x × OutputsBeginning m x y × Appends out_before out_after y
 
 -- ---- errors
 

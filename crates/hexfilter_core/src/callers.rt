@@ -1,13 +1,26 @@
 //! Examples of what callers of this library can prove, in terms of std and of `const_hex`. These functions are not
 //! exported.
 
+// Terms of the contracts:
+// - `DecodesTo t r`: the text t decodes to the result r
+// - `body_of t`: t without its prefix
+// - `Spells u bs`: the digits u decode to the bytes bs
+// - `full_text prefix upper bs`: the text of bs, after `0x` if `prefix` is true
+// - `saturated n`: n, but at most `usize::MAX`
+// - `Appends before after bs`: bs was appended to what a writer holds
+// - `Consumes before after bs`: bs was read from what a reader has left
+// - `Keeps before after`: these bytes did not change
+// - `IsAtEnd left`: nothing is left to read
+// - `mirror ignores g`: the options that decode a text in the groups g
+// - `IgnoresLines ignores g`: whitespace is ignored if g are lines
+// - `AreFor m arguments`: the arguments ask for the mode m
 ghost use Rattle.std.specs.Prelude.{◌≡◌, ◌≢◌, ◌⊎◌, ◌*◌, ◌+◌, ◌-◌, ◌/◌, ◌^◌, ◌<◌, ◌==◌, ◌++◌, ◌∷◌, [], All, Bool, List, ℕ, None, Ok, Err, Option, false, Some, OnErr, OnOk, codes, count_by, length, map, string_bytes, take};
 ghost use Rattle.std.specs.Io.KnownBytes.{Appends, Consumes, IsAtEnd, Keeps};
 ghost use Rattle.std.specs.IoError.{error_kind};
 ghost use Rattle.std.specs.Process.{exit_status};
 ghost use Rattle.std.specs.declared.io.Error.{Error};
 ghost use Rattle.std.specs.declared.io.ErrorKind.TheVariants.{Interrupted};
-ghost use Rattle.const_hex.specs.Prelude.{AllDigits, IsOdd, Reads, Spells, body_of, saturated, full_text};
+ghost use Rattle.const_hex.specs.Prelude.{AllDigits, IsOdd, DecodesTo, Spells, body_of, saturated, full_text};
 ghost use Rattle.hexfilter_core.specs.Dumps.{FromHexError, Groups, IgnoresLines, InvalidHexCharacter, OddLength, Location, mirror};
 ghost use Rattle.hexfilter_core.specs.Options.{AreFor};
 ghost use Rattle.hexfilter_core.specs.Runs.{Decode, Encode, Read, Text, Write};
@@ -32,7 +45,7 @@ const PLAIN: Reading = Reading {
 /// Decodes a text without groups.
 fn decode<R: Read, W: Write>(input: &mut R, output: &mut W) -> Result<(), RunError>
     ensures ok { OnOk result ((x : List ℕ) × (y : List ℕ) × Consumes (R.remaining input.old) (R.remaining input.new) x
-        × IsAtEnd (R.remaining input.new) × Reads x (Ok y)
+        × IsAtEnd (R.remaining input.new) × DecodesTo x (Ok y)
         × Appends (W.contents output.old) (W.contents output.new) y) }
     ensures odd { (location : Option Location) → result ≡ Err (Text OddLength location) → (location ≡ None)
         × ((x : List ℕ) × (y : List ℕ) × Consumes (R.remaining input.old) (R.remaining input.new) x
@@ -117,7 +130,7 @@ fn encode_and_decode_groups<W: Write>(
     requires modes { (prefix : Bool) × (upper : Bool) × (ignores : Bool) × (g : Groups) × IgnoresLines ignores g
         × (write ≡ Encode prefix upper g) × (read ≡ Decode (mirror ignores g)) }
     ensures done { OnOk result (Appends (W.contents output.old) (W.contents output.new) bytes.now) }
-    ensures never_text { (e : FromHexError) (location : Option Location) → result ≢ Err (Text e location) }
+    ensures never_rejected { (e : FromHexError) (location : Option Location) → result ≢ Err (Text e location) }
 {
     let mut input = bytes;
     run(write, &mut input, text)?;
@@ -167,9 +180,9 @@ fn check<H: Host, R: Read, W: Write>(
     requires { map string_bytes arguments.now ≡ codes "--check" ∷ [] }
     ensures done { exit_status result ≡ 0 → (x : List ℕ) × (y : List ℕ)
         × Consumes (R.remaining input.old) (R.remaining input.new) x × IsAtEnd (R.remaining input.new)
-        × Reads x (Ok y) }
-    ensures rejected { (x y : List ℕ) → R.remaining input.old ≡ Some x → Reads x (Ok y) → exit_status result ≢ 1 }
-    ensures nothing { Keeps (W.contents output.old) (W.contents output.new) }
+        × DecodesTo x (Ok y) }
+    ensures rejected { (x y : List ℕ) → R.remaining input.old ≡ Some x → DecodesTo x (Ok y) → exit_status result ≢ 1 }
+    ensures nothing_written { Keeps (W.contents output.old) (W.contents output.new) }
 {
     program(host, arguments, input, output)
 }
@@ -209,7 +222,7 @@ fn encode_and_decode<H: Host, W: Write>(
     ensures written { (exit_status result.0 ≡ 0) ⊎ (exit_status result.0 ≡ 3) }
     ensures done { exit_status result.0 ≡ 0 → exit_status result.1 ≡ 0
         → Appends (W.contents output.old) (W.contents output.new) bytes.now }
-    ensures never_text { exit_status result.0 ≡ 0 → (exit_status result.1 ≡ 0) ⊎ (exit_status result.1 ≡ 3) }
+    ensures never_rejected { exit_status result.0 ≡ 0 → (exit_status result.1 ≡ 0) ⊎ (exit_status result.1 ≡ 3) }
 {
     let mut input = bytes;
     let written = program(host, write, &mut input, text);

@@ -1,5 +1,9 @@
 //! Writing a text in groups, with a separator between them.
 
+// Terms of the contracts:
+// - `PutsInto g k t y m`: the text t is written in the groups g as y, if the first group has k characters already;
+//   the last one then has m
+// - `groups_from g k t`: the text t in the groups g, if the first has k characters already
 ghost use Rattle.std.specs.Prelude.{◌≡◌, ◌≢◌, ◌+◌, ◌*◌, ◌≤◌, ◌<◌, ◌++◌, ◌∷◌, [], List, ℕ, length, take, option_to_list};
 ghost use Rattle.hexfilter_core.specs.Dumps.{PutsInto, groups_from};
 
@@ -9,41 +13,41 @@ use crate::mode::Groups;
 const BLOCK: usize = 16;
 
 /// Writes the text to the front of the output, with a separator before each character that follows a full group.
-/// The first group has `column` characters already. Returns the number of bytes written, and the number of
+/// The first group has `group_fill` characters already. Returns the number of bytes written, and the number of
 /// characters in the last group.
 #[inline(never)]
 pub(crate) fn put_groups(
     groups: Groups,
-    column: usize,
+    group_fill: usize,
     text: &[u8],
     output: &mut [u8],
 ) -> (usize, usize)
     requires size { groups.size ≢ 0 }
-    requires column { column ≤ groups.size }
+    requires group_fill { group_fill ≤ groups.size }
     requires space { 2 * length text.now ≤ length output.old }
     ensures within { result.0 ≤ 2 * length text.now }
     ensures length { length output.new ≡ length output.old }
-    ensures column { result.1 ≤ groups.size }
-    ensures groups { PutsInto groups column text.now (take result.0 output.new) result.1 }
+    ensures group_fill { result.1 ≤ groups.size }
+    ensures groups { PutsInto groups group_fill text.now (take result.0 output.new) result.1 }
 {
-    let mut column = column;
+    let mut group_fill = group_fill;
     let mut done = 0;
     let mut end = 0;
     'groups: while done < text.len() {
-        if column == groups.size && groups.size <= BLOCK && text.len() - done > BLOCK {
+        if group_fill == groups.size && groups.size <= BLOCK && text.len() - done > BLOCK {
             let (taken, put) = put_short(groups, &text[done..], &mut output[end..]);
             done += taken;
             end += put;
             continue;
         }
-        let (start, first) = separate(groups, column, output, end);
-        let count = (groups.size - first).min(text.len() - done);
+        let (start, fill) = separate(groups, group_fill, output, end);
+        let count = (groups.size - fill).min(text.len() - done);
         end = start + count;
         output[start..end].copy_from_slice(&text[done..done + count]);
         done += count;
-        column = first + count;
+        group_fill = fill + count;
     }
-    (end, column)
+    (end, group_fill)
 }
 
 /// Writes full groups to the front of the output, each after a separator, until at most `BLOCK` characters are left.
@@ -127,21 +131,21 @@ fn spread(separator: u8, a: u8, b: u8, c: u8, d: u8) -> [u8; 8]
 /// Writes a separator to the output at the index `end` if the group is full. Returns the next index, and the number
 /// of characters in the group.
 #[tactic(auto, using(std::proofs::lemmas::Grind::common_steps, crate::proofs::lemmas::Groups::after_group))]
-fn separate(groups: Groups, column: usize, output: &mut [u8], end: usize) -> (usize, usize)
+fn separate(groups: Groups, group_fill: usize, output: &mut [u8], end: usize) -> (usize, usize)
     requires size { groups.size ≢ 0 }
-    requires column { column ≤ groups.size }
+    requires group_fill { group_fill ≤ groups.size }
     requires space { end < length output.old }
     ensures within { result.0 ≤ end + 1 }
-    ensures column { result.1 < groups.size }
+    ensures group_fill { result.1 < groups.size }
     ensures groups { (rest : List ℕ) → 0 < length rest
-        → take end output.old ++ groups_from groups column rest
+        → take end output.old ++ groups_from groups group_fill rest
         ≡ take result.0 output.new ++ groups_from groups result.1 rest }
     ensures length { length output.new ≡ length output.old }
 {
-    if column == groups.size {
+    if group_fill == groups.size {
         return (put(Some(groups.separator), output, end), 0);
     }
-    (end, column)
+    (end, group_fill)
 }
 
 /// Writes a byte, if there is one, to the output at the index `end`, and returns the next index.

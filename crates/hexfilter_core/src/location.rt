@@ -1,5 +1,7 @@
 //! The line and column of a character, as editors count them.
 
+// Terms of the contracts:
+// - `IsLocation x p`: p is the line and column after the bytes x
 ghost use Rattle.std.specs.Prelude.{◌≡◌, ◌≢◌, ◌++◌, ◌∷◌, [], List, ℕ, length, All};
 ghost use Rattle.hexfilter_core.specs.Dumps.{IsLocation};
 

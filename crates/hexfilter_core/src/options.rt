@@ -1,7 +1,9 @@
 //! The command-line options.
 
+// Terms of the contracts:
+// - `AsksFor m words`: the words ask for the groups of the mode m
 ghost use Rattle.std.specs.Prelude.{◌≡◌, ℕ, List, None, Ok, map, string_bytes};
-ghost use Rattle.hexfilter_core.specs.Options.{AsksFor, Run, arguments_of, find, is_separator, number, request, request_for, table, with_argument, with_letters, with_value, with_word};
+ghost use Rattle.hexfilter_core.specs.Options.{AsksFor, Run, arguments_of, find_option, is_separator, number, request, request_for, option_table, with_argument, with_letters, with_value, with_word};
 ghost use Rattle.hexfilter_core.specs.declared.mode.Mode.{Mode};
 
 use crate::mode::{Groups, Mode, Reading};
@@ -65,10 +67,14 @@ pub(crate) struct Options {
     ignore_whitespace: bool,
     help: bool,
     version: bool,
+    /// Whether lines are asked for, by `--wrap`.
     wrapped: bool,
+    /// Whether groups are asked for, by `--group` or `--separator`.
     grouped: bool,
+    /// The value of `--wrap` or `--group`.
     size: Option<usize>,
     separator: Option<u8>,
+    /// The index of the argument that names a file.
     file: Option<usize>,
     /// The kind of value that the last option still expects.
     value: Option<Value>,
@@ -82,7 +88,7 @@ pub(crate) struct Options {
 /// let arguments = [String::from_str(rt.alloc(), "--version")?];
 /// assert_eq!(rt; request_of(&arguments), Ok(Request::Version));
 /// ```
-#[tactic(auto, using(crate::proofs::lemmas::Arguments::arguments_end, crate::proofs::lemmas::Arguments::read_back))]
+#[tactic(auto, using(crate::proofs::lemmas::Arguments::no_argument, crate::proofs::lemmas::Arguments::read_back))]
 pub fn request_of(arguments: &[String]) -> Result<Request, UsageError>
     ensures grammar { result ≡ request_for (map string_bytes arguments.now) }
     // The arguments for a mode are parsed as this mode.
@@ -103,7 +109,7 @@ impl Options {
     /// Sets the option with this name, after the first dash. The last three take a value. `-u`, `-p` and `-w` are for
     /// encoding and `-i` is for decoding, but each mode accepts all of them.
     fn with_option(mut self, key: &str) -> Result<Options, UsageErrorKind>
-        ensures { result ≡ find key.now (table self) }
+        ensures { result ≡ find_option key.now (option_table self) }
     {
         match key {
             "d" | "-decode" => self.decode = true,
@@ -174,7 +180,7 @@ impl Options {
     }
 
     /// Parses short options in one argument. If one takes a value, the rest of the argument is its value.
-    #[tactic(auto, using(crate::proofs::lemmas::Arguments::letter_unknown))]
+    #[tactic(auto, using(crate::proofs::lemmas::Arguments::unknown_letter))]
     fn with_letters(mut self, text: &str) -> Result<Options, UsageErrorKind>
         ensures { result ≡ with_letters self text.now }
     {
@@ -242,7 +248,7 @@ fn is_separator(byte: u8) -> bool
 }
 
 /// Parses a decimal number without a sign.
-#[tactic(auto, using(crate::proofs::lemmas::Arguments::parsed))]
+#[tactic(auto, using(crate::proofs::lemmas::Arguments::parsed_number))]
 fn number(text: &str) -> Result<usize, UsageErrorKind>
     ensures { result ≡ number text.now }
 {

@@ -1,5 +1,10 @@
 //! The complete program, from its arguments to its exit status.
 
+// Terms of the contracts:
+// - `Appends before after bs`: bs was appended to what a writer holds
+// - `WritesBeginning before after bs`: a beginning of bs was appended
+// - `EndsIf b m status ..`: a run in the mode m ended with this exit status, or did not begin if b is false
+// - `Prints text status ..`: the text was printed, or a beginning of it if the status is 3
 ghost use Rattle.std.specs.Prelude.{◌≡◌, ◌++◌, ◌∷◌, [], List, ℕ, None, Some, Option, Bool, not, ◌&&◌, Ok, Err, IfOk, OnErr, OnOk, codes, map, string_bytes, is_ok, option_copied};
 ghost use Rattle.std.specs.Io.KnownBytes.{Appends};
 ghost use Rattle.std.specs.Process.{exit_status};

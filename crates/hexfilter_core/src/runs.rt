@@ -1,5 +1,9 @@
 //! A complete run, over any reader and writer.
 
+// Terms of the contracts:
+// - `RunsToEnd m ..`: the whole input was read, and the mode's output for it written
+// - `RunsToError m .. e location`: the text has this error, and the output before it was written
+// - `RunsPartly m ..`: a beginning of the output was written
 ghost use Rattle.std.specs.Prelude.{◌≡◌, Err, Option, OnOk, OnErr, IfErr};
 ghost use Rattle.hexfilter_core.specs.Dumps.{FromHexError, Location};
 ghost use Rattle.hexfilter_core.specs.Runs.{IsNotInterrupted, RunsPartly, RunsToEnd, RunsToError, Text};

@@ -1,9 +1,12 @@
 //! Removes whitespace and separators from an input, and tracks the line and column.
 
+// Terms of the contracts:
+// - `HasScanned r s x`: s is the state of the scanner after the input x
+// - `HasAdded r s x u v`: the bytes u, after the input x, add v to the text
 ghost use Rattle.std.specs.Prelude.{◌≡◌, ◌+◌, ◌≤◌, ◌<◌, ◌∷◌, [], List, ℕ, false, length, min, take, not, nat_lt, option_to_list};
 ghost use Rattle.std.specs.List.{All, prefix_len};
 ghost use Rattle.hexfilter_core.specs.Stages.{HasAdded, HasScanned};
-ghost use Rattle.hexfilter_core.specs.Dumps.{IsLocationAfter, column_after, is_whitespace, text_of_byte};
+ghost use Rattle.hexfilter_core.specs.Dumps.{IsLocationAfter, group_fill_after, is_whitespace, text_of_byte};
 
 use crate::groups::put;
 use crate::location::Location;
@@ -17,7 +20,7 @@ const LANES: usize = 32;
 #[derive(Clone, Copy, Debug)]
 pub(crate) struct Scanner {
     /// The number of characters since the last separator, if there are groups.
-    column: usize,
+    group_fill: usize,
     /// The location of the next byte, if bytes may be left out.
     location: Location,
 }
@@ -25,7 +28,7 @@ pub(crate) struct Scanner {
 impl Scanner {
     /// A scanner that has read nothing.
     pub(crate) const START: Scanner = Scanner {
-        column: 0,
+        group_fill: 0,
         location: Location::FIRST,
     };
 
@@ -70,8 +73,8 @@ impl Scanner {
         ensures { (x : List ℕ) → HasScanned reading self.old x
             → HasAdded reading self.new x (byte ∷ []) (option_to_list result) }
     {
-        let (added, column) = classify_byte(reading, self.column, byte);
-        self.column = column;
+        let (added, group_fill) = classify_byte(reading, self.group_fill, byte);
+        self.group_fill = group_fill;
         self.location = self.location.after(byte);
         added
     }
@@ -91,8 +94,8 @@ impl Scanner {
             self.location = self.location.advance_by(count);
             return count;
         }
-        let count = count.min(reading.groups.size.saturating_sub(self.column));
-        self.column = self.column.saturating_add(count);
+        let count = count.min(reading.groups.size.saturating_sub(self.group_fill));
+        self.group_fill = self.group_fill.saturating_add(count);
         self.location = self.location.advance_by(count);
         count
     }
@@ -117,23 +120,23 @@ fn copy_block(chunk: &[u8], output: &mut [u8]) -> usize
 }
 
 /// What a byte adds to the text, and the number of characters since the last separator after it.
-fn classify_byte(reading: Reading, column: usize, byte: u8) -> (Option<u8>, usize)
-    ensures text { option_to_list result.0 ≡ text_of_byte reading column byte }
-    ensures column { result.1 ≡ column_after reading column byte }
+fn classify_byte(reading: Reading, group_fill: usize, byte: u8) -> (Option<u8>, usize)
+    ensures text { option_to_list result.0 ≡ text_of_byte reading group_fill byte }
+    ensures group_fill { result.1 ≡ group_fill_after reading group_fill byte }
 {
     let groups = reading.groups;
-    let is_whole = groups.size > 0 && column == groups.size;
-    if is_whole && byte == groups.separator {
+    let is_full = groups.size > 0 && group_fill == groups.size;
+    if is_full && byte == groups.separator {
         return (None, 0);
     }
     if reading.ignore_whitespace && is_whitespace(byte) {
-        return (None, column);
+        return (None, group_fill);
     }
     if groups.size == 0 {
         return (Some(byte), 0);
     }
-    let next = column.saturating_add(1).min(groups.size);
-    (Some(if is_whole { 0 } else { byte }), next)
+    let next = group_fill.saturating_add(1).min(groups.size);
+    (Some(if is_full { 0 } else { byte }), next)
 }
 
 /// The number of lanes before the first space or control character.

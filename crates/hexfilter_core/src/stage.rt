@@ -1,8 +1,21 @@
 //! The state of a run, which encodes or decodes one chunk after another.
 
+// Terms of the contracts:
+// - `body_of t`: t without its prefix
+// - `full_text prefix upper bs`: the text of bs, after `0x` if `prefix` is true
+// - `IsAtEnd left`: nothing is left to read
+// - `PutsInto g k t y m`: the text t is written in the groups g as y, if the first group has k characters already;
+//   the last one then has m
+// - `text_of r x`: the input x without the bytes that are left out
+// - `HasWritten r d t z`: the decoder d has read the text t, and z was written for it
+// - `HasDecoded r s x y`: s is the state of a run after the input x, for which y was written
+// - `HasOutput m s x y`: s is the state of a run in the mode m after the input x, for which y was written
+// - `Reaches m s in_after n x y e`: y was written for the input x, whose last chunk has n bytes, up to the error e
+//   if there is one
+// - `IsErrorOf m in_after x y e`: e is the error of the input x, before which y is written
 ghost use Rattle.std.specs.Prelude.{◌≡◌, ◌*◌, ◌+◌, ◌≤◌, ◌<◌, ◌++◌, [], List, ℕ, if◌then◌else◌, length, take, false, ◌/◌, ◌∷◌, Option, None, Some, IfOk, OnErr, option_to_list};
-ghost use Rattle.hexfilter_core.specs.Dumps.{Groups, PutsInto, ended, full_text, AllDigits, Reading, body_of, chunk_size, text_of};
-ghost use Rattle.hexfilter_core.specs.Stages.{HasDecoded, HasWritten, Reaches, HasMade};
+ghost use Rattle.hexfilter_core.specs.Dumps.{Groups, PutsInto, last_newline, full_text, AllDigits, Reading, body_of, chunk_size, text_of};
+ghost use Rattle.hexfilter_core.specs.Stages.{HasDecoded, HasWritten, Reaches, HasOutput};
 ghost use Rattle.std.specs.Io.KnownBytes.{IsAtEnd};
 ghost use Rattle.hexfilter_core.specs.Runs.{Decode, IsErrorOf, RunError};
 
@@ -21,7 +34,7 @@ pub(crate) struct Stage {
     /// Whether the prefix must still be written.
     prefix: bool,
     /// The number of characters in the last group that was written.
-    column: usize,
+    group_fill: usize,
     /// The decoder of the text, from which bytes are left out.
     decoder: Decoder,
     /// The scanner of the input, which leaves out bytes.
@@ -33,11 +46,11 @@ pub(crate) struct Stage {
 impl Stage {
     /// The state before the first chunk.
     pub(crate) fn new(mode: Mode) -> Stage
-        ensures { HasMade mode result [] [] }
+        ensures { HasOutput mode result [] [] }
     {
         let mut stage = Stage {
             prefix: false,
-            column: 0,
+            group_fill: 0,
             decoder: Decoder::new(),
             scanner: Scanner::START,
             bytes_read: 0,
@@ -64,7 +77,7 @@ impl Stage {
         requires chunk { length chunk.now ≤ chunk_size }
         requires text { 2 * length chunk.now + 2 ≤ length text.old }
         requires space { 4 * length chunk.now + 5 ≤ length output.old }
-        ensures made { (x y : List ℕ) (in_after : Option (List ℕ)) → HasMade mode self.old x y
+        ensures reaches { (x y : List ℕ) (in_after : Option (List ℕ)) → HasOutput mode self.old x y
             → (length chunk.now ≡ 0 → IsAtEnd in_after)
             → Reaches mode self.new in_after (length chunk.now) (x ++ chunk.now)
             (y ++ take result.0 output.new) result.1 }
@@ -99,9 +112,9 @@ impl Stage {
     ) -> usize
         requires text { 2 * length chunk.now + 2 ≤ length text.old }
         requires space { 4 * length chunk.now + 5 ≤ length output.old }
-        ensures text { self.old.column ≤ groups.size → PutsInto groups self.old.column
-            (full_text self.old.prefix upper chunk.now) (take result output.new) self.new.column }
-        ensures column { self.old.column ≤ groups.size → self.new.column ≤ groups.size }
+        ensures text { self.old.group_fill ≤ groups.size → PutsInto groups self.old.group_fill
+            (full_text self.old.prefix upper chunk.now) (take result output.new) self.new.group_fill }
+        ensures group_fill { self.old.group_fill ≤ groups.size → self.new.group_fill ≤ groups.size }
         ensures prefix { self.new.prefix ≡ false }
         ensures within { result + 1 ≤ length output.new }
         ensures lengths { (length text.new ≡ length text.old) × (length output.new ≡ length output.old) }
@@ -115,17 +128,17 @@ impl Stage {
         }
         let text = &mut text[..count];
         fill_text::<FixedKernel>(chunk, prefix, upper, text);
-        let column = self.column.min(groups.size);
-        let (end, next) = put_groups(groups, column, text, output);
-        self.column = next;
+        let group_fill = self.group_fill.min(groups.size);
+        let (end, next) = put_groups(groups, group_fill, text, output);
+        self.group_fill = next;
         end
     }
 
     /// The newline after the last line, at the end of the input, unless this line is empty.
     fn last_newline(&self, groups: Groups, is_eof: bool) -> Option<u8>
-        ensures { option_to_list result ≡ (if is_eof then ended groups self.now.column else []) }
+        ensures { option_to_list result ≡ (if is_eof then last_newline groups self.now.group_fill else []) }
     {
-        if is_eof && groups.separator == b'\n' && self.column > 0 {
+        if is_eof && groups.separator == b'\n' && self.group_fill > 0 {
             return Some(b'\n');
         }
         None
@@ -143,7 +156,7 @@ impl Stage {
         requires chunk { (0 < length chunk.now) × (length chunk.now ≤ chunk_size) }
         requires text { length chunk.now ≤ length text.old }
         requires space { length chunk.now ≤ length output.old }
-        ensures made { (x y : List ℕ) (in_after : Option (List ℕ)) → HasDecoded reading self.old x y
+        ensures reaches { (x y : List ℕ) (in_after : Option (List ℕ)) → HasDecoded reading self.old x y
             → Reaches (Decode reading) self.new in_after (length chunk.now) (x ++ chunk.now)
             (y ++ take result.0 output.new) result.1 }
         ensures within { result.0 ≤ length output.new }

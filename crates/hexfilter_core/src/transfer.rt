@@ -1,5 +1,11 @@
 //! Reads and writes that are retried after an interrupt.
 
+// Terms of the contracts:
+// - `Appends before after bs`: bs was appended to what a writer holds
+// - `Consumes before after bs`: bs was read from what a reader has left
+// - `Keeps before after`: these bytes did not change
+// - `IsAtEnd left`: nothing is left to read
+// - `WritesBeginning before after bs`: a beginning of bs was appended
 ghost use Rattle.std.specs.Prelude.{◌≡◌, ◌≢◌, ◌<◌, ◌≤◌, length, take, OnOk, OnErr, IfErr, IfOk};
 ghost use Rattle.std.specs.Io.KnownBytes.{Appends, Consumes, IsAtEnd, Keeps};
 ghost use Rattle.hexfilter_core.specs.Runs.{IsFailedRead, IsFailedWrite, WritesBeginning};

@@ -1,6 +1,8 @@
 -- The characters that the iterator `BytesToHexChars` has left.
 --
--- `low` is the second character of a byte whose first was returned, and `u` are the bytes of which none was.
+-- `low` is the second character of a byte whose first was returned, and `u` are the bytes of which none was. `b` is
+-- the next of them, and `x` and `y` are its characters. In a proof, the letters that its statement does not name are
+-- the hypotheses, in order.
 use mir.Val.{bool_byte}
 use Rattle.std.proofs.Common.{◌≡◌, ℕ, ◌+◌, ◌*◌, ◌/◌, ◌%◌, Bool, List, [], ◌∷◌, length, Option, None, refl, arith, is_some}
 use Rattle.std.proofs.lemmas.List.{nil_from_length}
@@ -25,4 +27,5 @@ pub length-left : (up : Bool) (low : Option ℕ) (u : List ℕ)
     → length (with_low low (hex_text up u)) ≡ 2 * length u + bool_byte (is_some low)
 length-left up low u = grind (arith, length-hex_text)
 
+-- the lemmas that the proof search of `next` and `size_hint` may use
 pub ruleset remaining_characters = (left-none, left-more, length-left)

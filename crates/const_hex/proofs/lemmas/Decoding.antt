@@ -2,12 +2,14 @@
 --
 -- `d` is the decoder before the chunk and `e` after it, `t` is the text that it has read, `bs` are the bytes that it
 -- has written, and `r` is the fact that it has (`HasRead`). `old` and `new` are the output before and after, `u` is a
--- text of digits.
+-- text of digits, and `v` the text after it. `Spells u bs` says that the digits u decode to bs, and `Partial old u
+-- new` what an output holds after u was rejected. In a proof, the letters that its statement does not name are the
+-- hypotheses, in order.
 use Rattle.std.proofs.Common.{◌≡◌, ◌≤◌, ◌*◌, ◌/◌, ℕ, List, ◌++◌, length, take, drop, refl, arith, ◌+◌, ◌-◌, ◌%◌, ◌≢◌, [], ◌∷◌, slice_index, None, Ok, sym, ap, ◌∙◌, length-append, length-drop}
 use Rattle.std.proofs.lemmas.Grind.{common_steps}
 use Rattle.std.proofs.lemmas.List.{take-append-drop, take-append-le, drop-append-le, append_assoc, append-nil, get_or_append_left, get_or-append-add, length-take, take_all, take_at, drop_all, drop_at}
 use Rattle.std.proofs.lemmas.List.Elements.{All-drop, All-take}
-use Rattle.const_hex.specs.Prelude.{Partial, IsOdd, Reads, body_of, HasRead, NamesInvalidSaturated, saturated, error_of, position_of, pending_digit, body-parity, Decoder, IsDigit, AllDigits, FirstInvalidAt, Spells}
+use Rattle.const_hex.specs.Prelude.{Partial, IsOdd, DecodesTo, body_of, HasRead, NamesInvalidSaturated, saturated, error_of, position_of, pending_digit, body-parity, Decoder, IsDigit, AllDigits, FirstInvalidAt, Spells}
 use Rattle.const_hex_arch.proofs.lemmas.Digits.{digits_append}
 use Rattle.const_hex_arch.proofs.lemmas.FirstInvalid.{FirstInvalidAt-after, Spells-some, Partial-after, none_decoded}
 use Rattle.const_hex_arch.proofs.lemmas.Texts.{Spells-append, Spells-digits, Spells-length}
@@ -78,6 +80,7 @@ last_rejected old u new invalid h l s =
 
 -- ---- the next chunk of a decoder
 
+-- a body is not longer than its text
 pub body-shorter : (t : List ℕ) → length (body_of t) ≤ length t
 body-shorter t = grind arith
 
@@ -86,7 +89,8 @@ body-shorter t = grind arith
 module _ (d : Decoder) (chunk w digits : List ℕ)
     (next : (t pairs : List ℕ) → position_of d ≡ saturated (length t) → body_of t ≡ pairs ++ pending_digit d
     → length pairs % 2 ≡ 0 → body_of (t ++ chunk) ≡ pairs ++ (w ++ digits))
-    (fine : AllDigits (pending_digit d) → AllDigits w) (t bs : List ℕ) (r : HasRead d t bs) where
+    (w_digits : AllDigits (pending_digit d) → AllDigits w) (t bs : List ℕ) (r : HasRead d t bs) where
+  -- the body of the text, the chunk included
   next_body : body_of (t ++ chunk) ≡ r.pairs ++ (w ++ digits)
   next_body = next t r.pairs r.position r.body (omega (arith, Spells-length r.pairs bs r.decoded))
 
@@ -100,12 +104,13 @@ module _ (d : Decoder) (chunk w digits : List ℕ)
   pub body_is_digits : AllDigits digits → AllDigits (body_of (t ++ chunk))
   body_is_digits a =
       rw next_body
-      ((digits_append _ _).1 (Spells-digits _ _ r.decoded, (digits_append w digits).1 (fine r.pending_valid, a)))
+      ((digits_append _ _).1 (Spells-digits _ _ r.decoded, (digits_append w digits).1 (w_digits r.pending_valid, a)))
 
   -- e is the decoder after the chunk, which completes `count` pairs
   module _ (e : Decoder) (count : ℕ) (all : AllDigits digits) (none : error_of e ≡ None)
       (index : position_of e ≡ saturated (position_of d + length chunk))
       (pending : pending_digit e ≡ drop (2 * count) (w ++ digits)) where
+    -- then it has read the chunk, too, and has written `out` for it
     pub decode_more : (out : List ℕ) → Spells (take (2 * count) (w ++ digits)) out → HasRead e (t ++ chunk) (bs ++ out)
     decode_more out s =
         let u = w ++ digits in
@@ -120,7 +125,7 @@ module _ (d : Decoder) (chunk w digits : List ℕ)
           ) next_body;
           decoded = Spells-append r.pairs bs (take (2 * count) u) out r.decoded s;
           pending_valid = rw pending
-              (All-drop IsDigit (2 * count) u ((digits_append w digits).1 (fine r.pending_valid, all)));
+              (All-drop IsDigit (2 * count) u ((digits_append w digits).1 (w_digits r.pending_valid, all)));
         }
 
     -- the same if no byte is written
@@ -129,7 +134,7 @@ module _ (d : Decoder) (chunk w digits : List ℕ)
         let pairs = take (2 * count) (w ++ digits) in
         let even : length pairs % 2 ≡ 0 = simp length-take (omega (arith, half)) in
         let (more, s) = Spells-some pairs even
-        (All-take IsDigit (2 * count) _ ((digits_append w digits).1 (fine r.pending_valid, all))) in
+        (All-take IsDigit (2 * count) _ ((digits_append w digits).1 (w_digits r.pending_valid, all))) in
         (more, decode_more more s)
 
   -- what the chunk adds to the body
@@ -144,11 +149,11 @@ module _ (d : Decoder) (chunk w digits : List ℕ)
   first_invalid_in_chunk p shorter f =
       let v = r.pairs ++ w in
       let body : body_of (t ++ chunk) ≡ v ++ digits = next_body ∙ sym (append_assoc r.pairs w digits) in
-      let fine = (digits_append r.pairs w).1 (Spells-digits _ _ r.decoded, fine r.pending_valid) in
+      let before_digits = (digits_append r.pairs w).1 (Spells-digits _ _ r.decoded, w_digits r.pending_valid) in
       let before = r.position in
       let parts = ap length body ∙ length-append v digits in
       let named : FirstInvalidAt (v ++ digits) (length v + p) =
-      FirstInvalidAt-after (length v) (v ++ digits) p (rw (take_at v digits (length v) refl) fine)
+      FirstInvalidAt-after (length v) (v ++ digits) p (rw (take_at v digits (length v) refl) before_digits)
       (omega (arith, length-append v digits))
       (rw (drop_at v digits (length v) refl) f) in (
         length v + p + (length (t ++ chunk) - length (body_of (t ++ chunk))),
@@ -158,10 +163,12 @@ module _ (d : Decoder) (chunk w digits : List ℕ)
 
 -- ---- what a decoder has read
 
+-- the body of what was read without an error has only digits
 pub read_digits : (d : Decoder) (t bs : List ℕ) → HasRead d t bs → AllDigits (body_of t)
 read_digits d t bs r =
     rw r.body ((digits_append r.pairs (pending_digit d)).1 (Spells-digits _ _ r.decoded, r.pending_valid))
 
+-- what follows two or more characters is added to the body
 pub body-longer : (t u : List ℕ) → 2 ≤ length t → body_of (t ++ u) ≡ body_of t ++ u
 body-longer t u h = grind arith
 
@@ -181,16 +188,17 @@ read_front d t (b ∷ bs) u r =
 
 -- ---- the end of a text
 
--- there is no pending digit
+-- without a pending digit, there is none to add to the pairs
 none_pending : (d : Decoder) → d.state ≢ 1 → pending_digit d ≡ []
 none_pending d other = grind arith
 
-pub ends_even : (d : Decoder) (t bs : List ℕ) → HasRead d t bs → d.state ≢ 1 → Reads t (Ok bs)
+-- then the text decodes to the bytes that were written
+pub ends_even : (d : Decoder) (t bs : List ℕ) → HasRead d t bs → d.state ≢ 1 → DecodesTo t (Ok bs)
 ends_even d t bs r other =
     let whole : body_of t ≡ r.pairs = r.body ∙ rw (none_pending d other) (append-nil r.pairs) in
     (omega (arith, Spells-length r.pairs bs r.decoded, ap length whole, body-parity t), rw whole r.decoded)
 
--- there is a pending digit
+-- with a pending digit, the length of the text is odd
 pub ends_odd : (d : Decoder) (t bs : List ℕ) → HasRead d t bs → d.state ≡ 1 → IsOdd (length t)
 ends_odd d t bs r state_eq =
     let one : length (pending_digit d) ≡ 1 = grind arith in

@@ -1,7 +1,8 @@
 -- Texts that are written to a formatter in pieces.
 --
--- `s` and `t` are the states of a sink over the formatter, before and after, and `m` is one in between. `ps` are the
--- pieces.
+-- `s` and `t` are the states of a sink over the formatter, before and after, `m` is one in between, and `ps` are the
+-- pieces. `took` is what a write of text does to the formatter's destination. In a proof, the letters that its
+-- statement does not name are the hypotheses, in order.
 use Rattle.std.proofs.Common.{◌≡◌, ℕ, Bool, false, List, [], ◌∷◌, refl, subst, ◌∙◌, Result}
 use Rattle.std.specs.List.{concat}
 use Rattle.std.specs.Fmt.{WritesOnOk, WritesStyledOnOk, formatter_spec, spec_alternate}

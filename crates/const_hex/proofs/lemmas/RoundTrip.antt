@@ -1,9 +1,11 @@
 -- Encoded text decodes to the same bytes, and the decoded bytes encode to the text in lowercase.
 --
--- `t` and `u` are texts, `bs` are bytes, `r` is the result of decoding `t`, and `up` asks for uppercase.
+-- `t` and `u` are texts, `bs` are bytes, `r` is the result of decoding `t`, and `up` asks for uppercase. `DecodesTo t
+-- r` says that t decodes to the result r, `DecodesToExactly t n r` the same for n bytes, and `Spells u bs` that the
+-- digits u decode to bs. In a proof, the letters that its statement does not name are the hypotheses, in order.
 use Rattle.std.proofs.Common.{◌≡◌, ℕ, ◌+◌, ◌/◌, ◌%◌, nat_le, ◌&&◌, if◌then◌else◌, false, List, [], ◌∷◌, Some, refl, sym, ◌∙◌, arith, ◌↔◌, ◌*◌, Bool, true, length, Result, Ok, Err, IfOk, IfErr, ◌≢◌}
 use Rattle.std.proofs.lemmas.Bool.Decides.{nat_tests}
-use Rattle.const_hex.specs.Prelude.{hex_value, hex_digit, hex_text, Spells, lowered, full_text, body_of, Reads, ReadsSized, IsOdd, AreBytes, Decodes, DecodesToArray, FromHexError, NoMemory, OddLength}
+use Rattle.const_hex.specs.Prelude.{hex_value, hex_digit, hex_text, Spells, lowered, full_text, body_of, DecodesTo, DecodesToExactly, IsOdd, AreBytes, Decodes, DecodesToArray, FromHexError, NoMemory, OddLength}
 use Rattle.const_hex_arch.proofs.lemmas.Digits.{hex_value-small}
 use Rattle.const_hex_arch.proofs.lemmas.Texts.{Spells-same, Spells-bytes, Spells-hex_text, length-hex_text, length-full_text}
 use Rattle.const_hex.proofs.lemmas.Reading.{result_unique, sized_result_unique, sized_accepts}
@@ -34,6 +36,7 @@ Spells-agree u v xs ys s t =
     let of_ys = Spells-hex_text false ys (Spells-bytes v ys t) in
     (λ e. cc, λ e. Spells-same (hex_text false xs) xs ys of_xs (rw (a ∙ e ∙ sym b) of_ys))
 
+-- the lemmas that the proof search of callers may use
 pub ruleset read_back = (hex_text-lowered, Spells-agree)
 
 -- ---- encoded text decodes to the same bytes
@@ -46,21 +49,21 @@ body-full_text false up [] = refl
 body-full_text false up (b ∷ bs) = grind (arith, nat_tests)
 
 -- a text that was encoded from bytes decodes to them
-pub Reads-full_text : (t : List ℕ) (prefix up : Bool) (bs : List ℕ) → AreBytes bs → t ≡ full_text prefix up bs
-    → Reads t (Ok bs)
-Reads-full_text t prefix up bs h e = grind (arith, length-full_text, body-full_text, Spells-hex_text)
+pub DecodesTo-full_text : (t : List ℕ) (prefix up : Bool) (bs : List ℕ) → AreBytes bs → t ≡ full_text prefix up bs
+    → DecodesTo t (Ok bs)
+DecodesTo-full_text t prefix up bs h e = grind (arith, length-full_text, body-full_text, Spells-hex_text)
 
 -- ---- the results for any text
 
 -- from the clauses ok, err and odd follow all fields of the contract of `decode`
 pub Decodes-from : {V : Type 0} (items : V → List ℕ) (t : List ℕ) (r : Result V FromHexError)
-    → IfOk r (λ v. Reads t (Ok (items v))) → IfErr r (λ e. e ≢ NoMemory → Reads t (Err e))
+    → IfOk r (λ v. DecodesTo t (Ok (items v))) → IfErr r (λ e. e ≢ NoMemory → DecodesTo t (Err e))
     → (r ≡ Err OddLength) ↔ IsOdd (length t) → Decodes items t r
 Decodes-from items t (Ok v) ok err odd = record {
   ok = ok;
   err = err;
   odd = odd;
-  round_trip = λ prefix up bs h e. cc (result_unique t (Ok (items v)) (Ok bs) ok (Reads-full_text t prefix up bs h e));
+  round_trip = λ prefix up bs h e. cc (result_unique t (Ok (items v)) (Ok bs) ok (DecodesTo-full_text t prefix up bs h e));
   canonical = hex_text-lowered (body_of t) (items v) ok.1;
   agree = λ u bs k. Spells-agree (body_of u) (body_of t) bs (items v) k.1 ok.1;
 }
@@ -70,27 +73,27 @@ Decodes-from items t (Err f) ok err odd = record {
   odd = odd;
   round_trip = λ prefix up bs h e.
       let other = λ (not_memory : f ≢ NoMemory).
-      result_unique t (Err f) (Ok bs) (err not_memory) (Reads-full_text t prefix up bs h e) in
+      result_unique t (Err f) (Ok bs) (err not_memory) (DecodesTo-full_text t prefix up bs h e) in
       grind (arith, other);
   canonical = tt;
   agree = λ u bs k. tt;
 }
 
 -- two texts decode to the same n bytes if and only if they are the same in lowercase
-pub sized_agree : (n : ℕ) (t : List ℕ) (r : Result (List ℕ) FromHexError) → ReadsSized t n r
-    → (u bs : List ℕ) → ReadsSized u n (Ok bs) → IfOk r (λ v. (bs ≡ v) ↔ (lowered (body_of u) ≡ lowered (body_of t)))
+pub sized_agree : (n : ℕ) (t : List ℕ) (r : Result (List ℕ) FromHexError) → DecodesToExactly t n r
+    → (u bs : List ℕ) → DecodesToExactly u n (Ok bs) → IfOk r (λ v. (bs ≡ v) ↔ (lowered (body_of u) ≡ lowered (body_of t)))
 sized_agree n t (Ok v) h u bs k = Spells-agree (body_of u) (body_of t) bs v k.1.1 h.1.1
 sized_agree n t (Err e) h u bs k = tt
 
--- from `ReadsSized` follow all fields of the contract of `decode_to_array`
-pub DecodesToArray-from_ReadsSized : (n : ℕ) (t : List ℕ) (r : Result (List ℕ) FromHexError) → ReadsSized t n r
+-- from `DecodesToExactly` follow all fields of the contract of `decode_to_array`
+pub DecodesToArray-from_DecodesToExactly : (n : ℕ) (t : List ℕ) (r : Result (List ℕ) FromHexError) → DecodesToExactly t n r
     → DecodesToArray n t r
-DecodesToArray-from_ReadsSized n t r h = record {
+DecodesToArray-from_DecodesToExactly n t r h = record {
   outcome = h;
   accepts = sized_accepts n t r h;
   round_trip = λ prefix up bs bytes len e.
       let twice : length (body_of t) ≡ 2 * n = rw (e, body-full_text prefix up bs, length-hex_text up bs, len) refl in
-      sized_result_unique t n r (Ok bs) h (twice, Reads-full_text t prefix up bs bytes e);
+      sized_result_unique t n r (Ok bs) h (twice, DecodesTo-full_text t prefix up bs bytes e);
   agree = sized_agree n t r h;
   unique = λ s k. sized_result_unique t n s r k h;
 }

@@ -9,11 +9,6 @@
 -- they are. `EncodedStr` is the walk for a function that passes a slice mutably to one call, and then immutably to
 -- another: `encode_to_str` and `encode_to_str_upper`. The `Proof.antt` of each function passes its calls to the walk.
 --
--- The steps: `sets` executes an assignment, `calls_at` a call by its contract, and `lands_as` stores the result;
--- `alloc_all` and `free_all` begin and end the locals' storage. Of the resources, `move` permutes them, `split` and
--- `join` take apart and build separating conjunctions, `drop` discards one, `pick` opens an existential, `await`
--- removes an update of ghost state, `heard` extracts a pure fact, and `frame` proves the first part of the goal.
---
 -- What breaks a walk: it refers to the function's locals by number, and to its calls in order. So a new local, a new
 -- call or another order in one of these functions breaks it. Other code does not.
 --
@@ -34,6 +29,7 @@ abbrev pub flag : Bool → Operand
 flag true = opd_true
 flag false = opd_false
 
+-- to evaluate this operand gives the Boolean
 pub flag_lit : {M : Type 1} {𝓤 : Ura M} {𝓛 : Logic 𝓤} {K : Type 0} {Γ : List (Item 𝓤)} {E : Env 𝓤 𝓛.H} (up : Bool) → K
     → Opd K 𝓛 Γ E (flag up) (vbool up)
 flag_lit true = true_lit

@@ -1,5 +1,7 @@
 //! An array of ASCII bytes, which can be borrowed as text.
 
+// Terms of the contracts:
+// - `full_text prefix upper bs`: the text of bs, after `0x` if `prefix` is true
 ghost use Rattle.std.specs.Prelude.{◌≡◌, ◌<◌, length, replicate, slice_set, IsAscii};
 ghost use Rattle.const_hex_arch.specs.Texts.{full_text, text_length};
 

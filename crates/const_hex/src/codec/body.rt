@@ -1,9 +1,17 @@
 //! The body of a text, which is what follows the prefix: removing the prefix, finding the first invalid
 //! character, and decoding with a kernel.
 
+// Terms of the contracts:
+// - `DecodesTo t r`: the text t decodes to the result r
+// - `NamesFirstInvalid t c i`: c is the first invalid character of t, at the position i
+// - `body_of t`: t without its prefix
+// - `Spells u bs`: the digits u decode to the bytes bs
+// - `FirstInvalidAt u p`: p is the index of the first byte of u that is not a digit
+// - `Partial old u new`: what an output holds after the digits u were rejected: some bytes before the invalid
+//   character, and else what it held
 ghost use Rattle.std.specs.Prelude.{◌≡◌, ◌+◌, ◌-◌, ◌*◌, ◌%◌, ◌<◌, ◌≤◌, ◌==◌, ◌&&◌, ◌||◌, ◌↔◌, true, false, length, take, drop, slice_index, Err, IfErr, IfOk, IsTrue};
 ghost use Rattle.const_hex_arch.specs.Texts.{AllDigits, IsDigit, FirstInvalidAt, Spells, Partial};
-ghost use Rattle.const_hex.specs.Results.{IsEven, IsOdd, NamesFirstInvalid, Reads, body_of};
+ghost use Rattle.const_hex.specs.Results.{IsEven, IsOdd, NamesFirstInvalid, DecodesTo, body_of};
 ghost use Rattle.const_hex.specs.declared.error.FromHexError.TheVariants.{OddLength, InvalidHexCharacter};
 
 use crate::error::FromHexError;
@@ -61,7 +69,7 @@ pub(crate) fn is_digit_pair(first: u8, second: u8) -> bool
 pub(crate) fn find_invalid_character<K: Kernel>(text: &[u8]) -> FromHexError
     requires even { IsEven (length text.now) }
     requires invalid { AllDigits (body_of text.now) → ⊥ }
-    ensures { Reads text.now (Err result) }
+    ensures { DecodesTo text.now (Err result) }
 {
     let (c, index) = locate_invalid::<K>(text);
     FromHexError::InvalidHexCharacter { c, index }

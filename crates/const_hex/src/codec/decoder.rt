@@ -1,7 +1,16 @@
 //! The streaming decoder, for a text that arrives in chunks.
 
+// Terms of the contracts:
+// - `DecodesTo t r`: the text t decodes to the result r
+// - `HasRead d t bs`: the decoder d has read t without an error, and has written bs for it
+// - `body_of t`: t without its prefix
+// - `Spells u bs`: the digits u decode to the bytes bs
+// - `FirstInvalidAt u p`: p is the index of the first byte of u that is not a digit
+// - `Partial old u new`: what an output holds after the digits u were rejected: some bytes before the invalid
+//   character, and else what it held
+// - `saturated n`: n, but at most `usize::MAX`
 ghost use Rattle.std.specs.Prelude.{◌≡◌, ◌≢◌, ℕ, List, [], ◌∷◌, None, ◌++◌, ◌*◌, ◌+◌, ◌/◌, ◌%◌, ◌≤◌, ◌↔◌, Some, Ok, Err, true, false, length, take, drop, slice_index, IsOk, OnErr, IfSome, IsTrue, option_to_list};
-ghost use Rattle.const_hex.specs.Prelude.{AllDigits, FirstInvalidAt, IsDigit, Partial, Spells, IsOdd, Reads, body_of, HasRead, saturated, error_of, position_of, pending_digit, zero_decoder, ChecksChunk, DecodesChunk, FromHexError, OddLength, InvalidStringLength, InvalidHexCharacter};
+ghost use Rattle.const_hex.specs.Prelude.{AllDigits, FirstInvalidAt, IsDigit, Partial, Spells, IsOdd, DecodesTo, body_of, HasRead, saturated, error_of, position_of, pending_digit, zero_decoder, ChecksChunk, DecodesChunk, FromHexError, OddLength, InvalidStringLength, InvalidHexCharacter};
 
 use crate::codec::body::{
     decode_body, find_first_invalid, invalid_character, is_prefix, strip_prefix,
@@ -168,7 +177,7 @@ impl Decoder {
     /// ```
     #[inline]
     pub fn finish(self) -> Result<(), FromHexError>
-        ensures ok { (t bs : List ℕ) → HasRead self t bs → IsOk result ↔ Reads t (Ok bs) }
+        ensures ok { (t bs : List ℕ) → HasRead self t bs → IsOk result ↔ DecodesTo t (Ok bs) }
         ensures odd { (t bs : List ℕ) → HasRead self t bs
             → (result ≡ Err OddLength) ↔ IsOdd (length t) }
         ensures err { (t bs : List ℕ) → HasRead self t bs
@@ -265,7 +274,7 @@ impl Decoder {
         ensures names { (AllDigits digits.now → ⊥) → (p : ℕ) × FirstInvalidAt digits.now p
             × (result ≡ InvalidHexCharacter (slice_index digits.now p)
             (saturated (position_of self.old + skipped + p))) }
-        ensures ended { error_of self.new ≡ Some result }
+        ensures error_stored { error_of self.new ≡ Some result }
         ensures length { result ≢ InvalidStringLength }
     {
         let (byte, index) = find_first_invalid::<K>(digits);

@@ -1,7 +1,10 @@
 //! Decoding a complete text.
 
+// Terms of the contracts:
+// - `DecodesToExactly t n r`: t, as n bytes, decodes to r
+// - `body_of t`: t without its prefix
 ghost use Rattle.std.specs.Prelude.{◌≡◌, ◌*◌, false, length, IsTrue, Ok};
-ghost use Rattle.const_hex.specs.Prelude.{body_of, ReadsSized, all_digits, DecodesToSlice, DecodesToFront, DecodesToArray};
+ghost use Rattle.const_hex.specs.Prelude.{body_of, DecodesToExactly, all_digits, DecodesToSlice, DecodesToFront, DecodesToArray};
 
 use crate::codec::body::{decode_body, find_invalid_character, strip_even, strip_prefix};
 use crate::codec::checks::const_check;
@@ -175,7 +178,7 @@ pub fn const_decode_to_array<const N: usize>(input: &[u8]) -> Result<[u8; N], Fr
 pub fn bytes_of<const N: usize>(text: &[u8]) -> [u8; N]
     requires size { length (body_of text.now) ≡ 2 * N }
     requires digits { IsTrue (all_digits (body_of text.now)) }
-    ensures { ReadsSized text.now N (Ok result) }
+    ensures { DecodesToExactly text.now N (Ok result) }
 {
     decode_to_array(text).unwrap()
 }

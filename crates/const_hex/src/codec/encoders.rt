@@ -1,5 +1,9 @@
 //! Encoding bytes as text in a slice.
 
+// Terms of the contracts:
+// - `hex_text upper bs`: two digits for each of the bytes bs
+// - `full_text prefix upper bs`: the text of bs, after `0x` if `prefix` is true
+// - `Rests R s P`: P holds of what s borrows once the result's borrow of it ends
 ghost use Rattle.std.specs.Prelude.{◌≡◌, ◌≢◌, ◌*◌, true, false, length, IsOk, IfOk, IfErr, Err, MatchResult, ◌↔◌, IsAscii};
 ghost use Rattle.std.specs.Borrow.{sem, Array, u8};
 ghost use Rattle.std.specs.Io.BufRead.{Rests};

@@ -43,12 +43,12 @@ impl<'f, W: fmt::Write> FormatterSink<'f, W> {
 impl<W: fmt::Write> Sink for FormatterSink<'_, W> {
     ghost step = { FormatterStep W.write_str_gives };
 
-    ghost is_refused = { λ s. formatter_failed s };
+    ghost has_failed = { λ s. formatter_failed s };
 
     ghost reported = { λ _. None };
 
     #[inline]
-    fn refused(&self) -> bool {
+    fn has_failed(&self) -> bool {
         self.failed
     }
 

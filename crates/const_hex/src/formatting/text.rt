@@ -1,5 +1,8 @@
 //! The type that `display` returns.
 
+// Terms of the contracts:
+// - `hex_text upper bs`: two digits for each of the bytes bs
+// - `WritesStyledOnOk took f r text g`: at `Ok` the text was written, from the formatter f to g
 ghost use Rattle.std.specs.Prelude.{Some, true, false};
 ghost use Rattle.std.specs.Fmt.{WritesStyledOnOk, formatter_spec, spec_alternate};
 ghost use Rattle.const_hex.specs.Prelude.{hex_text, display_bytes, printed_text};

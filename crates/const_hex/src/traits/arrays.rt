@@ -1,6 +1,8 @@
 //! Decoding into arrays.
 
-ghost use Rattle.const_hex.specs.Prelude.{ReadsSized, DecodesToArray, IsCount, ReadsSized-faithful};
+// Terms of the contracts:
+// - `DecodesToExactly t n r`: t, as n bytes, decodes to r
+ghost use Rattle.const_hex.specs.Prelude.{DecodesToExactly, DecodesToArray, IsCount, DecodesToExactly-faithful};
 
 use crate::codec::decoders::decode_to_array;
 use crate::error::FromHexError;
@@ -15,9 +17,9 @@ impl<const N: usize> FromHex for [u8; N] {
 
     ghost fits = { IsCount N };
 
-    ghost answers = { λ t r. ReadsSized t N r };
+    ghost results = { λ t r. DecodesToExactly t N r };
 
-    ghost faithful = { ReadsSized-faithful N };
+    ghost faithful = { DecodesToExactly-faithful N };
 
     fn from_hex(_alloc: Global, hex: &[u8]) -> Result<[u8; N], FromHexError>
         ensures { DecodesToArray N hex.now result }

@@ -1,5 +1,7 @@
 //! The text of bytes, one character at a time.
 
+// Terms of the contracts:
+// - `hex_text upper bs`: two digits for each of the bytes bs
 ghost use Rattle.std.specs.Prelude.{◌≡◌, IfSome, length};
 ghost use Rattle.std.specs.Iterator.{YieldsFirst, item_count, UpTo};
 ghost use Rattle.std.specs.Iterator.SizeHint.{IsWithinCount};

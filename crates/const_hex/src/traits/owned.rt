@@ -1,7 +1,7 @@
 //! Decoding into vectors and boxed slices.
 
 ghost use Rattle.std.specs.Box.{boxed_slice_items};
-ghost use Rattle.const_hex.specs.Prelude.{AnyCount, ReadsOwned, ReadsOwned-faithful};
+ghost use Rattle.const_hex.specs.Prelude.{AnyCount, DecodesToOwned, DecodesToOwned-faithful};
 
 use crate::error::FromHexError;
 use crate::owned::decode;
@@ -17,9 +17,9 @@ impl FromHex for Vec<u8> {
 
     ghost fits = { AnyCount };
 
-    ghost answers = { ReadsOwned (λ v. v.items) };
+    ghost results = { DecodesToOwned (λ v. v.items) };
 
-    ghost faithful = { ReadsOwned-faithful (λ v. v.items) };
+    ghost faithful = { DecodesToOwned-faithful (λ v. v.items) };
 
     fn from_hex(alloc: Global, hex: &[u8]) -> Result<Vec<u8>, FromHexError> {
         decode(alloc, hex)
@@ -34,9 +34,9 @@ impl FromHex for BoxedSlice<u8> {
 
     ghost fits = { AnyCount };
 
-    ghost answers = { ReadsOwned boxed_slice_items };
+    ghost results = { DecodesToOwned boxed_slice_items };
 
-    ghost faithful = { ReadsOwned-faithful boxed_slice_items };
+    ghost faithful = { DecodesToOwned-faithful boxed_slice_items };
 
     fn from_hex(alloc: Global, hex: &[u8]) -> Result<BoxedSlice<u8>, FromHexError> {
         Ok(decode(alloc, hex)?.into_boxed_slice())

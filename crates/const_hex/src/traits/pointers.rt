@@ -1,6 +1,6 @@
 //! Decoding into a `Box` or an `Rc`.
 
-ghost use Rattle.const_hex.specs.Prelude.{ReadsThrough, ReadsThrough-faithful};
+ghost use Rattle.const_hex.specs.Prelude.{DecodesToPointer, DecodesToPointer-faithful};
 
 use crate::traits::faults::HexFault;
 use crate::traits::reading::FromHex;
@@ -18,10 +18,10 @@ impl<T: FromHex + Drop> FromHex for Box<T> {
 
     ghost fits = { T.fits };
 
-    ghost answers = { ReadsThrough (λ b. b.value) T.Error.is_of_memory T.answers };
+    ghost results = { DecodesToPointer (λ b. b.value) T.Error.is_of_memory T.results };
 
-    ghost faithful = { ReadsThrough-faithful (λ b. b.value)
-        T.bytes T.fits T.Error.is_of_memory T.answers T.faithful };
+    ghost faithful = { DecodesToPointer-faithful (λ b. b.value)
+        T.bytes T.fits T.Error.is_of_memory T.results T.faithful };
 
     fn from_hex(alloc: Global, hex: &[u8]) -> Result<Box<T>, T::Error> {
         let value = T::from_hex(alloc, hex)?;
@@ -40,10 +40,10 @@ impl<T: FromHex + Drop> FromHex for Rc<T> {
 
     ghost fits = { T.fits };
 
-    ghost answers = { ReadsThrough (λ b. b.value) T.Error.is_of_memory T.answers };
+    ghost results = { DecodesToPointer (λ b. b.value) T.Error.is_of_memory T.results };
 
-    ghost faithful = { ReadsThrough-faithful (λ b. b.value)
-        T.bytes T.fits T.Error.is_of_memory T.answers T.faithful };
+    ghost faithful = { DecodesToPointer-faithful (λ b. b.value)
+        T.bytes T.fits T.Error.is_of_memory T.results T.faithful };
 
     fn from_hex(alloc: Global, hex: &[u8]) -> Result<Rc<T>, T::Error> {
         let value = T::from_hex(alloc, hex)?;

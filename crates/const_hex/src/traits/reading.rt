@@ -1,5 +1,7 @@
 //! Decoding a text into a type.
 
+// Terms of the contracts:
+// - `IsFaithful bytes fits is_memory t r`: the law, for the result r of the text t
 ghost use Rattle.std.specs.Prelude.{ℕ, List, Result};
 ghost use Rattle.const_hex.specs.Prelude.{IsFaithful};
 
@@ -31,7 +33,7 @@ pub trait FromHex: Sized {
     ghost fits: { ℕ → Type 0 };
 
     /// The results that a text may have.
-    ghost answers: { List ℕ → Result Self Self.Error → Type 0 };
+    ghost results: { List ℕ → Result Self Self.Error → Type 0 };
 
     /// Decodes a text, with or without a prefix, in either case, to a value with its bytes.
     ///
@@ -41,11 +43,11 @@ pub trait FromHex: Sized {
     /// assert_eq!(rt; <[u8; 4] as FromHex>::from_hex(rt.alloc(), b"6B697769"), Ok(*b"kiwi"));
     /// ```
     fn from_hex(alloc: Global, hex: &[u8]) -> Result<Self, Self::Error>
-        ensures { answers hex.now result };
+        ensures { results hex.now result };
 
     /// A value has the decoded bytes, and a number of them that the type allows. An error means
     /// that an allocation failed, that the text cannot be decoded, or that its number of bytes is
     /// not allowed.
-    ghost faithful: { (t : List ℕ) (r : Result Self Self.Error) → answers t r
+    ghost faithful: { (t : List ℕ) (r : Result Self Self.Error) → results t r
         → IsFaithful bytes fits Self.Error.is_of_memory t r };
 }

@@ -1,8 +1,10 @@
 //! Decoding into signed numbers, which have the bits of the bytes.
 
+// Terms of the contracts:
+// - `DecodesToExactly t n r`: t, as n bytes, decodes to r
 ghost use Rattle.std.specs.Prelude.{◌≡◌, length, map};
 ghost use Rattle.std.specs.Box.{boxed_slice_items};
-ghost use Rattle.const_hex.specs.Prelude.{ReadsSized, signed_of, byte_of, AnyCount, IsCount, ReadsOwned, ReadsSigned, ReadsOwned-faithful, ReadsSized-faithful, ReadsSigned-faithful};
+ghost use Rattle.const_hex.specs.Prelude.{DecodesToExactly, signed_of, byte_of, AnyCount, IsCount, DecodesToOwned, DecodesToSigned, DecodesToOwned-faithful, DecodesToExactly-faithful, DecodesToSigned-faithful};
 
 use crate::codec::decoders::decode_to_array;
 use crate::error::FromHexError;
@@ -31,10 +33,10 @@ impl FromHex for Vec<i8> {
 
     ghost fits = { AnyCount };
 
-    ghost answers = { ReadsSigned (λ v. v.items) (ReadsOwned (λ bs. bs)) };
+    ghost results = { DecodesToSigned (λ v. v.items) (DecodesToOwned (λ bs. bs)) };
 
-    ghost faithful = { ReadsSigned-faithful (λ v. v.items) AnyCount (ReadsOwned (λ bs. bs))
-        (ReadsOwned-faithful (λ bs. bs)) };
+    ghost faithful = { DecodesToSigned-faithful (λ v. v.items) AnyCount (DecodesToOwned (λ bs. bs))
+        (DecodesToOwned-faithful (λ bs. bs)) };
 
     fn from_hex(alloc: Global, hex: &[u8]) -> Result<Vec<i8>, FromHexError> {
         let bytes = decode(alloc, hex)?;
@@ -52,10 +54,10 @@ impl FromHex for BoxedSlice<i8> {
 
     ghost fits = { AnyCount };
 
-    ghost answers = { ReadsSigned boxed_slice_items (ReadsOwned (λ bs. bs)) };
+    ghost results = { DecodesToSigned boxed_slice_items (DecodesToOwned (λ bs. bs)) };
 
-    ghost faithful = { ReadsSigned-faithful boxed_slice_items AnyCount (ReadsOwned (λ bs. bs))
-        (ReadsOwned-faithful (λ bs. bs)) };
+    ghost faithful = { DecodesToSigned-faithful boxed_slice_items AnyCount (DecodesToOwned (λ bs. bs))
+        (DecodesToOwned-faithful (λ bs. bs)) };
 
     fn from_hex(alloc: Global, hex: &[u8]) -> Result<BoxedSlice<i8>, FromHexError> {
         let numbers = <Vec<i8> as FromHex>::from_hex(alloc, hex)?;
@@ -72,10 +74,10 @@ impl<const N: usize> FromHex for [i8; N] {
 
     ghost fits = { IsCount N };
 
-    ghost answers = { ReadsSigned (λ numbers. numbers) (λ t r. ReadsSized t N r) };
+    ghost results = { DecodesToSigned (λ numbers. numbers) (λ t r. DecodesToExactly t N r) };
 
-    ghost faithful = { ReadsSigned-faithful (λ numbers. numbers) (IsCount N)
-        (λ t r. ReadsSized t N r) (ReadsSized-faithful N) };
+    ghost faithful = { DecodesToSigned-faithful (λ numbers. numbers) (IsCount N)
+        (λ t r. DecodesToExactly t N r) (DecodesToExactly-faithful N) };
 
     fn from_hex(_alloc: Global, hex: &[u8]) -> Result<[i8; N], FromHexError> {
         let bytes = decode_to_array::<N>(hex)?;

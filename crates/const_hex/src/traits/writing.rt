@@ -1,5 +1,8 @@
 //! Encoding a value's bytes as text.
 
+// Terms of the contracts:
+// - `hex_text upper bs`: two digits for each of the bytes bs
+// - `full_text prefix upper bs`: the text of bs, after `0x` if `prefix` is true
 ghost use Rattle.std.specs.Prelude.{◌≡◌, ℕ, List, true, false, IfOk, string_bytes};
 ghost use Rattle.const_hex.specs.Prelude.{hex_text, full_text};
 

@@ -1,9 +1,12 @@
--- Inputs that are processed block by block (`long.rt`, `plain.rt`), and short inputs that are processed as their first
--- bytes and their last bytes (`short.rt`).
+-- Inputs that are processed block by block (`long.rt`, `plain.rt`), and short inputs that are processed as their
+-- first bytes and their last bytes (`short.rt`).
 --
--- `u` is the input, `old` and `new` are the output before and after, and `r` is what one block writes. `i` bytes are
--- done, `n` are those of a block, `m` is the length of its text, and `d` is the fact that the first `i` are done. `up`
--- asks for uppercase.
+-- `u` is the input, `old` and `new` are the output before and after, and `r` is what one block writes: `put_mid i n
+-- new r` is `new` with r in the place of its n bytes from i on. `i` bytes are done, `n` are those of a block, `m` is
+-- the length of its text, and `d` is the fact that the first `i` are done. `up` asks for uppercase. `step` and
+-- `space` are those of an output, as `Writes` has them. `Spells u bs` says that the digits u decode to bs, and
+-- `Partial old u new` what an output holds after u was rejected. In a proof, the letters that its statement does not
+-- name are the hypotheses, in order.
 use Rattle.std.proofs.Common.{◌^◌, ◌≡◌, ℕ, ◌+◌, ◌-◌, ◌*◌, ◌<◌, ◌≤◌, ◌↔◌, List, [], ◌∷◌, ◌++◌, length, take, drop, slice_index, slice_index_or, refl, ap, ◌∙◌, arith, take-add, take-append-drop, drop-drop, length-take, length-append, Option, IsAscii, Bool, false, IsTrue, sym, ◌/◌, ◌%◌, get_or, append-nil, length-drop, replicate, zero, suc}
 use Rattle.std.proofs.lemmas.Bool.{false≢true}
 use Rattle.std.proofs.lemmas.Grind.{common_steps}
@@ -44,6 +47,7 @@ digits_last u i e h d = (
 -- ---- the text of bytes is written but for the rest of them: with it, all is, and there is space for it
 pub record IsWritten {S : Type 0} (step : S → List ℕ → S → Type 0) (space : S → Option ℕ) (up : Bool) (bytes : List ℕ)
     (old new : S) (rest : List ℕ) : Type 0 where
+  -- a write of the text of the rest completes the text
   pub onward : (t : S) → Writes step new (hex_text up rest) t → Writes step old (hex_text up bytes) t
   pub has_space : HasSpace (space new) (2 * length rest)
   pub ascii : IsAscii (hex_text up rest)
@@ -52,6 +56,7 @@ pub record IsWritten {S : Type 0} (step : S → List ℕ → S → Type 0) (spac
 pub first_ascii : (xs ys : List ℕ) → IsAscii (xs ++ ys) → IsAscii xs
 first_ascii xs ys h = rw take_at at (IsAscii-take (xs ++ ys) (length xs) h)
 
+-- the same for the second part
 later_ascii : (xs ys : List ℕ) → IsAscii (xs ++ ys) → IsAscii ys
 later_ascii xs ys h k =
     let at : slice_index (xs ++ ys) (length xs + k) < 128 = h (length xs + k) in grind (arith, common_steps, at)
@@ -131,12 +136,15 @@ rejected_block {u} {old} {new} {r} {i} j n m k d size test e is_false =
 -- ---- the remainder, which another call decodes
 module _ {u old new : List ℕ} {i : ℕ} (r : List ℕ) (d : IsDecoded u old new i) (size : length u ≡ 2 * length old)
     (long : length r ≡ length new - i) where
+  -- the output: the bytes that were decoded before, and then the remainder
   whole : put_mid i (length new - i) new r ≡ take i new ++ r
   whole = grind (arith, common_steps, append-nil)
 
+  -- if the remainder is decoded, the whole text is
   pub spells_rest : Spells (take (length u - 2 * i) (drop (2 * i) u)) r → Spells u (put_mid i (length new - i) new r)
   spells_rest s = rw whole (rw take-append-drop at (Spells-append _ _ _ _ d.front (rw take_rest at s)))
 
+  -- if the remainder is rejected, the whole text is
   pub rejected_rest : Partial (take (length new - i) (drop i new)) (take (length u - 2 * i) (drop (2 * i) u)) r
       → Partial old u (put_mid i (length new - i) new r)
   rejected_rest p =
@@ -189,6 +197,7 @@ padded_lanes (x ∷ front) m h =
     let same : (x + 0) % 2 ^ 8 ≡ x = omega arith in
     cc (same, padded_lanes front m (λ k. h (suc k)))
 
+-- the same for a short input whose first and last bytes are loaded into a vector of N lanes
 pub padded_first_and_last : (n N : ℕ) (front zeros : List ℕ) → length front ≡ n → n ≤ N → zeros ≡ take n (replicate N 0)
     → ((k : ℕ) → get_or front k 0 < 256)
     → zip2 add8 (front ++ drop n (replicate N 0)) (zeros ++ drop n (replicate N 48)) ≡ front ++ replicate (N - n) 48
@@ -223,6 +232,7 @@ pub record IsFilled (up : Bool) (u new : List ℕ) (i : ℕ) : Type 0 where
   pub size : length new ≡ 2 * length u
   pub front : take (2 * i) new ≡ hex_text up (take i u)
 
+-- before the first block
 pub none_filled : {up : Bool} {u new : List ℕ} → length new ≡ 2 * length u → IsFilled up u new 0
 none_filled {up} {u} {new} e = record { within = omega arith; size = e; front = sym (hex_text-nil up) }
 
@@ -240,6 +250,7 @@ pub filled_one : {up : Bool} {u new : List ℕ} {i end : ℕ} (r : List ℕ) (m 
 filled_one {up} {u} {new} {i} r m d h e f s =
     filled_block r 1 m d e (omega arith) f (s ∙ sym (hex_text-one up u i h))
 
+-- the lemmas that the proof search of `Plain::fill` may use
 pub ruleset fills = (none_filled, filled_one, hex_text-nil)
 
 -- fewer bytes are written than there are

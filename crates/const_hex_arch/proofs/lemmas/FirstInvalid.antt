@@ -1,7 +1,10 @@
 -- The first invalid character of a text, and what an output holds after the text was rejected.
 --
 -- `u` is the text, `p` is the index of its first invalid character, and `old` and `new` are the output before and
--- after. `i` or `k` bytes were decoded before the text was rejected.
+-- after. `i` or `k` bytes were decoded before the text was rejected, and `m` is twice that number. `Spells u bs` says
+-- that the digits u decode to bs, and `Partial old u new` that `new` is such an output: some bytes before the invalid
+-- character are decoded, and the rest is as in `old`. In a proof, the letters that its statement does not name are
+-- the hypotheses, in order.
 use Rattle.std.proofs.Common.{◌≡◌, ℕ, zero, suc, ◌+◌, ◌-◌, ◌%◌, ◌<◌, ◌≤◌, List, [], ◌∷◌, length, take, drop, slice_index, ◌⊎◌, inl, inr, refl, arith, take-add, length-take, get_or-take, get_or-drop, is_some, ◌*◌, get_or, bit_or, sym, ◌∙◌, drop-drop, subst, eq-zero-or-pos, true, false, Bool}
 use Rattle.std.specs.Bool.{IsTrue}
 use Rattle.std.proofs.lemmas.List.{drop-take}
@@ -17,12 +20,13 @@ use Rattle.const_hex_arch.proofs.lemmas.Texts.{IsPair-of, Spells-append, Spells-
 pub digits_not_invalid : (u : List ℕ) (p : ℕ) → AllDigits u → FirstInvalidAt u p → ⊥
 digits_not_invalid u p a f = no_value (hex_value (slice_index u p)) f.here (All-get_or IsDigit u p 0 f.within a)
 
--- a text has one first invalid character
+-- of two first invalid characters, none comes before the other
 not_before : (u : List ℕ) (p q : ℕ) → p < q → FirstInvalidAt u p → FirstInvalidAt u q → ⊥
 not_before u p q h f g =
     let len : p < length (take q u) = simp length-take (omega arith) in
     no_value _ f.here (rw (get_or-take q u p 0 h) at (All-get_or IsDigit (take q u) p 0 len g.before))
 
+-- a text has one first invalid character
 pub FirstInvalidAt-unique : (u : List ℕ) (p q : ℕ) → FirstInvalidAt u p → FirstInvalidAt u q → p ≡ q
 FirstInvalidAt-unique u p q f g = grind (arith, not_before)
 

@@ -1,10 +1,14 @@
--- Digits in vectors of any number of lanes: their values, the bytes that they make, and the tests of lanes. The numbers
--- are those of lanes16.rt and lanes.rt, which docs/DESIGN.md explains under "Checking and decoding one vector": adding
--- 208 subtracts `0`, 143 (0x8F) is the part of a byte that looks up its limit, and 216 (0xD8) is the mask of the error
--- bits.
+-- Digits in vectors of any number of lanes: their values, the bytes that they make, and the tests of lanes. The
+-- numbers are those of lanes16.rt and lanes.rt, which docs/DESIGN.md explains under "Checking and decoding one
+-- vector": adding 208 subtracts `0`, 143 (0x8F) is the part of a byte that looks up its limit, and 216 (0xD8) is the
+-- mask of the error bits.
 --
 -- `v` has the lanes of a vector, `ns` has their values, and `n` is the value of the byte `b`. `h` and `l` are a high
--- and a low nibble. `f` is the fact that each lane is a byte. Names that end in `_l` are operations on all lanes.
+-- and a low nibble. `f` is the fact that each lane is a byte. `AllZip R v ns` says that R holds for each lane and its
+-- value, `zip2` applies an operation to the lanes of two vectors, and `sel_l` selects lanes by a mask. `digits_l k n`
+-- are the n lowest digits of a number to the base k, and `number_l` is its inverse. Names that end in `_l` are
+-- operations on all lanes. `Spells u bs` says that the digits u decode to bs. In a proof, the letters that its
+-- statement does not name are the hypotheses, in order.
 use Rattle.std.proofs.Common.{◌≡◌, ℕ, ◌+◌, ◌-◌, ◌%◌, ◌^◌, ◌<◌, ◌≤◌, Bool, true, false, cond, eqb, ltb, T, ◌||◌, List, [], ◌∷◌, map, length, replicate, get_or, bit_and, refl, ap, arith, w8, Fits, Option, Some, None, IsSome, is_none, eqb→eq, zero, suc, ◌*◌, ◌/◌, ◌++◌, take, drop, sym, ◌∙◌, le-leb, length-append, ◌↔◌, ltb→lt, bit_or, subst, IsTrue, is_some}
 use Rattle.std.specs.List.{AllZip}
 use Rattle.std.proofs.lemmas.Bool.{false≢true, agree_below, agree_below_at}
@@ -25,34 +29,42 @@ use mir.Val.{zeroes}
 
 -- ---- a test whether two values are equal
 
+-- whether two options are equal, as a test that can be computed
 abbrev pub same_value : Option ℕ → Option ℕ → Bool
 same_value None None = true
 same_value (Some a) (Some b) = eqb a b
 same_value _ _ = false
 
+-- what this test means
 pub same_value-true : (o p : Option ℕ) → T (same_value o p) → o ≡ p
 same_value-true None None t = refl
 same_value-true (Some a) (Some b) t = ap Some (eqb→eq a b t)
 same_value-true _ _ t = absurd t
 
+-- the same for a test that is made only if there is a value
 pub same_if_some : (o p : Option ℕ) → T (is_none o || same_value o p) → IsSome o → o ≡ p
 same_if_some (Some v) p t s = same_value-true (Some v) p t
 same_if_some _ p t s = absurd (false≢true s)
 
 -- ---- the operations on a vector
 
+-- addition of lanes, modulo 256
 abbrev pub add8 : ℕ → ℕ → ℕ
 add8 a b = (a + b) % 2 ^ 8
 
+-- subtraction of lanes, modulo 256
 abbrev pub sub8 : ℕ → ℕ → ℕ
 sub8 a b = (a + (2 ^ 8 - b)) % 2 ^ 8
 
+-- a mask of 8 bits: all are set if a is below b
 abbrev pub below_mask : ℕ → ℕ → ℕ
 below_mask a b = cond (ltb a b) 255 0
 
+-- the minimum in each lane
 abbrev pub min_l : List ℕ → List ℕ → List ℕ
 min_l xs ys = sel_l (map (top 7) (zip2 below_mask xs ys)) xs ys
 
+-- saturating subtraction in each lane
 abbrev pub satsub_l : List ℕ → List ℕ → List ℕ
 satsub_l xs ys = zip2 sub8 (sel_l (map (top 7) (zip2 below_mask xs ys)) ys xs) ys
 
@@ -71,11 +83,13 @@ unhex_l n v =
 
 -- ---- one lane, by computing all 256 cases
 
+-- `nibbles` computes the value of a byte, or no nibble if it is no digit
 nibble_at : (b : ℕ) → b < 256 → as_value (get_or (nibbles_l 1 (b ∷ [])) 0 0) ≡ hex_value b
 nibble_at b h =
     same_value-true _ _
     (every_below (λ b. same_value (as_value (get_or (nibbles_l 1 (b ∷ [])) 0 0)) (hex_value b)) 256 tt b h)
 
+-- `unhex` computes the value of a digit
 unhex_at : (b : ℕ) → b < 256 → IsDigit b → hex_value b ≡ Some (get_or (unhex_l 1 (b ∷ [])) 0 0)
 unhex_at b h s =
     same_if_some _ _
@@ -84,26 +98,32 @@ unhex_at b h s =
 
 -- ---- all lanes
 
+-- `nibbles` computes the values of all lanes
 pub nibbles_are : (v : List ℕ) → Each1 (Fits w8) v → map as_value (nibbles_l (length v) v) ≡ map hex_value v
 nibbles_are [] f = refl
 nibbles_are (x ∷ xs) f = cc (nibble_at x f.0.fits, nibbles_are xs f.1)
 
+-- `unhex` computes the values of lanes that are digits
 pub unhex_are : (v : List ℕ) → Each1 (Fits w8) v → AllZip IsValueOf v (unhex_l (length v) v)
 unhex_are [] f = tt
 unhex_are (x ∷ xs) f = (unhex_at x f.0.fits, unhex_are xs f.1)
 
+-- the value of a digit, as that of a lane
 one_value : (b n : ℕ) → hex_value b ≡ Some n → as_value n ≡ hex_value b
 one_value b n e = grind (arith, nat_tests)
 
+-- the values of lanes, all of which are digits
 pub values_of_digits : (v ns : List ℕ) → AllZip IsValueOf v ns → AllDigits v → map as_value ns ≡ map hex_value v
 values_of_digits [] [] z d = refl
 values_of_digits (b ∷ v) (n ∷ ns) z d =
     cc (one_value b n (z.0 (All-head IsDigit b v d)), values_of_digits v ns z.1 (All-tail IsDigit b v d))
 values_of_digits _ _ z d = absurd z
 
+-- the value of a digit is at most 15
 one_small : (n x : ℕ) → as_value n ≡ hex_value x → IsDigit x → n ≤ 15
 one_small n x e = rw (← e) (λ s. grind (arith, nat_tests))
 
+-- the values of lanes, all of which are digits, are nibbles
 pub small_values : (ns v : List ℕ) → map as_value ns ≡ map hex_value v → AllDigits v → AllNibbles ns
 small_values [] v e d = tt
 small_values (n ∷ ns) [] e d = absurd (cc)
@@ -112,13 +132,16 @@ small_values (n ∷ ns) (x ∷ v) e d =
 
 -- ---- two nibbles merged to a byte, by a multiplication of a 16-bit lane
 
+-- the upper byte of the lane times 0x1001: the first nibble times 16, plus the second
 abbrev pub merge : ℕ → ℕ
 merge pair = pair * 4097 % 65536 / 256
 
+-- one lane of two nibbles
 merge_at : (h l : ℕ) → h ≤ 15 → l ≤ 15 → merge (h + 256 * l) ≡ 16 * h + l
 merge_at h l p q =
     eqb→eq _ _ (every_pair (λ h l. eqb (merge (h + 256 * l)) (16 * h + l)) 16 16 tt h l (omega arith) (omega arith))
 
+-- all lanes, of which each has two nibbles
 pub merge_all : (k : ℕ) (ns : List ℕ) → length ns ≡ 2 * k → AllNibbles ns
     → map merge (digits_l 65536 k (number_l 256 ns)) ≡ bytes_of_nibbles ns
 merge_all zero [] e a = refl
@@ -131,9 +154,11 @@ merge_all _ _ e a = absurd (omega arith)
 
 -- ---- the bytes that merged values make
 
+-- a lane of at most 15 is the value of the byte
 value_is : (n b : ℕ) → as_value n ≡ hex_value b → n ≤ 15 → hex_value b ≡ Some n
 value_is n b e h = sym e ∙ rw (le-leb n 15 h)
 
+-- a text decodes to the bytes that its values make
 Spells-bytes_of_nibbles : (k : ℕ) (ns u : List ℕ) → length ns ≡ 2 * k → map as_value ns ≡ map hex_value u → AllNibbles ns
     → Spells u (bytes_of_nibbles ns)
 Spells-bytes_of_nibbles zero [] [] l e a = tt
@@ -158,6 +183,7 @@ merge_spells n t u a b p q first second r is d =
 
 -- ---- a slice of two vectors
 
+-- a slice of 2 * n bytes is its first n and then the next n
 pub in_two : (n : ℕ) (u : List ℕ) → length u ≡ 2 * n → take n u ++ take n (drop n u) ≡ u
 in_two n u e = grind (arith, common_steps)
 
@@ -171,6 +197,7 @@ error_count z = bit_at z 7 + bit_at z 6 + bit_at z 4 + bit_at z 3
 abbrev minus_48 : ℕ → ℕ
 minus_48 b = (b + 208) % 256
 
+-- a comparison with 0, by `eqb`, as an equivalence
 same_test : (a : ℕ) (b : Bool) → eqb a 0 ≡ b → (a ≡ 0) ↔ IsTrue b
 same_test a b e = grind (arith, nat_tests)
 
@@ -179,12 +206,15 @@ module _ (table : List ℕ) where
   abbrev read : ℕ → ℕ → ℕ
   read q j = cond (zeroes 16 w8 j) zero (get_or table (16 * q + j) zero)
 
+  -- the limit of a byte: the entry of its low nibble, or 0 if the byte is 128 or more
   abbrev limit : ℕ → ℕ
   limit b = read 0 (bit_and b 143)
 
+  -- the byte minus 48, clamped to its limit
   abbrev value_of : ℕ → ℕ
   value_of b = cond (ltb (minus_48 b) (limit b)) (minus_48 b) (limit b)
 
+  -- the byte minus 48, minus that value
   abbrev error_bits_of : ℕ → ℕ
   error_bits_of b = (minus_48 b + (256 - value_of b)) % 256
 
@@ -192,11 +222,13 @@ module _ (table : List ℕ) where
   abbrev is_right : ℕ → Bool
   is_right b = is_none (hex_value b) || same_value (hex_value b) (Some (value_of b))
 
+  -- whether no error bit is set
   abbrev is_clear : ℕ → Bool
   is_clear b = eqb (error_count (error_bits_of b)) 0
 
   -- t: of the 256 bytes, only the digits have no error bit; u: the value of each digit is right
   module _ (t : agree_below is_clear (λ b. is_some (hex_value b)) 256 ≡ true) (u : T (holds_below is_right 256)) where
+    -- the limit of a byte
     limit_at : (b : ℕ) → b < 256 → IsLimitOf b (limit b)
     limit_at b h = (
       same_if_some _ _ (every_below is_right 256 u b h),
@@ -220,9 +252,11 @@ module _ (table : List ℕ) where
 
 -- ---- lanes clamped to their limits, and the error bits
 
+-- the lesser of two numbers, as `min_l` computes it
 within_is : (x y : ℕ) → cond (ltb x y) x y ≡ get_or (min_l (x ∷ []) (y ∷ [])) 0 0
 within_is x y = grind (arith, nat_tests)
 
+-- all lanes minus 48
 abbrev minus_48_l : ℕ → List ℕ → List ℕ
 minus_48_l n v = zip2 sub8 v (replicate n 48)
 
@@ -232,6 +266,7 @@ clamped_values_are [] [] z = tt
 clamped_values_are (x ∷ v) (y ∷ t) z = (subst (IsClampedValueOf x) (within_is (minus_48 x) y) z.0, clamped_values_are v t z.1)
 clamped_values_are _ _ z = absurd z
 
+-- the clamped values of digits are their values
 pub values_of_clamped : (v ns : List ℕ) → AllZip IsClampedValueOf v ns → AllZip IsValueOf v ns
 values_of_clamped [] [] z = tt
 values_of_clamped (x ∷ v) (n ∷ ns) z = (z.0.0, values_of_clamped v ns z.1)
@@ -249,6 +284,7 @@ clear_are_digits _ _ z = absurd z
 both_clear : (y z : ℕ) → IsClear (bit_or y z) ↔ (IsClear y × IsClear z)
 both_clear y z = let bits = bit_at_or y z in omega (arith, bits 7, bits 6, bits 4, bits 3)
 
+-- no lane of the OR has an error bit if and only if no lane of both vectors has one
 all_clear : (ys zs : List ℕ) → length ys ≡ length zs
     → AllClear (zip2 bit_or ys zs) ↔ (AllClear ys × AllClear zs)
 all_clear [] [] e = (λ h. (tt, tt), λ h. tt)
@@ -263,15 +299,18 @@ joint_test ys zs t u e first second = grind (arith, all_clear ys zs e, digits_ap
 
 -- ---- one test for all lanes, by OR of numbers of 64 bits
 
+-- the error bits of a lane: those of the mask 0xD8
 abbrev masked : ℕ → ℕ
 masked x = bit_and x 216
 
+-- none of them is set if and only if they are 0
 at_lane : (x : ℕ) → Fits w8 x → (masked x < 256) × ((masked x ≡ 0) ↔ IsClear x)
 at_lane x f = (
   ltb→lt _ _ (every_below (λ x. ltb (masked x) 256) 256 tt x f.fits),
   grind (arith, nat_tests, agree_below_at (λ x. eqb (masked x) 0) (λ x. eqb (error_count x) 0) 256 x refl f.fits),
 )
 
+-- the error bits of all lanes
 abbrev all_masked : List ℕ → List ℕ
 all_masked xs = zip2 bit_and xs (replicate (length xs) 216)
 

@@ -1,6 +1,8 @@
 -- Writes of several pieces to an output, one after another, and the space that they leave.
 --
--- `s` and `t` are the states of the output before and after, `m` is one in between, and `ps` and `qs` are pieces.
+-- `s` and `t` are the states of the output before and after, `m` and `j` are states in between, and `ps` and `qs` are
+-- pieces. `FoldsTo step s ps t` says that a step for each piece takes the output from s to t, and `Writes` that the
+-- pieces are a text. In a proof, the letters that its statement does not name are the hypotheses, in order.
 use Rattle.std.proofs.Common.{◌≡◌, ℕ, ◌+◌, ◌≤◌, List, [], ◌∷◌, ◌++◌, length, refl, sym, subst, arith, inl, Option, append-nil}
 use Rattle.std.specs.List.{FoldsTo, concat}
 use Rattle.std.proofs.lemmas.List.Elements.{All-nil, All-cons, All-append}
@@ -17,11 +19,13 @@ module _ {S : Type 0} (step : S → List ℕ → S → Type 0) (space : S → Op
       rw (run_shrinks step space shrinks s w.pieces t w.run, w.whole) (grind (arith, h))
 
 module _ {S : Type 0} (step : S → List ℕ → S → Type 0) where
+  -- some pieces, and then more
   pub run_append : (s : S) (ps : List (List ℕ)) (m : S) (qs : List (List ℕ)) (t : S) → FoldsTo step s ps m
       → FoldsTo step m qs t → FoldsTo step s (ps ++ qs) t
   run_append s [] m qs t h k = subst (λ (x : S). FoldsTo step x qs t) (sym h) k
   run_append s (p ∷ ps) m qs t (j, h, r) k = (j, h, run_append j ps m qs t r k)
 
+  -- a piece is written by one step
   pub one_written : (s : S) (piece : List ℕ) (t : S) → step s piece t → IsKernelPiece piece → Writes step s piece t
   one_written s piece t h i = record {
     pieces = piece ∷ [];
@@ -30,9 +34,11 @@ module _ {S : Type 0} (step : S → List ℕ → S → Type 0) where
     sizes = All-cons IsKernelPiece piece [] i (All-nil IsKernelPiece);
   }
 
+  -- an empty text is written by no step
   pub none_written : (s : S) → Writes step s [] s
   none_written s = record { pieces = []; run = refl; whole = refl; sizes = All-nil IsKernelPiece }
 
+  -- a text, and then another
   pub Writes-append : (s : S) (first : List ℕ) (m : S) (second : List ℕ) (t : S) → Writes step s first m
       → Writes step m second t
       → Writes step s (first ++ second) t
@@ -45,6 +51,7 @@ module _ {S : Type 0} (step : S → List ℕ → S → Type 0) where
 
 -- ---- what a buffered output passes on
 
+-- the pending text as a piece is the pending text
 pub concat-piece_of : (pending : List ℕ) → concat (piece_of pending) ≡ pending
 concat-piece_of [] = refl
 concat-piece_of (b ∷ bs) = append-nil (b ∷ bs)

@@ -1,7 +1,8 @@
 -- What texts decode to, and the text of bytes.
 --
--- `u` and `v` are texts, `bs` are the bytes that `u` decodes to, and `s` is the proof that it does (`Spells`). `c` and
--- `d` are two digits, and `h` and `l` their values. `up` asks for uppercase.
+-- `u` and `v` are texts, `bs` are the bytes that `u` decodes to, and `s` is the proof that it does: `Spells u bs`.
+-- `c` and `d` are two digits, `h` and `l` their values, and `b` is the byte that they make. `up` asks for uppercase.
+-- In a proof, the letters that its statement does not name are the hypotheses, in order.
 use Rattle.std.proofs.Common.{◌≡◌, ℕ, zero, suc, ◌+◌, ◌*◌, ◌<◌, List, [], ◌∷◌, ◌++◌, length, take, drop, slice_index, Some, refl, arith, ◌≢◌, get_or, set, ◌/◌, ◌%◌, Bool, true, false, length-append, IsAscii}
 use Rattle.std.proofs.lemmas.List.Elements.{All-nil, All-cons}
 use Rattle.std.proofs.lemmas.Grind.{common_steps}
@@ -16,6 +17,7 @@ use Rattle.const_hex_arch.proofs.lemmas.Digits.{IsDigit-from_value, hex_value-sm
 pub IsPair-of : (c d h l b : ℕ) → hex_value c ≡ Some h → hex_value d ≡ Some l → b ≡ 16 * h + l → IsPair c d b
 IsPair-of c d h l b p q e = record { high = h; low = l; high_is = p; low_is = q; byte_is = e }
 
+-- the byte of a pair is below 256
 pub IsPair-byte : (c d b : ℕ) → IsPair c d b → b < 256
 IsPair-byte c d b p = omega (arith, hex_value-small c p.high p.high_is, hex_value-small d p.low p.low_is)
 
@@ -68,6 +70,7 @@ Spells-same [] [] (b ∷ ys) s t = absurd t
 Spells-same (x ∷ y ∷ u) (a ∷ xs) [] s t = absurd t
 Spells-same _ _ _ s t = absurd s
 
+-- the lemmas that the proof search of blocks may use
 pub ruleset spelled = (Spells-append, Spells-same)
 
 -- ---- one more pair of a text
@@ -89,24 +92,29 @@ pair_more u new i high low s h k e f p q =
 
 -- ---- the text of bytes: its length, that it is ASCII, and that it decodes to the bytes
 
+-- no bytes have the empty text
 pub hex_text-nil : (up : Bool) → hex_text up [] ≡ []
 unfolding hex_text
 hex_text-nil up = refl
 
+-- the text of two lists of bytes
 pub hex_text-append : (up : Bool) (xs ys : List ℕ) → hex_text up (xs ++ ys) ≡ hex_text up xs ++ hex_text up ys
 unfolding hex_text
 hex_text-append up [] ys = refl
 hex_text-append up (x ∷ xs) ys = cc (hex_text-append up xs ys)
 
+-- the text has two digits for each byte
 pub length-hex_text : (up : Bool) (bs : List ℕ) → length (hex_text up bs) ≡ 2 * length bs
 unfolding hex_text
 length-hex_text up [] = refl
 length-hex_text up (b ∷ bs) = let e = length-hex_text up bs in omega (arith, e)
 
+-- the text with a prefix has the length of the prefix more
 pub length-full_text : (prefix up : Bool) (bs : List ℕ)
     → length (full_text prefix up bs) ≡ length (prefix_of prefix) + 2 * length bs
 length-full_text prefix up bs = rw (length-append, length-hex_text)
 
+-- the length of a text with a prefix is its `text_length`
 pub full_text_size : (prefix up : Bool) (bs : List ℕ) → length (full_text prefix up bs) ≡ text_length prefix (length bs)
 full_text_size prefix up bs = grind (arith, length-full_text)
 
@@ -119,9 +127,11 @@ hex_text-one up bs i h =
 
 -- ---- the text is ASCII
 
+-- a digit is ASCII
 hex_digit-ascii : (up : Bool) (v : ℕ) → v < 16 → hex_digit up v < 128
 hex_digit-ascii up v h = grind (arith, nat_tests)
 
+-- the text of bytes is ASCII
 pub IsAscii-hex_text : (up : Bool) (bs : List ℕ) → ((k : ℕ) → slice_index bs k < 256) → IsAscii (hex_text up bs)
 unfolding hex_text
 IsAscii-hex_text up [] h = IsAscii-nil
@@ -132,6 +142,7 @@ IsAscii-hex_text up (b ∷ bs) h =
     (IsAscii-cons (hex_digit up (b % 16)) (hex_text up bs) (hex_digit-ascii up (b % 16) (omega arith))
     (IsAscii-hex_text up bs (λ k. h (suc k))))
 
+-- the text with a prefix is ASCII
 pub IsAscii-full_text : (prefix up : Bool) (bs : List ℕ) → ((k : ℕ) → slice_index bs k < 256)
     → IsAscii (full_text prefix up bs)
 IsAscii-full_text true up bs h =
@@ -145,6 +156,7 @@ IsAscii-full_text false up bs h = IsAscii-hex_text up bs h
 hex_value-hex_digit : (up : Bool) (v : ℕ) → v < 16 → hex_value (hex_digit up v) ≡ Some v
 hex_value-hex_digit up v h = grind (arith, nat_tests)
 
+-- the text of bytes decodes to them
 pub Spells-hex_text : (up : Bool) (bs : List ℕ) → ((k : ℕ) → slice_index bs k < 256) → Spells (hex_text up bs) bs
 unfolding hex_text
 Spells-hex_text up [] h = tt
@@ -154,6 +166,5 @@ Spells-hex_text up (b ∷ bs) h =
     let low = hex_value-hex_digit up (b % 16) (omega arith) in
     (IsPair-of _ _ (b / 16) (b % 16) b high low (omega arith), Spells-hex_text up bs (λ k. h (suc k)))
 
--- ---- the rules for proof search
-
+-- the lemmas that the proof search of functions that encode may use
 pub ruleset texts = (IsUtf8-from_ascii, IsAscii-full_text, hex_text-append)

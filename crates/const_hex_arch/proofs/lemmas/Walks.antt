@@ -6,7 +6,9 @@
 -- The `Proof.antt` of each `decode_chunk` names its calls and passes them to it.
 --
 -- `𝓤` is the resource algebra of the separation logic `𝓛`, `𝓜` is the memory model, and `𝓡` is the running program.
--- Each line that ends in `$` applies a rule to the symbolic state.
+-- `κs` are the lifetimes, `qs` the shares of their tokens, `a` the arguments, `are` facts about them, and `l` are the
+-- locals. `G` is the contract of the call as a triple, `z` its arguments, `r` its result, and `v` the machine value of
+-- that. Each line that ends in `$` applies a rule to the symbolic state.
 -- `wired` says that this program has the code of the function and of those that it calls. `F.met`, which is generated,
 -- proves that F meets its contract.
 --
@@ -18,6 +20,15 @@
 -- steps and locals to `Code/Mir.antt` in that folder. Replace the old numbers by the new ones, from
 -- the top down, and check after each. The check names the first step that no longer fits. The
 -- toolchain's guide is its `docs/WALKS.md`.
+--
+-- The steps: `enter` begins the body; `alloc_all` allocates the locals; `pass_all` stores the arguments in them;
+-- `sets` executes an assignment; `sets_last` the last one of a branch; `calls_at` executes a call by its contract;
+-- `lands_as` stores its result; `branches` executes an `if`; `exec` goes on after it; `returns` reads the result;
+-- `free_all` frees the locals; `suffices` states what is left to prove; `split` and `join` take apart and build a
+-- separating conjunction; `drop` discards a resource; `use0`, `use1` and `use2` apply an entailment to so many
+-- resources; `pick` opens an existential; `await` removes an update of ghost state; `heard` extracts a pure fact;
+-- `owned` adds a value by its representation; `nothing` adds an empty resource; `group` joins several parts; `done`
+-- ends the proof.
 pub use Rattle.std.proofs.Common.{ℕ, List, [], ◌∷◌, Bool, refl, lit<, w8, IsTrue, ◌↔◌, ◌≡◌, ◌*◌, true, false, not, T, length, ap, ◌∙◌, Bor, MutBor, ◌++◌, ◌&&◌, subst, arith, IsNone, IfSome}
 pub use Rattle.std.proofs.option.Made.{Some-of, none_of}
 pub use Rattle.std.proofs.raw_atomic.Walks.{proved}
@@ -66,23 +77,28 @@ and_true false t = absurd t
 
 -- ---- the clauses of `decode_chunk`, from the clauses of the vector with a flag
 
+-- the clause of `decode_chunk` for None: there is an invalid character
 abbrev pub NoneClause : List ℕ → Option (List ℕ) → Type 0
 NoneClause text result = IsNone result ↔ ¬ AllDigits text
 
+-- the clause of `decode_chunk` for Some: the text decodes to these bytes
 abbrev pub SpellsClause : List ℕ → Option (List ℕ) → Type 0
 SpellsClause text result = IfSome result (Spells text)
 
 module _ (text bytes : List ℕ) (are_digits : Bool) (digits : IsTrue are_digits ↔ AllDigits text)
     (spells : IsTrue are_digits → Spells text bytes) where
+  -- both clauses hold if the flag is true
   pub some_is : T are_digits → NoneClause text (Some bytes) × SpellsClause text (Some bytes)
   some_is t = grind (arith, digits, spells, t)
 
+  -- both clauses hold if the flag is false
   pub none_is : T (not are_digits) → NoneClause text None × SpellsClause text None
   none_is t = grind (arith, digits, t)
 
 -- ---- vectors of n lanes
 
 module _ (n : ℕ) where
+  -- the type of a vector of n bytes
   abbrev pub Lanes : RattleType
   Lanes = Simd u8 tt n
 
@@ -90,12 +106,15 @@ module _ (n : ℕ) where
   abbrev pub Pair : {k : ℕ} → Slot k
   Pair = ArrayOf (SimdOf (plain (λ _. u8)) (λ _. tt) n) (λ _. tt) 2
 
+  -- the machine values of a vector
   abbrev pub lanes_vals : List ℕ → List Val
   lanes_vals = array_vals (uint_vals w8)
 
+  -- the machine values of two vectors
   abbrev pub pair_vals : List (List ℕ) → List Val
   pair_vals = array_vals lanes_vals
 
+  -- a vector's machine values are determined by its lanes
   pub lanes_Tells : Tells Lanes (Is Lanes) lanes_vals
   lanes_Tells = Simd-Tells u8 (uint_vals w8) (uint_Tells w8) n
 
@@ -103,11 +122,13 @@ module _ (n : ℕ) where
   abbrev pub Flagged : RattleType
   Flagged = Tuple (Lanes ∷ bool ∷ [])
 
+  -- the machine value of a vector with a flag is a struct of two fields
   pub flagged_is : (r : List ℕ × Bool) (v : Val) → Is Flagged r (v ∷ [])
       → v ≡ vstruct (of_list (only (lanes_vals r.0) ∷ vbool r.1 ∷ []))
   flagged_is r v is =
       ap only is.1.0 ∙ λ i. vstruct (of_list (lanes_Tells r.0 is.0.0 is.1.1.0 i ++ (is.1.1.1.0 i ++ [])))
 
+  -- its first field holds the vector
   pub flagged_lanes : (r : List ℕ × Bool) (v : Val) → Is Flagged r (v ∷ []) → Is Lanes r.0 (only (lanes_vals r.0) ∷ [])
   flagged_lanes r v is = subst (λ us. Is Lanes r.0 us) (lanes_Tells r.0 is.0.0 is.1.1.0) is.1.1.0
 
@@ -138,8 +159,8 @@ module _ (n : ℕ) where
 
   -- the MIR of `decode_chunk`. Its locals: 0 is the result, 1 the text, 2 the bytes, 3 and 5 the flag, 4 what the call
   -- returns, 6 the Option
-  abbrev code_of : Callee → Fn
-  code_of decode_flagged = record {
+  abbrev decode_chunk_code : Callee → Fn
+  decode_chunk_code decode_flagged = record {
     lifetimes = 0;
     outlives = [];
     ty_params = [];
@@ -182,12 +203,12 @@ module _ (n : ℕ) where
 
     -- if the call meets its clauses, so does the function
     pub some_or_none : (self decode_flagged : Callee)
-        → Closed 𝓤 𝓛.H (tables 𝓤 𝓛.H 𝓜 𝓡 𝓡.env).C (tables 𝓤 𝓛.H 𝓜 𝓡 𝓡.env).Λ self (code_of decode_flagged)
+        → Closed 𝓤 𝓛.H (tables 𝓤 𝓛.H 𝓜 𝓡 𝓡.env).C (tables 𝓤 𝓛.H 𝓜 𝓡 𝓡.env).Λ self (decode_chunk_code decode_flagged)
         → Meets 𝓛 DecodeFlagged.signature (𝓡.run (𝓡.env decode_flagged)) (closing 𝓛 DecodeFlagged decode_flagged_clauses)
         → Meets 𝓛 DecodeChunk.signature (𝓡.run (𝓡.env self)) (closing 𝓛 DecodeChunk decode_chunk_clauses)
     some_or_none self decode_flagged unfolded met =
         let hs : Stays DecodeChunk.signature.params DecodeChunk.kept = (stay_dropped _ yes, tt) in
-        let fn = code_of decode_flagged in
+        let fn = decode_chunk_code decode_flagged in
         let W = walk_of 𝓛 DecodeChunk hs decode_chunk_clauses in let 𝓣 = tables 𝓤 𝓛.H 𝓜 𝓡 𝓡.env in
         let V = Lanes n in
         let lawful = Simd-Lawful 𝓛 u8 (uint_Lawful 𝓛 w8) n in

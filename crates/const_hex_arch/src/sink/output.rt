@@ -4,7 +4,7 @@ ghost use Rattle.std.specs.Prelude.{◌≡◌, false, not, is_ok, None};
 ghost use Rattle.const_hex_arch.specs.{SinkStep, output_sink, sink_name};
 
 use crate::output::Output;
-use crate::sink::{Sink, SinkError, fail_if_refused};
+use crate::sink::{Sink, SinkError, error_if_failed};
 use crate::text::ascii_text;
 
 /// Writes to a sink. After the first error it writes nothing more.
@@ -32,7 +32,7 @@ impl<'a, S: Sink> SinkOutput<'a, S> {
     /// ```
     #[inline]
     pub fn new(sink: &'a mut S) -> SinkOutput<'a, S>
-        requires { S.is_refused sink.old ≡ false }
+        requires { S.has_failed sink.old ≡ false }
         ensures same_sink { sink_name result ≡ sink.entry.ghost_name }
         ensures sink { output_sink result ≡ sink.old }
     {
@@ -48,10 +48,10 @@ impl<'a, S: Sink> SinkOutput<'a, S> {
     /// assert!(rt; output.finish().is_ok());
     /// ```
     pub fn finish(self) -> Result<(), SinkError>
-        ensures flag { is_ok result ≡ not (S.is_refused (output_sink self.entry)) }
+        ensures flag { is_ok result ≡ not (S.has_failed (output_sink self.entry)) }
         ensures unchanged { self.exit.0.now ≡ output_sink self.entry }
     {
-        fail_if_refused(&*self.sink)
+        error_if_failed(&*self.sink)
     }
 
     /// Returns the borrow of the sink.
@@ -65,7 +65,7 @@ impl<'a, S: Sink> SinkOutput<'a, S> {
 }
 
 impl<S: Sink> Output for SinkOutput<'_, S> {
-    ghost step = { SinkStep S.step S.is_refused };
+    ghost step = { SinkStep S.step S.has_failed };
 
     ghost space = { λ _. None };
 
@@ -77,7 +77,7 @@ impl<S: Sink> Output for SinkOutput<'_, S> {
 
     #[inline]
     fn write(&mut self, bytes: &[u8]) {
-        if self.sink.refused() {
+        if self.sink.has_failed() {
             return;
         }
         let _ = self.sink.write_str(ascii_text(bytes));

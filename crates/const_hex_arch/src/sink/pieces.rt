@@ -23,7 +23,7 @@ pub struct PieceSink {
     alloc: Global,
     pieces: Vec<String>,
     fail_at: usize,
-    refused: bool,
+    failed: bool,
 }
 
 impl Model for PieceSink {
@@ -35,7 +35,7 @@ impl Model for PieceSink {
     ghost view = { λ s. record {
       pieces = map (λ p. string_bytes p) s.pieces.items;
       fail_at = s.fail_at;
-      refused = s.refused;
+      failed = s.failed;
     } };
 }
 
@@ -49,13 +49,13 @@ impl PieceSink {
     /// assert_eq!(rt; sink.write_str("two"), Err(SinkError));
     /// ```
     pub fn new(alloc: Global, fail_at: usize) -> PieceSink
-        ensures { result ≡ record { pieces = []; fail_at = fail_at; refused = false } }
+        ensures { result ≡ record { pieces = []; fail_at = fail_at; failed = false } }
     {
         PieceSink {
             alloc,
             pieces: Vec::new(alloc),
             fail_at,
-            refused: false,
+            failed: false,
         }
     }
 
@@ -80,7 +80,7 @@ impl PieceSink {
     pub fn calls(&self) -> usize
         ensures { result ≡ count_of_calls self.now }
     {
-        self.pieces.len() + usize::from(self.refused)
+        self.pieces.len() + usize::from(self.failed)
     }
 
     /// Whether a call failed because it could not allocate, and not because of its number.
@@ -92,9 +92,9 @@ impl PieceSink {
     /// ```
     pub fn no_memory(&self) -> bool
         ensures { IsTrue result
-            ↔ ((self.now.refused ≡ true) × (count_of_calls self.now ≢ self.now.fail_at)) }
+            ↔ ((self.now.failed ≡ true) × (count_of_calls self.now ≢ self.now.fail_at)) }
     {
-        self.refused && self.calls() != self.fail_at
+        self.failed && self.calls() != self.fail_at
     }
 
     /// Stores a copy of a piece. All is allocated before anything is added.
@@ -112,17 +112,17 @@ impl PieceSink {
 impl Sink for PieceSink {
     ghost step = { PieceStep };
 
-    ghost is_refused = { λ s. s.refused };
+    ghost has_failed = { λ s. s.failed };
 
     ghost reported = { λ s. Some s.pieces };
 
-    fn refused(&self) -> bool {
-        self.refused
+    fn has_failed(&self) -> bool {
+        self.failed
     }
 
     fn write_str(&mut self, s: &str) -> Result<(), SinkError> {
         if self.pieces.len() + 1 == self.fail_at || self.keep(s).is_err() {
-            self.refused = true;
+            self.failed = true;
             return Err(SinkError);
         }
         Ok(())

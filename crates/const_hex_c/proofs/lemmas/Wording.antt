@@ -1,4 +1,7 @@
 -- The message of an invalid character, in a buffer that has space for it.
+--
+-- `old` and `written` are the buffer before and after, `m` is the message, and `n` the number of its bytes that were
+-- written. `c` is the character, `i` its position, and `byte` and `index` are those that the struct has.
 use Rattle.std.proofs.Common.{◌≡◌, ◌∙◌, ap, ℕ, ◌-◌, ◌<◌, List, length, take, min, arith, take_all}
 use Rattle.const_hex_c.specs.Errors.{message_of_struct}
 use Rattle.const_hex_c.specs.declared.error.HexError.{HexError}

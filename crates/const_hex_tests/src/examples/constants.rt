@@ -1,7 +1,9 @@
 //! Constants that the source has as text. Verification rejects an invalid one.
 
+// Terms of the contracts:
+// - `DecodesToExactly t n r`: t, as n bytes, decodes to r
 ghost use Rattle.std.specs.Prelude.{Ok};
-ghost use Rattle.const_hex.specs.Prelude.{ReadsSized};
+ghost use Rattle.const_hex.specs.Prelude.{DecodesToExactly};
 
 use const_hex::{bytes_of, decode_to_array};
 
@@ -13,14 +15,14 @@ const TRANSFER: &[u8; 66] = b"0xddf252ad1be2c89b69c2b068fc378daa952ba7f163c4a116
 
 /// The address as bytes.
 pub fn wrapped_ether() -> [u8; 20]
-    ensures { ReadsSized WRAPPED_ETHER.now 20 (Ok result) }
+    ensures { DecodesToExactly WRAPPED_ETHER.now 20 (Ok result) }
 {
     bytes_of(WRAPPED_ETHER)
 }
 
 /// The topic as bytes, by a call that returns an error for an invalid text.
 pub fn transfer() -> [u8; 32]
-    ensures { ReadsSized TRANSFER.now 32 (Ok result) }
+    ensures { DecodesToExactly TRANSFER.now 32 (Ok result) }
 {
     decode_to_array(TRANSFER).unwrap()
 }

@@ -1,5 +1,9 @@
 //! Writing text to a file or a socket.
 
+// Terms of the contracts:
+// - `full_text prefix upper bs`: the text of bs, after `0x` if `prefix` is true
+// - `Appends before after bs`: bs was appended to what a writer holds
+// - `WritesBeginning before after bs`: a beginning of bs was appended
 ghost use Rattle.std.specs.Prelude.{◌≡◌, ◌≢◌, ◌∷◌, ◌++◌, [], true, false, OnOk, OnErr, IfErr, IsOk};
 ghost use Rattle.std.specs.IoError.{error_kind};
 ghost use Rattle.std.specs.Io.KnownBytes.{Appends};

@@ -1,9 +1,11 @@
 //! A response of Ethereum's JSON-RPC with a contract's code.
 
+// Terms of the contracts:
+// - `DecodesTo t r`: the text t decodes to the result r
 ghost use Rattle.std.specs.Prelude.{◌≡◌, ◌↔◌, ◌++◌, ℕ, codes, decimal, string_bytes, None, Ok, Err, IfOk, IfSome, option_and_then};
 ghost use Rattle.serde_json.specs.Find.{as_str, get};
 ghost use Rattle.serde_json.specs.View.{view};
-ghost use Rattle.const_hex.specs.Prelude.{Reads};
+ghost use Rattle.const_hex.specs.Prelude.{DecodesTo};
 ghost use Rattle.const_hex.specs.declared.error.FromHexError.TheVariants.{InvalidHexCharacter, InvalidStringLength, OddLength};
 ghost use Rattle.const_hex.specs.declared.serde.error.JsonError.TheVariants.{Hex, NotText};
 
@@ -15,7 +17,7 @@ use std::alloc::{AllocError, Global};
 pub fn code_of(alloc: Global, response: &Value) -> Result<Vec<u8>, JsonError<FromHexError>>
     ensures code { IfOk result (λ v.
         IfSome (option_and_then as_str (get (codes "result") (view response.now)))
-        (λ t. Reads t (Ok v.items))) }
+        (λ t. DecodesTo t (Ok v.items))) }
     ensures not_text { (result ≡ Err NotText)
         ↔ (option_and_then as_str (get (codes "result") (view response.now)) ≡ None) }
 {

@@ -1,5 +1,9 @@
 //! Outputs that buffer text, and sinks as outputs.
 
+// Terms of the contracts:
+// - `FoldsTo step old pieces new`: a step for each piece leads from `old` to `new`
+// - `HasSpace space n`: n more bytes fit into an output
+// - `remaining_space space n`: the space that is left after n bytes
 ghost use Rattle.std.specs.Prelude.{◌≡◌, ◌≤◌, ◌∷◌, [], false, codes, length, IsAscii};
 ghost use Rattle.std.specs.List.{FoldsTo};
 ghost use Rattle.const_hex.specs.Outputs.{HasSpace, remaining_space};
@@ -41,7 +45,7 @@ pub fn buffer_text<O: Output>(buffered: &mut BufferedOutput<O, 8>, text: &[u8])
 
 /// Writes to a sink as to an output.
 pub fn send(alloc: Global) -> PieceSink
-    ensures { result.refused ≡ false → result.pieces ≡ codes "c0de" ∷ [] }
+    ensures { result.failed ≡ false → result.pieces ≡ codes "c0de" ∷ [] }
 {
     let mut sink = PieceSink::new(alloc, 0);
     let mut output = SinkOutput::new(&mut sink);

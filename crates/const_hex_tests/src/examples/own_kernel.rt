@@ -1,5 +1,9 @@
 //! A kernel of your own, under the codec.
 
+// Terms of the contracts:
+// - `hex_text upper bs`: two digits for each of the bytes bs
+// - `FoldsTo step old pieces new`: a step for each piece leads from `old` to `new`
+// - `HasSpace space n`: n more bytes fit into an output
 ghost use Rattle.std.specs.Prelude.{◌≡◌, ◌*◌, ◌≤◌, List, ℕ, false, length};
 ghost use Rattle.std.specs.List.{All, FoldsTo, concat};
 ghost use Rattle.const_hex.specs.Outputs.{HasSpace};

@@ -1,7 +1,14 @@
 //! Callers that decode a text: to any type, by the law of `FromHex` alone; and into a key.
 
+// Terms of the contracts:
+// - `DecodesTo t r`: the text t decodes to the result r
+// - `DecodesToExactly t n r`: t, as n bytes, decodes to r
+// - `body_of t`: t without its prefix
+// - `lowered u`: u in lowercase
+// - `Spells u bs`: the digits u decode to the bytes bs
+// - `IsRejected fits t`: t cannot be decoded, or not to a number of bytes that fits
 ghost use Rattle.std.specs.Prelude.{◌≡◌, ◌≢◌, ◌∷◌, [], ◌↔◌, ◌⊎◌, ◌*◌, ℕ, false, drop, length, take, IsTrue, IfOk, IfErr, OnErr, Ok, Err};
-ghost use Rattle.const_hex.specs.Prelude.{IsOdd, Reads, ReadsSized, body_of, lowered, Spells, IsRejected};
+ghost use Rattle.const_hex.specs.Prelude.{IsOdd, DecodesTo, DecodesToExactly, body_of, lowered, Spells, IsRejected};
 ghost use Rattle.const_hex.specs.declared.error.FromHexError.TheVariants.{InvalidStringLength, NoMemory, OddLength};
 ghost use Rattle.const_hex.specs.declared.error.FromHexError.{FromHexError};
 
@@ -16,7 +23,7 @@ use std::rc::Rc;
 /// Decodes a text. The value has the bytes that the text decodes to. Unless an allocation failed, an error
 /// means that the text cannot be decoded, or that its number of bytes does not fit the type.
 pub fn read<T: FromHex>(alloc: Global, text: &[u8]) -> Result<T, T::Error>
-    ensures bytes { IfOk result (λ v. Reads text.now (Ok (T.bytes v))) }
+    ensures bytes { IfOk result (λ v. DecodesTo text.now (Ok (T.bytes v))) }
     ensures fits { IfOk result (λ v. T.fits (length (T.bytes v))) }
     ensures error { IfErr result (λ e. T.Error.is_of_memory e ≡ false
         → IsRejected T.fits text.now) }
@@ -32,8 +39,8 @@ pub fn read_both<T: FromHex + Drop>(
     first: &[u8],
     second: &[u8],
 ) -> Result<(T, T), T::Error>
-    ensures first_bytes { IfOk result (λ both. Reads first.now (Ok (T.bytes both.0))) }
-    ensures second_bytes { IfOk result (λ both. Reads second.now (Ok (T.bytes both.1))) }
+    ensures first_bytes { IfOk result (λ both. DecodesTo first.now (Ok (T.bytes both.0))) }
+    ensures second_bytes { IfOk result (λ both. DecodesTo second.now (Ok (T.bytes both.1))) }
     ensures first_fits { IfOk result (λ both. T.fits (length (T.bytes both.0))) }
     ensures second_fits { IfOk result (λ both. T.fits (length (T.bytes both.1))) }
     ensures agree { IfOk result (λ both. (T.bytes both.0 ≡ T.bytes both.1)
@@ -53,7 +60,7 @@ pub fn read_both<T: FromHex + Drop>(
 /// The bytes that a text decodes to, in an `Rc`. An odd length is reported as such even if an
 /// allocation would fail.
 pub fn read_shared(alloc: Global, text: &[u8]) -> Result<Rc<Vec<u8>>, FromHexError>
-    ensures bytes { IfOk result (λ shared. Reads text.now (Ok shared.value.items)) }
+    ensures bytes { IfOk result (λ shared. DecodesTo text.now (Ok shared.value.items)) }
     ensures odd { IsOdd (length text.now) → result ≡ Err OddLength }
 {
     FromHex::from_hex(alloc, text)
@@ -65,8 +72,8 @@ pub fn read_shared(alloc: Global, text: &[u8]) -> Result<Rc<Vec<u8>>, FromHexErr
 pub fn is_same_account(alloc: Global, first: &[u8], second: &[u8]) -> Result<bool, FromHexError>
     ensures same { IfOk result (λ same. IsTrue same
         ↔ (lowered (body_of first.now) ≡ lowered (body_of second.now))) }
-    ensures error { IfErr result (λ e. ReadsSized first.now 20 (Err e)
-        ⊎ ReadsSized second.now 20 (Err e)) }
+    ensures error { IfErr result (λ e. DecodesToExactly first.now 20 (Err e)
+        ⊎ DecodesToExactly second.now 20 (Err e)) }
 {
     let one = Address20::from_hex(alloc, first)?;
     let two = Address20::from_hex(alloc, second)?;
@@ -78,8 +85,8 @@ pub fn is_same_account(alloc: Global, first: &[u8], second: &[u8]) -> Result<boo
 /// that were decoded before it, if any, and the rest of the key is unchanged.
 #[tactic(auto, using(crate::proofs::lemmas::PartialOutputs::unchanged_after_decoded_prefix))]
 pub fn replace_key(key: &mut [u8; 32], text: &[u8]) -> Result<(), FromHexError>
-    ensures replaced { IfOk result (λ _. ReadsSized text.now 32 (Ok key.new)) }
-    ensures error { IfErr result (λ e. ReadsSized text.now 32 (Err e)) }
+    ensures replaced { IfOk result (λ _. DecodesToExactly text.now 32 (Ok key.new)) }
+    ensures error { IfErr result (λ e. DecodesToExactly text.now 32 (Err e)) }
     ensures unchanged { IfErr result (λ e. (e ≡ OddLength) ⊎ (e ≡ InvalidStringLength)
         → key.new ≡ key.old) }
     ensures decoded_prefix { IfErr result (λ _. (n : ℕ) × (drop n key.new ≡ drop n key.old)
@@ -90,7 +97,7 @@ pub fn replace_key(key: &mut [u8; 32], text: &[u8]) -> Result<(), FromHexError>
 
 /// Replaces a key as [`replace_key`] does, but after any error the key is unchanged.
 pub fn replace_key_or_keep_it(key: &mut [u8; 32], text: &[u8]) -> Result<(), FromHexError>
-    ensures replaced { IfOk result (λ _. ReadsSized text.now 32 (Ok key.new)) }
+    ensures replaced { IfOk result (λ _. DecodesToExactly text.now 32 (Ok key.new)) }
     ensures unchanged { OnErr result (key.new ≡ key.old) }
 {
     decode_to_slice_with::<CheckFirst<FixedKernel>>(text, key)
@@ -99,7 +106,7 @@ pub fn replace_key_or_keep_it(key: &mut [u8; 32], text: &[u8]) -> Result<(), Fro
 /// Decodes a salt of at most 64 bytes, and returns its length. The rest of the array is unchanged. An odd number of
 /// digits is always reported as such, also if there are more than 128, and leaves the array unchanged.
 pub fn read_salt(text: &[u8], salt: &mut [u8; 64]) -> Result<usize, FromHexError>
-    ensures read { IfOk result (λ n. Reads text.now (Ok (take n salt.new))) }
+    ensures read { IfOk result (λ n. DecodesTo text.now (Ok (take n salt.new))) }
     ensures rest { IfOk result (λ n. (length (body_of text.now) ≡ 2 * n) × (drop n salt.new ≡ drop n salt.old)) }
     ensures odd { (result ≡ Err OddLength) ↔ IsOdd (length text.now) }
     ensures unchanged { IfErr result (λ e. (e ≡ OddLength) ⊎ (e ≡ InvalidStringLength)
@@ -110,7 +117,7 @@ pub fn read_salt(text: &[u8], salt: &mut [u8; 64]) -> Result<usize, FromHexError
 
 /// Decodes a text to a vector. Unless an allocation failed, an error means that the text cannot be decoded.
 pub fn read_vector(alloc: Global, text: &[u8]) -> Result<Vec<u8>, FromHexError>
-    ensures { IfErr result (λ e. e ≢ NoMemory → (why : FromHexError) × Reads text.now (Err why)) }
+    ensures { IfErr result (λ e. e ≢ NoMemory → (why : FromHexError) × DecodesTo text.now (Err why)) }
 {
     read(alloc, text)
 }

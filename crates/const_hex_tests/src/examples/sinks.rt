@@ -1,5 +1,7 @@
 //! A text for any sink, and its pieces.
 
+// Terms of the contracts:
+// - `full_text prefix upper bs`: the text of bs, after `0x` if `prefix` is true
 ghost use Rattle.std.specs.Prelude.{◌≡◌, ◌≤◌, ◌-◌, ◌++◌, List, ℕ, Some, true, false, length, take, IfOk, OnOk};
 ghost use Rattle.std.specs.List.{All, concat};
 ghost use Rattle.const_hex.specs.Prelude.{full_text};
@@ -33,7 +35,7 @@ pub fn accepts_a_piece(alloc: Global, piece: &str) -> bool
 /// Writes the text of a JSON string, with `0x`, to a sink that has not failed so far. If the sink reports
 /// its pieces and accepts all of them, the concatenation of the new ones is the text.
 pub fn send_json<S: Sink>(bytes: &[u8], sink: &mut S) -> Result<(), SinkError>
-    requires { S.is_refused sink.old ≡ false }
+    requires { S.has_failed sink.old ≡ false }
     ensures { (reported : List (List ℕ)) → S.reported sink.old ≡ Some reported → OnOk result
         ((pieces : List (List ℕ)) × (concat pieces ≡ full_text true false bytes.now)
         × (S.reported sink.new ≡ Some (reported ++ pieces))) }

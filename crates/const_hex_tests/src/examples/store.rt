@@ -1,7 +1,11 @@
 //! Keys of a key-value store, which are found with or without a prefix and in either case.
 
+// Terms of the contracts:
+// - `DecodesTo t r`: the text t decodes to the result r
+// - `body_of t`: t without its prefix
+// - `lowered u`: u in lowercase
 ghost use Rattle.std.specs.Prelude.{◌≡◌, ◌≢◌, ◌↔◌, Ok, Err, string_bytes, IfOk, IfErr, IsTrue};
-ghost use Rattle.const_hex.specs.Prelude.{Reads, body_of, lowered};
+ghost use Rattle.const_hex.specs.Prelude.{DecodesTo, body_of, lowered};
 ghost use Rattle.const_hex.specs.declared.error.FromHexError.TheVariants.{NoMemory};
 
 use const_hex::{
@@ -12,7 +16,7 @@ use std::alloc::Global;
 /// The canonical form of a key, which is stored: no prefix, and in lowercase.
 pub fn canonical(alloc: Global, key: &[u8]) -> Result<String, FromHexError>
     ensures text { IfOk result (λ s. string_bytes s ≡ lowered (body_of key.now)) }
-    ensures error { IfErr result (λ e. e ≢ NoMemory → Reads key.now (Err e)) }
+    ensures error { IfErr result (λ e. e ≢ NoMemory → DecodesTo key.now (Err e)) }
 {
     let bytes = decode(alloc, key)?;
     let text = encode(alloc, &bytes)?;

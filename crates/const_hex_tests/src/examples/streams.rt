@@ -1,7 +1,11 @@
 //! Decoding a text that arrives in chunks.
 
+// Terms of the contracts:
+// - `DecodesTo t r`: the text t decodes to the result r
+// - `NamesFirstInvalid t c i`: c is the first invalid character of t, at the position i
+// - `body_of t`: t without its prefix
 ghost use Rattle.std.specs.Prelude.{◌≡◌, ◌≢◌, ◌/◌, ◌<◌, ◌++◌, ◌↔◌, ℕ, drop, take, length, IfOk, IfErr, IfSome, OnOk, Some, Ok, Err};
-ghost use Rattle.const_hex.specs.Prelude.{error_of, body_of, AllDigits, Reads};
+ghost use Rattle.const_hex.specs.Prelude.{error_of, body_of, AllDigits, DecodesTo};
 ghost use Rattle.const_hex.specs.Results.{NamesFirstInvalid};
 ghost use Rattle.const_hex.specs.declared.error.FromHexError.{FromHexError};
 ghost use Rattle.const_hex.specs.declared.error.FromHexError.TheVariants.{InvalidHexCharacter, InvalidStringLength, OddLength};
@@ -97,7 +101,7 @@ pub fn decode_whole(
     front: &mut [u8],
     rest: &mut [u8],
 ) -> Result<(usize, usize), FromHexError>
-    ensures { IfOk result (λ n. Reads (first.now ++ second.now) (Ok (take n.0 front.new ++ take n.1 rest.new))) }
+    ensures { IfOk result (λ n. DecodesTo (first.now ++ second.now) (Ok (take n.0 front.new ++ take n.1 rest.new))) }
 {
     let mut decoder = Decoder::new();
     let first_count = decoder.decode(first, front)?;

@@ -1,5 +1,7 @@
 //! Callers that write into a buffer, or to its start.
 
+// Terms of the contracts:
+// - `hex_text upper bs`: two digits for each of the bytes bs
 ghost use Rattle.std.specs.Prelude.{◌≡◌, ◌≤◌, ◌*◌, ◌++◌, ◌↔◌, false, length, drop, Err, IsOk, OnErr, OnOk, IsAscii};
 ghost use Rattle.const_hex.specs.Prelude.{hex_text};
 ghost use Rattle.const_hex.specs.declared.error.FromHexError.TheVariants.{InvalidStringLength};

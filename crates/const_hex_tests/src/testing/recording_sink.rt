@@ -12,25 +12,25 @@ pub struct RecordingSink {
     /// The pieces, in the order of the calls.
     pub pieces: Vec<String>,
     fail_at: usize,
-    refused: bool,
+    failed: bool,
 }
 
 impl RecordingSink {
     /// A sink whose call number `fail_at` fails, counted from 1. With 0 no call fails.
     pub fn new(alloc: Global, fail_at: usize) -> RecordingSink
-        ensures { result.refused ≡ false }
+        ensures { result.failed ≡ false }
     {
         RecordingSink {
             alloc,
             pieces: Vec::new(alloc),
             fail_at,
-            refused: false,
+            failed: false,
         }
     }
 
     fn push_piece(&mut self, piece: &str) -> Result<(), AllocError>
         ensures fail_at { self.new.fail_at ≡ self.old.fail_at }
-        ensures refused { self.new.refused ≡ self.old.refused }
+        ensures failed { self.new.failed ≡ self.old.failed }
     {
         let copy = piece.to_string(self.alloc)?;
         self.pieces.push(copy)?;
@@ -41,17 +41,17 @@ impl RecordingSink {
 impl Sink for RecordingSink {
     ghost step = { λ s piece t. t.fail_at ≡ s.fail_at };
 
-    ghost is_refused = { λ s. s.refused };
+    ghost has_failed = { λ s. s.failed };
 
     ghost reported = { λ s. None };
 
-    fn refused(&self) -> bool {
-        self.refused
+    fn has_failed(&self) -> bool {
+        self.failed
     }
 
     fn write_str(&mut self, s: &str) -> Result<(), SinkError> {
         if self.push_piece(s).is_err() || self.pieces.len() == self.fail_at {
-            self.refused = true;
+            self.failed = true;
             return Err(SinkError);
         }
         Ok(())

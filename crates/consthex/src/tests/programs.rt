@@ -1,10 +1,16 @@
 //! The complete program, from its arguments to its exit status and its message on standard error.
 
+// Terms of the contracts:
+// - `DecodesTo t r`: the text t decodes to the result r
+// - `Appends before after bs`: bs was appended to what a writer holds
+// - `Consumes before after bs`: bs was read from what a reader has left
+// - `Keeps before after`: these bytes did not change
+// - `IsAtEnd left`: nothing is left to read
 ghost use Rattle.std.specs.Prelude.{◌≡◌, ◌∷◌, ◌⊎◌, [], List, ℕ, Ok, Err, codes, map, string_bytes, take};
 ghost use Rattle.std.specs.Io.BufRead.{strip_last};
 ghost use Rattle.std.specs.Io.KnownBytes.{Appends, Consumes, IsAtEnd, Keeps};
 ghost use Rattle.std.specs.Process.{exit_status};
-ghost use Rattle.const_hex.specs.Prelude.{Reads};
+ghost use Rattle.const_hex.specs.Prelude.{DecodesTo};
 ghost use Rattle.const_hex.specs.declared.error.FromHexError.{FromHexError};
 
 use crate::mode::USAGE;
@@ -223,13 +229,13 @@ fn decode<R: Read, W: Write>(
     requires { map string_bytes arguments.now ≡ codes "decode" ∷ [] }
     ensures done { exit_status result ≡ 0 → (x : List ℕ) × (y : List ℕ)
         × Consumes (R.remaining input.old) (R.remaining input.new) x × IsAtEnd (R.remaining input.new)
-        × Reads (strip_last 10 x) (Ok y) × Appends (W.contents output.old) (W.contents output.new) y }
+        × DecodesTo (strip_last 10 x) (Ok y) × Appends (W.contents output.old) (W.contents output.new) y }
     ensures rejected { exit_status result ≡ 1 → (x : List ℕ) × (e : FromHexError)
         × Consumes (R.remaining input.old) (R.remaining input.new) x × IsAtEnd (R.remaining input.new)
-        × Reads (strip_last 10 x) (Err e) × Keeps (W.contents output.old) (W.contents output.new) }
+        × DecodesTo (strip_last 10 x) (Err e) × Keeps (W.contents output.old) (W.contents output.new) }
     ensures failed { exit_status result ≡ 3 → Keeps (W.contents output.old) (W.contents output.new)
         ⊎ ((x : List ℕ) × (y : List ℕ) × (n : ℕ) × Consumes (R.remaining input.old) (R.remaining input.new) x
-        × Reads (strip_last 10 x) (Ok y) × Appends (W.contents output.old) (W.contents output.new) (take n y)) }
+        × DecodesTo (strip_last 10 x) (Ok y) × Appends (W.contents output.old) (W.contents output.new) (take n y)) }
     ensures memory { exit_status result ≡ 4 → Keeps (W.contents output.old) (W.contents output.new) }
 {
     program_with(rt, arguments, input, output)

@@ -1,13 +1,16 @@
 -- A text that is written in groups, and encoded in chunks.
 --
 -- `g` are the groups, and `c` is the number of characters that the last group has. `u` and `t` are parts of the text,
--- and `out` is what was written. `x` and `y` are the input and the output so far.
+-- `done` and `count` numbers of its characters, and `out` is what was written. `x` and `y` are the input and the
+-- output so far, `chunk` and `z` those that follow. `PutsInto g c t y d` says that t is written in groups as y, from
+-- c characters in the last group to d. In a proof, the letters that its statement does not name are the hypotheses,
+-- in order.
 use Rattle.std.proofs.Common.{◌≡◌, ℕ, ◌+◌, ◌-◌, ◌<◌, ◌≤◌, List, [], ◌∷◌, ◌++◌, length, min, take, drop, get_or, slice_set, refl, sym, ap, ◌∙◌, arith, append_assoc, length-append, Bool, false, Result, take-add, length-set, length-take, length-take-le, length-drop, take-take, take_all, append-nil, OnErr, OnOk}
 use Rattle.std.proofs.lemmas.Bool.Decides.{nat_tests}
 use Rattle.std.proofs.lemmas.List.{take_more_set}
 use borrow.Rule.Slice.PartMut.{put_mid}
 use Rattle.hexfilter_core.proofs.lemmas.Texts.{take_put}
-use Rattle.hexfilter_core.specs.Dumps.{Groups, PutsInto, groups_from, encoded, ended}
+use Rattle.hexfilter_core.specs.Dumps.{Groups, PutsInto, groups_from, encoded, last_newline}
 use Rattle.const_hex.specs.Prelude.{full_text, hex_text, prefix_of}
 use Rattle.const_hex_arch.proofs.lemmas.Texts.{hex_text-append, hex_text-nil}
 use Rattle.hexfilter_core.specs.Stages.{Stage, HasEncoded}
@@ -101,16 +104,18 @@ unfolding groups_from
 puts_pairs s (a ∷ b ∷ c ∷ d ∷ e ∷ f ∷ g ∷ h ∷ text) rest many = refl
 puts_pairs s _ rest many = absurd (omega arith)
 
+-- what holds anyway holds if a result is `Ok`
 pub if_ok : {T E P : Type 0} (r : Result T E) → P → OnOk r P
 if_ok r p = grind arith
 
+-- what holds anyway holds if a result is `Err`
 pub if_err : {T E P : Type 0} (r : Result T E) → P → OnErr r P
 if_err r p = grind arith
 
 -- a further chunk is encoded
 pub encoded_more : (prefix up : Bool) (g : Groups) (old new : Stage) (x y chunk z : List ℕ)
     → HasEncoded prefix up g old x y
-    → PutsInto g old.column (full_text old.prefix up chunk) z new.column → new.prefix ≡ false → new.column ≤ g.size
+    → PutsInto g old.group_fill (full_text old.prefix up chunk) z new.group_fill → new.prefix ≡ false → new.group_fill ≤ g.size
     → HasEncoded prefix up g new (x ++ chunk) (y ++ z)
 encoded_more prefix up g old new x y chunk z has breaks due fits = record {
   rest = λ more.
@@ -124,8 +129,8 @@ encoded_more prefix up g old new x y chunk z has breaks due fits = record {
 -- an empty chunk ends the input
 pub encoded_last : (prefix up : Bool) (g : Groups) (old new : Stage) (x y chunk z : List ℕ)
     → HasEncoded prefix up g old x y
-    → PutsInto g old.column (full_text old.prefix up chunk) z new.column → new.prefix ≡ false → new.column ≤ g.size
-    → y ++ (z ++ ended g new.column) ≡ encoded prefix up g (x ++ chunk)
+    → PutsInto g old.group_fill (full_text old.prefix up chunk) z new.group_fill → new.prefix ≡ false → new.group_fill ≤ g.size
+    → y ++ (z ++ last_newline g new.group_fill) ≡ encoded prefix up g (x ++ chunk)
 unfolding groups_from
 encoded_last prefix up g old new x y chunk z has breaks due fits =
     let more = encoded_more prefix up g old new x y chunk z has breaks due fits in

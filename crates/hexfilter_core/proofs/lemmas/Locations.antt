@@ -1,15 +1,18 @@
 -- The line and column after parts of an input.
 --
--- `p` is a location, `x` is the input before it, and `u` are the bytes that follow.
+-- `p` is a location, `x` is the input before it, and `u` are the bytes that follow. 10 is a newline. In a proof, the
+-- letters that its statement does not name are the hypotheses, in order.
 use Rattle.std.proofs.Common.{◌≡◌, ◌≢◌, ℕ, ◌+◌, ◌%◌, ◌^◌, ◌-◌, ◌<◌, ◌≤◌, ◌==◌, cond, count_by, if◌then◌else◌, List, [], ◌∷◌, ◌++◌, length, refl, sym, ap, ◌∙◌, arith, length-append, All}
 use Rattle.std.proofs.lemmas.Bool.Decides.{nat_tests}
 use Rattle.std.proofs.lemmas.List.Elements.{All-head, All-tail}
 use Rattle.std.proofs.lemmas.List.Sums.{sum_by-cons}
-use Rattle.hexfilter_core.specs.Dumps.{IsLocation, Location, after, location_after}
+use Rattle.hexfilter_core.specs.Dumps.{IsLocation, Location, location_after_input, location_after}
 
+-- the location of the first byte
 abbrev start : Location
 start = record { line = 1; column = 1 }
 
+-- the location after one byte
 abbrev location_after_byte : Location → ℕ → Location
 location_after_byte p b =
     record { line = if b == 10 then p.line + 1 else p.line; column = if b == 10 then 1 else p.column + 1 }
@@ -46,7 +49,7 @@ pub location_after_run : (x u : List ℕ) (p : Location) (count column : ℕ) �
     → IsLocation (x ++ u) (record { line = p.line; column = column })
 location_after_run x u p count column located size plain e = λ short.
     let before = located (omega (arith, short, length-append x u)) in
-    let more = location_after_line_part (after x) u plain in
+    let more = location_after_line_part (location_after_input x) u plain in
     let few = (location_bounds start x (omega arith)).1 in
     rw (location_after-append start x u)
     (before.0 ∙ sym more.0, omega (arith, more.1, before.1, e, size, few, short, length-append x u))
@@ -77,9 +80,9 @@ pub location_in_line : (x lines line : List ℕ) (p : Location) → IsLocation x
 unfolding location_after
 location_in_line x lines line p located cut short plain =
     let here = located short in
-    let whole : after x ≡ location_after (location_after_byte (after lines) 10) line =
+    let whole : location_after_input x ≡ location_after (location_after_byte (location_after_input lines) 10) line =
     ap (location_after start) cut ∙ location_after-append start lines (10 ∷ line) in
-    let last = location_after_line_part (location_after_byte (after lines) 10) line plain in (
+    let last = location_after_line_part (location_after_byte (location_after_input lines) 10) line plain in (
       here.0 ∙ ap (λ q. q.line) whole ∙ omega (arith, last.0, line_from_newlines start lines),
       here.1 ∙ ap (λ q. q.column) whole ∙ omega (arith, last.1),
     )

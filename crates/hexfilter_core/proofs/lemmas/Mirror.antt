@@ -1,8 +1,10 @@
 -- A text that was encoded in lines or groups is decoded to the same bytes, with the options that mirror those of
 -- encoding.
 --
--- `i` says whether whitespace is ignored, `n` and `s` are the size and the separator of groups, and `k` is a column.
--- `t` is the encoded text without separators.
+-- `i` says whether whitespace is ignored, `n` and `s` are the size and the separator of groups, and `k` is the number
+-- of characters in the last group so far. `t` is the encoded text without separators. `DecodesTo t r` says that t
+-- decodes to the result r, and `Spells u bs` that the digits u decode to bs. In a proof, the letters that its
+-- statement does not name are the hypotheses, in order.
 use Rattle.std.proofs.Common.{◌≡◌, ◌≢◌, ℕ, ◌+◌, ◌<◌, ◌≤◌, ◌==◌, ◌&&◌, ◌||◌, Bool, true, false, if◌then◌else◌, List, [], ◌∷◌, ◌++◌, length, min, Option, None, Some, Ok, refl, ap, ◌∙◌, arith, append_assoc, append-nil, All}
 use Rattle.std.proofs.KnownBytes.{Consumes-all}
 use Rattle.std.proofs.lemmas.Bool.Decides.{nat_tests}
@@ -10,8 +12,8 @@ use Rattle.std.proofs.lemmas.List.Elements.{All-cons, All-head, All-nil, All-tai
 use Rattle.std.specs.Io.KnownBytes.{Appends, Consumes}
 use Rattle.const_hex.proofs.lemmas.Decoding.{body-longer}
 use Rattle.const_hex.proofs.lemmas.Reading.{result_unique}
-use Rattle.const_hex.proofs.lemmas.RoundTrip.{Reads-full_text}
-use Rattle.const_hex.specs.Prelude.{AreBytes, IsEven, Reads, body_of, AllDigits, IsDigit, full_text, hex_text, prefix_of}
+use Rattle.const_hex.proofs.lemmas.RoundTrip.{DecodesTo-full_text}
+use Rattle.const_hex.specs.Prelude.{AreBytes, IsEven, DecodesTo, body_of, AllDigits, IsDigit, full_text, hex_text, prefix_of}
 use Rattle.const_hex_arch.proofs.lemmas.Digits.{digits_append}
 use Rattle.const_hex_arch.proofs.lemmas.Texts.{Spells-digits, Spells-hex_text}
 use Rattle.hexfilter_core.specs.Dumps.{FromHexError, Groups, HasError, IgnoresLines, InvalidHexCharacter, OddLength, Location, Reading, encoded, groups_from, is_whitespace, mirror, text_from, text_of}
@@ -94,7 +96,7 @@ body_front (c ∷ d ∷ u) v h =
 -- an input with an error in a part of it cannot be decoded
 pub not_decoded : (r : Reading) (whole : List ℕ) (in_after : Option (List ℕ)) (x y bytes : List ℕ) (e : FromHexError)
     (location : Option Location) → Consumes (Some whole) in_after x → HasError r in_after x y e location
-    → Reads (text_of r whole) (Ok bytes) → ⊥
+    → DecodesTo (text_of r whole) (Ok bytes) → ⊥
 not_decoded r whole None x y bytes e location read fails reads = read
 not_decoded r whole (Some rest) x y bytes OddLength location read (none, end, odd, pairs) (even, decodes) =
     let same : IsEven (length (text_of r x)) = rw (read ∙ ap (λ l. x ++ l) end ∙ append-nil x) at even in
@@ -109,9 +111,9 @@ not_decoded r whole in_after x y bytes _ location read fails reads = fails
 
 module _ (prefix up i : Bool) (g : Groups) (ignores : IgnoresLines i g) (bytes : List ℕ) (are : AreBytes bytes) where
   -- the encoded text decodes to the bytes
-  read : (x : List ℕ) → x ≡ encoded prefix up g bytes → Reads (text_of (mirror i g) x) (Ok bytes)
+  read : (x : List ℕ) → x ≡ encoded prefix up g bytes → DecodesTo (text_of (mirror i g) x) (Ok bytes)
   read x text_eq =
-      Reads-full_text _ prefix up bytes are (ap (text_of (mirror i g)) text_eq
+      DecodesTo-full_text _ prefix up bytes are (ap (text_of (mirror i g)) text_eq
       ∙ by_separator i g.size g.separator _ _ refl (encoded_is_visible prefix up bytes are) ignores)
 
   -- the bytes are decoded again

@@ -8,33 +8,33 @@ use crate::proved::mode::Groups;
 const BLOCK: usize = 16;
 
 /// Writes the text to the front of the output, with a separator before each character that follows a full group.
-/// The first group has `column` characters already. Returns the number of bytes written, and the number of
+/// The first group has `group_fill` characters already. Returns the number of bytes written, and the number of
 /// characters in the last group.
 #[inline(never)]
 pub(crate) fn put_groups(
     groups: Groups,
-    column: usize,
+    group_fill: usize,
     text: &[u8],
     output: &mut [u8],
 ) -> (usize, usize) {
-    let mut column = column;
+    let mut group_fill = group_fill;
     let mut done = 0;
     let mut end = 0;
     'groups: while done < text.len() {
-        if column == groups.size && groups.size <= BLOCK && text.len() - done > BLOCK {
+        if group_fill == groups.size && groups.size <= BLOCK && text.len() - done > BLOCK {
             let (taken, put) = put_short(groups, &text[done..], &mut output[end..]);
             done += taken;
             end += put;
             continue;
         }
-        let (start, first) = separate(groups, column, output, end);
-        let count = (groups.size - first).min(text.len() - done);
+        let (start, fill) = separate(groups, group_fill, output, end);
+        let count = (groups.size - fill).min(text.len() - done);
         end = start + count;
         output[start..end].copy_from_slice(&text[done..done + count]);
         done += count;
-        column = first + count;
+        group_fill = fill + count;
     }
-    (end, column)
+    (end, group_fill)
 }
 
 /// Writes full groups to the front of the output, each after a separator, until at most `BLOCK` characters are left.
@@ -89,11 +89,11 @@ fn spread(separator: u8, a: u8, b: u8, c: u8, d: u8) -> [u8; 8] {
 
 /// Writes a separator to the output at the index `end` if the group is full. Returns the next index, and the number
 /// of characters in the group.
-fn separate(groups: Groups, column: usize, output: &mut [u8], end: usize) -> (usize, usize) {
-    if column == groups.size {
+fn separate(groups: Groups, group_fill: usize, output: &mut [u8], end: usize) -> (usize, usize) {
+    if group_fill == groups.size {
         return (put(Some(groups.separator), output, end), 0);
     }
-    (end, column)
+    (end, group_fill)
 }
 
 /// Writes a byte, if there is one, to the output at the index `end`, and returns the next index.

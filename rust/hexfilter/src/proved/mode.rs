@@ -20,7 +20,7 @@ pub enum Mode {
     Decode(Reading),
 }
 
-/// Groups of characters, with a separator between them.
+/// Groups of characters, with a separator between them. Lines are groups whose separator is a newline.
 #[derive(Clone, Copy, PartialEq, Eq, Debug)]
 pub struct Groups {
     /// How many characters a group has. The last may have fewer. With 0 there are no groups.

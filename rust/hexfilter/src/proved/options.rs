@@ -58,10 +58,14 @@ pub(crate) struct Options {
     ignore_whitespace: bool,
     help: bool,
     version: bool,
+    /// Whether lines are asked for, by `--wrap`.
     wrapped: bool,
+    /// Whether groups are asked for, by `--group` or `--separator`.
     grouped: bool,
+    /// The value of `--wrap` or `--group`.
     size: Option<usize>,
     separator: Option<u8>,
+    /// The index of the argument that names a file.
     file: Option<usize>,
     /// The kind of value that the last option still expects.
     value: Option<Value>,

@@ -14,7 +14,7 @@ const LANES: usize = 32;
 #[derive(Clone, Copy, Debug)]
 pub(crate) struct Scanner {
     /// The number of characters since the last separator, if there are groups.
-    column: usize,
+    group_fill: usize,
     /// The location of the next byte, if bytes may be left out.
     location: Location,
 }
@@ -22,7 +22,7 @@ pub(crate) struct Scanner {
 impl Scanner {
     /// A scanner that has read nothing.
     pub(crate) const START: Scanner = Scanner {
-        column: 0,
+        group_fill: 0,
         location: Location::FIRST,
     };
 
@@ -56,8 +56,8 @@ impl Scanner {
 
     /// Scans a byte, and returns what it adds to the text.
     fn scan_byte(&mut self, reading: Reading, byte: u8) -> Option<u8> {
-        let (added, column) = classify_byte(reading, self.column, byte);
-        self.column = column;
+        let (added, group_fill) = classify_byte(reading, self.group_fill, byte);
+        self.group_fill = group_fill;
         self.location = self.location.after(byte);
         added
     }
@@ -71,8 +71,8 @@ impl Scanner {
             self.location = self.location.advance_by(count);
             return count;
         }
-        let count = count.min(reading.groups.size.saturating_sub(self.column));
-        self.column = self.column.saturating_add(count);
+        let count = count.min(reading.groups.size.saturating_sub(self.group_fill));
+        self.group_fill = self.group_fill.saturating_add(count);
         self.location = self.location.advance_by(count);
         count
     }
@@ -91,20 +91,20 @@ fn copy_block(chunk: &[u8], output: &mut [u8]) -> usize {
 }
 
 /// What a byte adds to the text, and the number of characters since the last separator after it.
-fn classify_byte(reading: Reading, column: usize, byte: u8) -> (Option<u8>, usize) {
+fn classify_byte(reading: Reading, group_fill: usize, byte: u8) -> (Option<u8>, usize) {
     let groups = reading.groups;
-    let is_whole = groups.size > 0 && column == groups.size;
-    if is_whole && byte == groups.separator {
+    let is_full = groups.size > 0 && group_fill == groups.size;
+    if is_full && byte == groups.separator {
         return (None, 0);
     }
     if reading.ignore_whitespace && is_whitespace(byte) {
-        return (None, column);
+        return (None, group_fill);
     }
     if groups.size == 0 {
         return (Some(byte), 0);
     }
-    let next = column.saturating_add(1).min(groups.size);
-    (Some(if is_whole { 0 } else { byte }), next)
+    let next = group_fill.saturating_add(1).min(groups.size);
+    (Some(if is_full { 0 } else { byte }), next)
 }
 
 /// The number of lanes before the first space or control character.

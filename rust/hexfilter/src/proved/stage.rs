@@ -17,7 +17,7 @@ pub(crate) struct Stage {
     /// Whether the prefix must still be written.
     prefix: bool,
     /// The number of characters in the last group that was written.
-    column: usize,
+    group_fill: usize,
     /// The decoder of the text, from which bytes are left out.
     decoder: Decoder,
     /// The scanner of the input, which leaves out bytes.
@@ -31,7 +31,7 @@ impl Stage {
     pub(crate) fn new(mode: Mode) -> Stage {
         let mut stage = Stage {
             prefix: false,
-            column: 0,
+            group_fill: 0,
             decoder: Decoder::new(),
             scanner: Scanner::START,
             bytes_read: 0,
@@ -89,15 +89,15 @@ impl Stage {
         }
         let text = &mut text[..count];
         fill_text::<FixedKernel>(chunk, prefix, upper, text);
-        let column = self.column.min(groups.size);
-        let (end, next) = put_groups(groups, column, text, output);
-        self.column = next;
+        let group_fill = self.group_fill.min(groups.size);
+        let (end, next) = put_groups(groups, group_fill, text, output);
+        self.group_fill = next;
         end
     }
 
     /// The newline after the last line, at the end of the input, unless this line is empty.
     fn last_newline(&self, groups: Groups, is_eof: bool) -> Option<u8> {
-        if is_eof && groups.separator == b'\n' && self.column > 0 {
+        if is_eof && groups.separator == b'\n' && self.group_fill > 0 {
             return Some(b'\n');
         }
         None

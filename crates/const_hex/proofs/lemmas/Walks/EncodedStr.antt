@@ -1,9 +1,23 @@
 -- Symbolic execution (see `Walks`) of a function that fills a borrowed slice by one call if the text fits, and shares
 -- it with a second call, which returns it as text, or an error. One walk serves uppercase and lowercase.
 --
--- `e` is the function, `g` the first call and `h` the second. A list in brackets is the symbolic state: the resources
--- that are held there, in order. `𝓤` is the resource algebra of the separation logic `𝓛`, `𝓜` is the memory model, and
--- `𝓡` is the running program. Each line that ends in `$` applies a rule to the symbolic state.
+-- The modules `encodes`, `fills` and `as_text` are the contracts of the function, of the first call and of the
+-- second. `G` and `H` are those of the calls as triples, and `zg` and `zh` their arguments. `x` is the input, `o` the
+-- output, `s` the output after the first call, and `m` the length of the text.
+--
+-- A list in brackets is the symbolic state: the resources that are held there, in order. `𝓤` is the resource algebra
+-- of the separation logic `𝓛`, `𝓜` is the memory model, and `𝓡` is the running program. `κs` are the lifetimes, `qs`
+-- the shares of their tokens, `a` the arguments, `are` facts about them, and `v` is a machine value. Each line that
+-- ends in `$` applies a rule to the symbolic state.
+--
+-- The steps: `enter` begins the body; `alloc_all` allocates the locals; `pass_all` stores the arguments in them;
+-- `sets` executes an assignment; `calls_at` executes a call by its contract; `lands_as` stores its result; `returns`
+-- reads the result; `free_all` frees the locals; `suffices` states what is left to prove; `move` permutes the
+-- resources; `split` and `join` take apart and build a separating conjunction; `drop` discards a resource; `use0`,
+-- `use1` and `use2` apply an entailment to so many resources; `pick` opens an existential; `await` removes an update
+-- of ghost state; `heard` extracts a pure fact; `peeks` reads how a value is represented; `owned` adds a value by its
+-- representation; `rewrite` rewrites by an equation; `nothing` adds an empty resource; `frame` proves the first part
+-- of the goal; `group` joins several parts; `done` ends the proof.
 use Rattle.std.proofs.Common.{subst, IsAscii, ◌≢◌}
 use Rattle.std.proofs.result.Result.TheLaws.{the_row_laws as result_laws}
 use base.Fml.{Lft, Share}
@@ -29,9 +43,9 @@ use Rattle.std.specs.Borrow.{Array, full_share}
 use Rattle.std.specs.Io.BufRead.{Rests}
 use Rattle.const_hex.specs.Prelude.{hex_text, InvalidStringLength}
 use Rattle.const_hex.specs.contracts.error.FromHexError as hex_error
-use Rattle.const_hex.specs.contracts.codec.encoders.encode_to_str as e
-use Rattle.const_hex.specs.contracts.codec.encoders.encode_into as g
-use Rattle.const_hex.specs.contracts.codec.encoders.encoded_text as h
+use Rattle.const_hex.specs.contracts.codec.encoders.encode_to_str as encodes
+use Rattle.const_hex.specs.contracts.codec.encoders.encode_into as fills
+use Rattle.const_hex.specs.contracts.codec.encoders.encoded_text as as_text
 use Rattle.const_hex.proofs.error.FromHexError.TheLaws as hex_error_laws
 use Rattle.const_hex.proofs.lemmas.Walks.{flag, flag_lit}
 
@@ -43,14 +57,16 @@ ends : {A : Type 0} {m k : ℕ} {text old new : List ℕ} (r : Result (Bor (List
 ends (Ok w) fits lent filled unchanged = let e = filled (fits.0 refl) in (lent ∙ e, e)
 ends (Err e) fits lent filled unchanged = (tt, unchanged (λ k. cc (fits.1 k)))
 
-abbrev code_of : Bool → Fn
-code_of up = record {
+-- the MIR of the function. Its locals: 0 is the result, 1 the input, 2 the output, 3 what the first call returns; 4
+-- and 5 are the output as it is lent to the first call, and 6 and 7 as it is shared with the second
+abbrev encode_to_str_code : Bool → Fn
+encode_to_str_code up = record {
   lifetimes = 2;
   outlives = [];
   ty_params = [];
   givens = 0;
   params = 2;
-  locals = local (layout (e.signature.result.row ([], ([], tt)))) value_local
+  locals = local (layout (encodes.signature.result.row ([], ([], tt)))) value_local
       ∷ local (slice_ty (ty_ref (named 0) imm (ty_int w8))) value_local
       ∷ local (slice_ty (ty_ref (named 1) mut (ty_int w8))) value_local
       ∷ local (slice_ty (ty_ref erased mut (ty_int w8))) value_local
@@ -61,10 +77,10 @@ code_of up = record {
       ∷ [];
   body = seq (assign (place 4 []) (addr_of (place 2 (field 0 ∷ deref (ty_int w8) ∷ []))))
       (seq (assign (place 5 []) (aggregate (copy (place 4 []) ∷ copy (place 2 (field 1 ∷ [])) ∷ [])))
-      (seq (call g.Key.name (copy (place 1 []) ∷ flag up ∷ copy (place 5 []) ∷ []) (place 3 []))
+      (seq (call fills.Key.name (copy (place 1 []) ∷ flag up ∷ copy (place 5 []) ∷ []) (place 3 []))
       (seq (assign (place 6 []) (addr_of (place 3 (field 0 ∷ deref (ty_int w8) ∷ []))))
       (seq (assign (place 7 []) (aggregate (copy (place 6 []) ∷ copy (place 3 (field 1 ∷ [])) ∷ [])))
-      (seq (call h.Key.name (copy (place 1 []) ∷ copy (place 7 []) ∷ []) (place 0 []))
+      (seq (call as_text.Key.name (copy (place 1 []) ∷ copy (place 7 []) ∷ []) (place 0 []))
       end)))));
 }
 
@@ -97,8 +113,9 @@ module _ {M : Type 1} (𝓤 : Ura M) (𝓛 : Logic 𝓤) (𝓜 : Model 𝓤 𝓛
       (finally-res 𝓛 u8 s.ghost_name s.now) $
       move ! (1 ∷ 0 ∷ 2 ∷ []) $ done !
 
-  abbrev lends : Bool → Clauses 𝓤 e.ended
-  lends up κs a = record {
+  -- the contract of the function, in separation logic
+  abbrev encode_to_str_clauses : Bool → Clauses 𝓤 encodes.ended
+  encode_to_str_clauses up κs a = record {
     ghost = Unit {0};
     requires = λ ghost. emp 𝓤;
     ensures = λ ghost r at. sep 𝓤 (fact 𝓤 (IsOk r ↔ (length a.1.0.now ≡ 2 * length a.0.now)))
@@ -108,20 +125,21 @@ module _ {M : Type 1} (𝓤 : Ura M) (𝓛 : Logic 𝓤) (𝓜 : Model 𝓤 𝓛
         (λ new. MatchResult r (λ _. new ≡ hex_text up a.0.now) (λ _. new ≡ a.1.0.now))))));
   }
 
+  -- if both calls meet their contracts, so does the function
   pub text_or_error : (up : Bool) (self : Callee)
-      → Closed 𝓤 𝓛.H (tables 𝓤 𝓛.H 𝓜 𝓡 𝓡.env).C (tables 𝓤 𝓛.H 𝓜 𝓡 𝓡.env).Λ self (code_of up)
-      → Meets 𝓛 g.signature (𝓡.run (𝓡.env g.Key.name)) (g.spec 𝓛 𝓜.mem 𝓡.returns)
-      → Meets 𝓛 h.signature (𝓡.run (𝓡.env h.Key.name)) (h.spec 𝓛 𝓜.mem 𝓡.returns)
-      → Meets 𝓛 e.signature (𝓡.run (𝓡.env self)) (closing 𝓛 e.ended (lends up))
+      → Closed 𝓤 𝓛.H (tables 𝓤 𝓛.H 𝓜 𝓡 𝓡.env).C (tables 𝓤 𝓛.H 𝓜 𝓡 𝓡.env).Λ self (encode_to_str_code up)
+      → Meets 𝓛 fills.signature (𝓡.run (𝓡.env fills.Key.name)) (fills.spec 𝓛 𝓜.mem 𝓡.returns)
+      → Meets 𝓛 as_text.signature (𝓡.run (𝓡.env as_text.Key.name)) (as_text.spec 𝓛 𝓜.mem 𝓡.returns)
+      → Meets 𝓛 encodes.signature (𝓡.run (𝓡.env self)) (closing 𝓛 encodes.ended (encode_to_str_clauses up))
   text_or_error up self unfolded fills_met as_text_met =
-      let c = lends up in
+      let c = encode_to_str_clauses up in
       let 𝓣 = tables 𝓤 𝓛.H 𝓜 𝓡 𝓡.env in
-      let hs : Stays e.signature.params e.ended.kept = (stay_dropped _ yes, (stay_dropped _ no, tt)) in
-      proved 𝓛 e.ended hs c 𝓜 𝓡 (
+      let hs : Stays encodes.signature.params encodes.ended.kept = (stay_dropped _ yes, (stay_dropped _ no, tt)) in
+      proved 𝓛 encodes.ended hs c 𝓜 𝓡 (
         Goes-dropped 𝓛 2 (SliceRefOf (0 ∷ []) tt (plain (λ κs. u8)) (λ κs. tt)) yes (λ κs x w. refl),
         (Goes-spent_slice 𝓛 2 (1 ∷ []) tt (plain (λ κs. u8)), tt),
       )
-      self (code_of up) unfolded
+      self (encode_to_str_code up) unfolded
       (λ κs. (shr_slice_vals, (mut_slice_vals, tt)))
       (λ κs. (shr_slice_Tells (named 0) κs.0 u8, (mut_slice_Tells (named 1) κs.1.0 u8, tt)))
       (λ κs qs bounds a ghost are.
@@ -129,10 +147,10 @@ module _ {M : Type 1} (𝓤 : Ura M) (𝓛 : Logic 𝓤) (𝓜 : Model 𝓤 𝓛
       let x = a.0 in let o = a.1.0 in let m : ℕ = 2 * length x.now in
       let In = (ShrSlice (named 0) κs.0 u8).own_val x (shr_slice_vals x) in
       let Out = MutSlice (named 1) κ u8 in let Bytes = ShrSlice (named 1) κ u8 in
-      let Returned = e.signature.result.row κs in
+      let Returned = encodes.signature.result.row κs in
       let tokens = ‵ (flft κs.0 qs.0) ⊛ ‵ (flft κ q) ⊛ ‵ ftrue in
-      let G = triple_of 𝓛 g.signature (g.spec 𝓛 𝓜.mem 𝓡.returns) in
-      let H = triple_of 𝓛 h.signature (h.spec 𝓛 𝓜.mem 𝓡.returns) in
+      let G = triple_of 𝓛 fills.signature (fills.spec 𝓛 𝓜.mem 𝓡.returns) in
+      let H = triple_of 𝓛 as_text.signature (as_text.spec 𝓛 𝓜.mem 𝓡.returns) in
       let zg : G.Ghost =
       ((κs, qs, tt, (x, (up, (o, tt))), (shr_slice_vals x, (bool_vals up, (mut_slice_vals o, tt)))), tt) in
       qed 𝓛 ((tokens ⊛ ‵ In ⊛ ‵ (Out.own_val o (mut_slice_vals o)) ⊛ ‵ ftrue) ∷ ‵ ftrue ∷ []) ∵
@@ -153,7 +171,7 @@ module _ {M : Type 1} (𝓤 : Ura M) (𝓛 : Logic 𝓤) (𝓜 : Model 𝓤 𝓛
       calls_at ! (framed 𝓤 𝓛.H 𝓜 𝓣) G fills_met zg
       (and_then ! (get ! refl) (and_then ! (flag_lit up !) (and_then ! (get ! refl) (no_more !)))) (λ v.
       use1 𝓛 (later (some (λ (s : MutBor (List ℕ)). (tokens ⊛ ‵ (Out.own_val s (v ∷ []))) ⊛
-      some (λ (ws : Lasts g.ended κs zg.0.3). ‵ (lasts g.ended κs zg.0.3 ws) ⊛
+      some (λ (ws : Lasts fills.ended κs zg.0.3). ‵ (lasts fills.ended κs zg.0.3 ws) ⊛
       (raw (fact 𝓤 (s.ghost_name ≡ o.ghost_name)) ⊛ raw (fact 𝓤 (length s.now ≡ length o.now)) ⊛ raw
       (fact 𝓤 ((length s.now ≡ m) → s.now ≡ hex_text up x.now))
       ⊛ raw (fact 𝓤 ((length s.now ≡ m) → IsAscii s.now)) ⊛ raw (fact 𝓤 ((length s.now ≢ m) → s.now ≡ o.now)))))))
@@ -186,7 +204,7 @@ module _ {M : Type 1} (𝓤 : Ura M) (𝓛 : Logic 𝓤) (𝓜 : Model 𝓤 𝓛
       calls_at ! (framed 𝓤 𝓛.H 𝓜 𝓣) H as_text_met zh
       (and_then ! (get ! refl) (and_then ! (get ! refl) (no_more !))) (λ v'.
       use1 𝓛 (later (some (λ (r : Returned.Denot). (tokens ⊛ ‵ (Returned.own_val r (v' ∷ []))) ⊛
-      some (λ (ws' : Lasts h.ended κs zh.0.3). ‵ (lasts h.ended κs zh.0.3 ws') ⊛
+      some (λ (ws' : Lasts as_text.ended κs zh.0.3). ‵ (lasts as_text.ended κs zh.0.3 ws') ⊛
       (raw (fact 𝓤 (IsOk r ↔ (length s.now ≡ m))) ⊛ raw (fact 𝓤 (IfOk r (λ w. w.now ≡ s.now))) ⊛ raw
       (fact 𝓤 (IfErr r (λ x. x ≡ InvalidStringLength)))))))) (id⊢ 𝓤 _) $
       await ! tt $ pick !
@@ -200,7 +218,7 @@ module _ {M : Type 1} (𝓤 : Ura M) (𝓛 : Logic 𝓤) (𝓜 : Model 𝓤 𝓛
       lands_as ! refl refl typed $
       returns ! (look_at ! 0 refl) $ free_all ! refl $
       suffices ! _
-      (ends_at 𝓛 e.ended hs c ((κs, qs, bounds, a, (shr_slice_vals x, (mut_slice_vals o, tt))), tt) v' r (tt, (tt, tt))
+      (ends_at 𝓛 encodes.ended hs c ((κs, qs, bounds, a, (shr_slice_vals x, (mut_slice_vals o, tt))), tt) v' r (tt, (tt, tt))
       (tt, (tt, tt))) $
       let ended = ends r fits lent filled unchanged in
       move ! (2 ∷ []) $ use1 𝓛

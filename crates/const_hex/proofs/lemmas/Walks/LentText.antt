@@ -1,9 +1,21 @@
--- Symbolic execution (see `Walks`) of a function that fills a buffer by one call, which returns a borrow of the text in
--- a struct, and returns this borrow. One walk serves every such function, whatever the contracts are.
+-- Symbolic execution (see `Walks`) of a function that fills a buffer by one call, which returns a borrow of the text
+-- in a struct, and returns this borrow. One walk serves every such function, whatever the contracts are.
 --
--- A list in brackets is the symbolic state: the resources that are held there, in order. `𝓤` is the resource algebra of
--- the separation logic `𝓛`, `𝓜` is the memory model, and `𝓡` is the running program. Each line that ends in `$` applies
--- a rule to the symbolic state.
+-- `Fills` and `Lends` are the signatures of the call and of the function, `G` is the contract of the call as a
+-- triple, `z` are its arguments, and `d` is the struct that it returns. `n`, `p` and `len` are N, PREFIX and LEN.
+--
+-- A list in brackets is the symbolic state: the resources that are held there, in order. `𝓤` is the resource algebra
+-- of the separation logic `𝓛`, `𝓜` is the memory model, and `𝓡` is the running program. `κs` are the lifetimes, `qs`
+-- the shares of their tokens, `a` the arguments, `are` facts about them, and `v` is a machine value. Each line that
+-- ends in `$` applies a rule to the symbolic state.
+--
+-- The steps: `enter` begins the body; `alloc_all` allocates the locals; `pass_all` stores the arguments in them;
+-- `sets` executes an assignment; `calls_at` executes a call by its contract; `lands_as` stores its result; `returns`
+-- reads the result; `free_all` frees the locals; `suffices` states what is left to prove; `move` permutes the
+-- resources; `split` and `join` take apart and build a separating conjunction; `drop` discards a resource; `use0`,
+-- `use1` and `use2` apply an entailment to so many resources; `pick` opens an existential; `await` removes an update
+-- of ghost state; `peeks` reads how a value is represented; `owned` adds a value by its representation; `nothing`
+-- adds an empty resource; `done` ends the proof.
 use Rattle.const_hex_arch.proofs.lemmas.Walks.{ℕ, length, Bool, List, [], ◌∷◌, refl, ap, T, proved, id⊢, ftrue, Ty, Fn, Callee, local, value_local, ty_ref, ty_int, imm, mut, erased, field, deref, place, copy, rv_opd, addr_of, assign, call, seq, a_number, named, w8, Val, vptr, WT, has_ty, Running, tables, Model, Closed, Ura, Logic, ‵, raw, ◌⊛◌, some, later, ◌$◌, ◌∵◌, !, qed, done, move, drop, use1, use2, split, join, pick, await, suffices, enter, of_opd, addr, fld, stop, no_more, and_then, returns, alloc_all, pass_all, free_all, look_at, get, get_in, sub, whole, through, sets, lands_as, u8, bool, RefOf, SliceRefOf, RefMutOf, yes, no, left, Is, Tells, shows, bool_vals, bool_Makes, Slot, plain, nothing, owned, peeks, only, calls_at, Clauses, Ended, closing, lasts, Lasts, Meets, triple_of, RattleType, framed, ends_at}
 use mir.Syntax.{return as end}
 use types.Kit.{fsplit, fjoin}
@@ -32,14 +44,17 @@ use Rattle.const_hex.proofs.lemmas.Walks.{flag, flag_lit}
 abbrev stays : {n : ℕ} (s : Slot n) (k : Kept) → Stay s k
 stays s k = record { fit = λ κs x f. Unit {0}; has = λ κs x f vs. left ((s.row κs).exit k) x f }
 
+-- the law of `stays`: at the return there is nothing to prove
 goes : {M : Type 1} {𝓤 : Ura M} (𝓛 : Logic 𝓤) {n : ℕ} (s : Slot n) (k : Kept) → Goes 𝓛 n s k (stays s k)
 goes 𝓛 s k κs x f vs ok = 𝓛.laws.⇛_intro _
 
+-- a signature of five lifetimes, with what remains of each parameter after the return
 abbrev pub ended_of : (params : List (Slot 5)) → Kepts params → Slot 5 → Ended
 ended_of params kept result =
     record { signature = record { lifetimes = 5; outlives = []; params = params; result = result }; kept = kept }
 
--- the parameter for the bytes: its type, and its value in MIR
+-- the parameter for the bytes: its place in the signature, the machine value of an argument, which its representation
+-- determines (`reports`), its type in MIR, and that the value has this type (`typed`)
 pub record Input : Type 2 where
   pub slot : Slot 5
   pub val : (κs : Lfts 5) → (slot.row κs).Denot → Val
@@ -73,35 +88,40 @@ module _ (n p len : ℕ) where
     typed = λ κs x repr. (tt, tt);
   }
 
-  abbrev B : RattleType
-  B = the_row (param 0 (number n)) (param 1 (number p)) (param 2 (number len))
+  -- the type of the buffer
+  abbrev BufferType : RattleType
+  BufferType = the_row (param 0 (number n)) (param 1 (number p)) (param 2 (number len))
 
+  -- the parameter `&mut self`
   abbrev receiver : Slot 5
-  receiver = RefMutOf (0 ∷ []) tt (plain (λ κs. B)) (λ κs. tt)
+  receiver = RefMutOf (0 ∷ []) tt (plain (λ κs. BufferType)) (λ κs. tt)
 
   module _ (I : Input) (up : Bool) where
-    -- the signature of the call, and that of the function
+    -- the signature of the call
     abbrev pub Fills : Ended
     Fills = ended_of (receiver ∷ I.slot ∷ plain (λ κs. bool) ∷ []) (no, (yes, (yes, tt)))
         (plain (λ κs. lent.the_row (named_lft 5 0 tt κs)))
 
+    -- the signature of the function
     abbrev pub Lends : Ended
     Lends = ended_of (receiver ∷ I.slot ∷ []) (no, (yes, tt)) (StrRefOf (0 ∷ []) tt)
 
-    abbrev code_of : Callee → Fn
-    code_of fills = record {
+    -- the MIR of the function. Its locals: 0 is the result, 1 the buffer, 2 the input, 3 the struct that the call
+    -- returns, and 4 the buffer as it is lent to the call
+    abbrev format_code : Callee → Fn
+    format_code fills = record {
       lifetimes = 2;
       outlives = [];
       ty_params = [];
       givens = 0;
       params = 2;
       locals = local (slice_ty (ty_ref (named 0) imm (ty_int w8))) value_local
-          ∷ local (ty_ref (named 0) mut (pointee B.written)) value_local
+          ∷ local (ty_ref (named 0) mut (pointee BufferType.written)) value_local
           ∷ local I.ty value_local
           ∷ local (lent_laws.mir erased) value_local
-          ∷ local (ty_ref erased mut (pointee B.written)) value_local
+          ∷ local (ty_ref erased mut (pointee BufferType.written)) value_local
           ∷ [];
-      body = seq (assign (place 4 []) (addr_of (place 1 (deref (layout B) ∷ []))))
+      body = seq (assign (place 4 []) (addr_of (place 1 (deref (layout BufferType) ∷ []))))
           (seq (call fills (copy (place 4 []) ∷ copy (place 2 []) ∷ flag up ∷ []) (place 3 []))
           (seq (assign (place 0 []) (rv_opd (copy (place 3 (field 0 ∷ [])))))
           end));
@@ -116,15 +136,16 @@ module _ (n p len : ℕ) where
         ensures = λ g r e. at.ensures g (record { text = r }) (e.0, (e.1.0, (up, tt)));
       }
 
+      -- if the call meets its contract, so does the function
       pub passes_on : (self fills : Callee)
-          → Closed 𝓤 𝓛.H (tables 𝓤 𝓛.H 𝓜 𝓡 𝓡.env).C (tables 𝓤 𝓛.H 𝓜 𝓡 𝓡.env).Λ self (code_of fills)
+          → Closed 𝓤 𝓛.H (tables 𝓤 𝓛.H 𝓜 𝓡 𝓡.env).C (tables 𝓤 𝓛.H 𝓜 𝓡 𝓡.env).Λ self (format_code fills)
           → Meets 𝓛 Fills.signature (𝓡.run (𝓡.env fills)) (closing 𝓛 Fills c)
           → Meets 𝓛 Lends.signature (𝓡.run (𝓡.env self)) (closing 𝓛 Lends passed_on)
       passes_on self fills unfolded fills_met =
           let 𝓣 = tables 𝓤 𝓛.H 𝓜 𝓡 𝓡.env in
           let hs : Stays Lends.signature.params Lends.kept = (stays receiver no, (stays I.slot yes, tt)) in
-          proved 𝓛 Lends hs passed_on 𝓜 𝓡 (goes 𝓛 receiver no, (goes 𝓛 I.slot yes, tt)) self (code_of fills) unfolded
-          (λ κs. (mut_vals, ((λ x. I.val κs x ∷ []), tt))) (λ κs. (mut_Tells (named 0) κs.0 B, (I.reports κs, tt)))
+          proved 𝓛 Lends hs passed_on 𝓜 𝓡 (goes 𝓛 receiver no, (goes 𝓛 I.slot yes, tt)) self (format_code fills) unfolded
+          (λ κs. (mut_vals, ((λ x. I.val κs x ∷ []), tt))) (λ κs. (mut_Tells (named 0) κs.0 BufferType, (I.reports κs, tt)))
           (λ κs qs bounds a g are.
           let loan = named_lft 5 0 tt κs in let L = lent.the_type loan in let laws = lent_laws.the_laws loan in
           let Filled = lent.the_row loan in let Text = (StrRefOf {n = 5} (0 ∷ []) tt).row κs in

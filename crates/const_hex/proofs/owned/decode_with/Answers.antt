@@ -1,4 +1,5 @@
--- Proofs of open goals: `c` has the facts that are known at a goal, `g` the type parameters and their traits' members.
+-- Proof of the open goal `returns`: the clauses of the contract hold at the return. `c` has the facts that are known
+-- there. `g` has the type parameters and their traits' members. `search` is a proof search.
 use Rattle.std.proofs.Common.{rules}
 use Rattle.const_hex.proofs.lemmas.RoundTrip.{Decodes-from}
 use Rattle.const_hex.proofs.owned.decode_with.Goals as goal

@@ -1,4 +1,6 @@
--- Proofs of open goals: `c` has the facts that are known at a goal, `g` the type parameters and their traits' members.
+-- Proofs of open goals, named after their places: `returns` is a return; `then-F` is the `then` branch of the `if` that
+-- tests F; `else-F` is its `else` branch. `c` has the facts that are known there. `g` has the type parameters and their
+-- traits' members.
 use Rattle.std.proofs.Common.{◌+◌, ◌*◌, ◌/◌, ◌%◌, true, false, get_or, arith}
 use Rattle.const_hex_arch.specs.{hex_digit}
 use Rattle.const_hex_arch.specs.declared.tables.TheConstants.{PAIRS_LOWER, PAIRS_UPPER}

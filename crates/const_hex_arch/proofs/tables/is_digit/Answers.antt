@@ -1,4 +1,6 @@
--- Proofs of open goals: `c` has the facts that are known at a goal.
+-- Proof of the open goal `returns`: the clauses of the contract hold at the return. `c` has the facts that are known
+-- there: `c.args` are the arguments; `c.F.ensures` is what the call of F ensures; `F-x` is a call whose result is named
+-- x.
 use Rattle.std.proofs.Common.{◌≡◌, ◌+◌, ◌*◌, ◌%◌, ℕ, nat_lt, bit_or, arith, refl}
 use Rattle.std.proofs.lemmas.Bool.{agree_below_at}
 use Rattle.std.proofs.lemmas.Bool.Decides.{nat_tests}

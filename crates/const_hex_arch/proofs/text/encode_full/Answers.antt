@@ -1,4 +1,9 @@
--- Proofs of open goals: `c` has the facts that are known at a goal, `g` the type parameters and their traits' members.
+-- Proofs of open goals, named after their places: `returns` is the return at the end; `F-requires` is what the call of
+-- F requires. `c` has the facts that are known there: `c.args` are the arguments; `c.F.ensures` is what the call of F
+-- ensures. `g` has the type parameters and their traits' members. `search` is a proof search.
+--
+-- Terms of the contracts:
+-- - `full_text prefix upper bs`: the text of bs, after `0x` if `prefix` is true
 use Rattle.std.proofs.Common.{◌*◌, length, rules}
 use Rattle.const_hex_arch.specs.{prefix_of}
 use Rattle.const_hex_arch.proofs.lemmas.Runs.{Writes-append, Writes_space}

@@ -1,4 +1,5 @@
--- Proofs of open goals: `c` has the facts that are known at a goal.
+-- Proof of the open goal `returns`: the clauses of the contract hold at the return. `c` has the facts that are known
+-- there: `c.args` are the arguments; `c.F.ensures` is what the call of F ensures; `c.F.result` is its result.
 use Rattle.std.proofs.Common.{◌∙◌, ℕ, List, refl, arith}
 use Rattle.std.specs.Char.{encode_utf8}
 use Rattle.std.specs.Fmt.{digits}

@@ -1,4 +1,7 @@
--- Proofs of open goals: `c` has the facts that are known at a goal.
+-- Proofs of open goals, named after their places: `returns` is the return at the end; `L-init` is the invariant before
+-- the loop L; `L-preserved` is the invariant after an iteration of the loop L; `clause-X` is the clause X of the
+-- contract. `c` has the facts that are known there: `c.args` are the arguments; `c.L` has the variables of the loop L
+-- and its invariant.
 use Rattle.std.proofs.Common.{◌≡◌, ◌+◌, ◌-◌, ◌/◌, ◌%◌, [], ◌∷◌, length, decimal, refl, ap, ◌∙◌, arith, append-nil, append_assoc, length-append}
 use Rattle.std.proofs.lemmas.Fmt.{decimal_digit, decimal_nonempty, decimal_step, length-decimal-le}
 use Rattle.std.proofs.lemmas.List.{drop-set, drop_all, length-set}

@@ -1,4 +1,4 @@
--- Loop invariant and measure: `l` has the live variables.
+-- The invariant of the loop `digits`, and its measure, which decreases with each iteration. `l` has the live variables.
 use Rattle.std.proofs.Common.{◌≡◌, ◌+◌, ◌≤◌, ◌++◌, length, drop, decimal}
 use Rattle.const_hex_c.proofs.message.prepend_decimal.Given as goal
 

@@ -1,4 +1,5 @@
--- Proofs of open goals: `c` has the facts that are known at a goal.
+-- Proof of an open goal, named after its place: `returns` is a return; `in_default` is the last arm of a `match`;
+-- `clause-X` is the clause X of the contract. `c` has the facts that are known there.
 use Rattle.std.proofs.Common.{arith}
 use Rattle.std.proofs.lemmas.Bool.Decides.{nat_tests}
 use Rattle.std.specs.Char.{encode_utf8}

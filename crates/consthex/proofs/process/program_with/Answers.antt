@@ -1,4 +1,6 @@
--- Proofs of open goals: `c` has the facts that are known at a goal, `g` the type parameters and their traits' members.
+-- Proof of an open goal, named after its place: `returns` is a return; `in-V` is the arm V of a `match`; `clause-X` is
+-- the clause X of the contract. `c` has the facts that are known there: `c.F.ensures` is what the call of F ensures;
+-- `c.F.result` is its result. `g` has the type parameters and their traits' members.
 use Rattle.consthex.proofs.lemmas.Statuses.{ends_failed}
 use Rattle.consthex.proofs.process.program_with.Goals as goal
 

@@ -1,4 +1,8 @@
--- Loop invariant and measure: `l` has the live variables, `g` the type parameters and their traits' members.
+-- The invariant of the loop `reads`, and its measure, which decreases with each iteration. `l` has the live variables,
+-- `l.initial` their values before the loop. `g` has the type parameters and their traits' members.
+--
+-- Terms of the contracts:
+-- - `Consumes before after bs`: bs was read from what a reader has left
 use Rattle.std.proofs.Common.{◌-◌, vec_len}
 use Rattle.std.specs.Io.KnownBytes.{Consumes}
 use Rattle.consthex.proofs.runs.read_all.Given as goal

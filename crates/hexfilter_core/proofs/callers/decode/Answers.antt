@@ -1,13 +1,22 @@
--- Proofs of open goals: `c` has the facts that are known at a goal, `g` the type parameters and their traits' members.
--- `x` is the input that was read, `y` is the output that was written for it, and `has` is the fact that they match the
--- state.
+-- Proofs of open goals, named after their places: `returns` is the return at the end; `clause-X` is the clause X of the
+-- contract. `c` has the facts that are known there: `c.F.ensures` is what the call of F ensures; `c.F.result` is its
+-- result. `g` has the type parameters and their traits' members.
+--
+-- `x` is the input that was read, and `y` the output that was written for it: `read` and `wrote` are these facts, and
+-- `end` is the fact that the reader is at its end.
+--
+-- Terms of the contracts:
+-- - `DecodesTo t r`: the text t decodes to the result r
+-- - `body_of t`: t without its prefix
+-- - `Spells u bs`: the digits u decode to the bytes bs
 use Rattle.std.proofs.Common.{◌∷◌, ◌++◌, ◌*◌, [], Ok, false, length, refl, take}
 use Rattle.std.proofs.lemmas.Result.{on_err_weaker, on_ok_weaker}
 use Rattle.hexfilter_core.proofs.lemmas.Texts.{text_plain}
 use Rattle.hexfilter_core.specs.Dumps.{InvalidHexCharacter, IsOdd, OddLength, Reading, Spells, body_of}
-use Rattle.hexfilter_core.specs.Runs.{Reads}
+use Rattle.hexfilter_core.specs.Runs.{DecodesTo}
 use Rattle.hexfilter_core.proofs.callers.decode.Goals as goal
 
+-- the options of decoding a text without groups
 abbrev plain : Reading
 plain = record { is_check = false; ignore_whitespace = false; groups = record { size = 0; separator = 32 } }
 
@@ -15,7 +24,7 @@ pub returns-clause-ok : goal.returns-clause-ok
 returns-clause-ok g c =
     on_ok_weaker c.run.result (λ done.
     let (x, y, read, end, (bytes, reads, output_eq), wrote) = done in
-    let same : Reads x (Ok bytes) = rw (text_plain plain x refl) at reads in
+    let same : DecodesTo x (Ok bytes) = rw (text_plain plain x refl) at reads in
     (x, y, read, end, rw output_eq same, wrote))
     c.run.ensures.ok
 

@@ -1,6 +1,8 @@
--- Proofs of open goals: `c` has the facts that are known at a goal, `g` the type parameters and their traits' members.
--- `x` is the input that was read, `y` is the output that was written for it, and `has` is the fact that they match the
--- state.
+-- Proof of the open goal `returns`: the clauses of the contract hold at the return. `c` has the facts that are known
+-- there: `c.F.ensures` is what the call of F ensures. `g` has the type parameters and their traits' members.
+--
+-- `x` is the input that was read, and `y` the output that was written for it: `read` and `wrote` are these facts, and
+-- `end` is the fact that the reader is at its end.
 use Rattle.hexfilter_core.proofs.lemmas.Locations.{location_in_line}
 use Rattle.hexfilter_core.specs.Dumps.{InvalidHexCharacter}
 use Rattle.hexfilter_core.proofs.callers.decode_lines.Goals as goal

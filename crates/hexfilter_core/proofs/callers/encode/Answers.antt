@@ -1,6 +1,12 @@
--- Proofs of open goals: `c` has the facts that are known at a goal, `g` the type parameters and their traits' members.
--- `x` is the input that was read, `y` is the output that was written for it, and `has` is the fact that they match the
--- state.
+-- Proof of the open goal `returns`: the clauses of the contract hold at the return. `c` has the facts that are known
+-- there: `c.F.ensures` is what the call of F ensures. `g` has the type parameters and their traits' members.
+--
+-- `x` is the input that was read, and `y` the output that was written for it: `read` and `wrote` are these facts, and
+-- `end` is the fact that the reader is at its end.
+--
+-- Terms of the contracts:
+-- - `full_text prefix upper bs`: the text of bs, after `0x` if `prefix` is true
+-- - `groups_from g k t`: the text t in the groups g, if the first has k characters already
 use Rattle.std.proofs.Common.{◌≡◌, ◌∙◌, [], ℕ, List, None, append-nil, arith, false, refl, sym}
 use Rattle.hexfilter_core.proofs.lemmas.Groups.{without_groups}
 use Rattle.hexfilter_core.proofs.lemmas.Runs.{ends_always, not_rejected}
@@ -9,9 +15,11 @@ use Rattle.hexfilter_core.specs.Options.{with_arguments}
 use Rattle.hexfilter_core.specs.Runs.{Encode, Mode}
 use Rattle.hexfilter_core.proofs.callers.encode.Goals as goal
 
+-- no groups and no lines
 abbrev plain : Groups
 plain = record { size = 0; separator = 10 }
 
+-- then the output is the text
 text : (x : List ℕ) → encoded false false plain x ≡ full_text false false x
 unfolding groups_from
 text x = simp append-nil at (without_groups plain 0 (full_text false false x) [] refl (omega arith))

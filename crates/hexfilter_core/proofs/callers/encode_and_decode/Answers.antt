@@ -1,6 +1,13 @@
--- Proofs of open goals: `c` has the facts that are known at a goal, `g` the type parameters and their traits' members.
--- `x` is the input that was read, `y` is the output that was written for it, and `has` is the fact that they match the
--- state.
+-- Proof of the open goal `returns`: the clauses of the contract hold at the return. `c` has the facts that are known
+-- there: `c.args` are the arguments; `c.F.ensures` is what the call of F ensures; `c.F.result` is its result; `c.F.new`
+-- is what it has changed; `F-x` is a call whose result is named x. `g` has the type parameters and their traits'
+-- members.
+--
+-- `x` is the input that was read, and `y` the output that was written for it: `read` and `wrote` are these facts, and
+-- `end` is the fact that the reader is at its end.
+--
+-- Terms of the contracts:
+-- - `mirror ignores g`: the options that decode a text in the groups g
 use Rattle.std.proofs.Common.{arith, ◌≡◌, ◌∙◌, None, Some, refl}
 use Rattle.std.specs.Process.{exit_status}
 use Rattle.const_hex.specs.Prelude.{AreBytes}
@@ -35,7 +42,7 @@ returns g c =
       done = λ zero again.
           decoded_again prefix up ignores groups lines bytes are input rest out_before out_after (text zero)
           (second.0 again);
-      never_text = λ zero. not_rejected n _ (Some input) rest out_before out_after second (λ e location rejected.
+      never_rejected = λ zero. not_rejected n _ (Some input) rest out_before out_after second (λ e location rejected.
           never_rejected prefix up ignores groups lines bytes are input rest out_before out_after e location (text zero)
           rejected);
     }

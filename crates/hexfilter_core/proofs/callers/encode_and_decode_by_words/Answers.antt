@@ -1,4 +1,10 @@
--- Proofs of open goals: `c` has the facts that are known at a goal, `g` the type parameters and their traits' members.
+-- Proof of an open goal, named after its place: `F-requires` is what the call of F requires; `clause-X` is the clause X
+-- of the contract. `c` has the facts that are known there. `g` has the type parameters and their traits' members.
+--
+-- Terms of the contracts:
+-- - `mirror ignores g`: the options that decode a text in the groups g
+-- - `IgnoresLines ignores g`: whitespace is ignored if g are lines
+-- - `AreFor m arguments`: the arguments ask for the mode m
 use Rattle.std.proofs.Common.{◌≡◌, ◌⊎◌, ◌∷◌, [], Bool, ℕ, List, codes, false, inl, inr, refl, true}
 use Rattle.hexfilter_core.specs.Dumps.{Groups, IgnoresLines, mirror}
 use Rattle.hexfilter_core.specs.Options.{AreFor, WritesGroups, is_separator}
@@ -11,6 +17,7 @@ ArgumentsMatch write read =
     (prefix : Bool) × (upper : Bool) × (ignores : Bool) × (g : Groups) × IgnoresLines ignores g
     × AreFor (Encode prefix upper g) write × AreFor (Decode (mirror ignores g)) read
 
+-- both pairs of arguments that the contract names do so
 arguments_match : (write read words : List (List ℕ))
     → words ≡ codes "--group" ∷ codes "1" ∷ codes "--separator" ∷ codes ":" ∷ []
     → ((write ≡ codes "--prefix" ∷ codes "--upper" ∷ codes "--wrap" ∷ codes "64" ∷ [])

@@ -1,4 +1,10 @@
--- Proofs of open goals: `c` has the facts that are known at a goal, `g` the type parameters and their traits' members.
+-- Proof of the open goal `returns`: the clauses of the contract hold at the return. `c` has the facts that are known
+-- there: `c.args` are the arguments; `c.F.ensures` is what the call of F ensures; `c.F.result` is its result; `c.F.new`
+-- is what it has changed; `F-x` is a call whose result is named x. `g` has the type parameters and their traits'
+-- members.
+--
+-- Terms of the contracts:
+-- - `RunsToEnd m ..`: the whole input was read, and the mode's output for it written
 use Rattle.std.proofs.Common.{arith, ◌∙◌, Some}
 use Rattle.std.proofs.lemmas.Result.{on_ok_weaker}
 use Rattle.const_hex.specs.Prelude.{AreBytes}
@@ -22,7 +28,7 @@ returns g c =
           (λ ran.
           decoded_again prefix up ignores groups lines bytes are _ rest out_before out_after text (rw read at ran))
           c.run-2.ensures.ok;
-      never_text = λ e location result_eq.
+      never_rejected = λ e location result_eq.
           never_rejected prefix up ignores groups lines bytes are _ rest out_before out_after e location text
           (rw read at (c.run-2.ensures.text e location result_eq));
     }

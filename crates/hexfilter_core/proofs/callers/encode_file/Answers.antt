@@ -1,9 +1,11 @@
--- Proofs of open goals: `c` has the facts that are known at a goal, `g` the type parameters and their traits' members.
+-- Proof of the open goal `returns`: the clauses of the contract hold at the return. `c` has the facts that are known
+-- there: `c.F.ensures` is what the call of F ensures. `g` has the type parameters and their traits' members.
 use Rattle.std.proofs.Common.{Some, codes, false, refl}
 use Rattle.hexfilter_core.specs.Options.{with_arguments}
 use Rattle.hexfilter_core.specs.Runs.{Encode, Mode}
 use Rattle.hexfilter_core.proofs.callers.encode_file.Goals as goal
 
+-- the mode of a run without options
 abbrev mode : Mode
 mode = Encode false false (record { size = 0; separator = 10 })
 

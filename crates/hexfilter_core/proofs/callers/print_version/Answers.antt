@@ -1,8 +1,10 @@
--- Proofs of open goals: `c` has the facts that are known at a goal, `g` the type parameters and their traits' members.
+-- Proof of the open goal `returns`: the clauses of the contract hold at the return. `c` has the facts that are known
+-- there: `c.F.ensures` is what the call of F ensures. `g` has the type parameters and their traits' members.
 use Rattle.std.proofs.Common.{◌≡◌, ◌⊎◌, ◌∷◌, [], ℕ, List, Ok, codes, inl, inr, refl}
 use Rattle.hexfilter_core.specs.Options.{Version, request_for, with_arguments, with_letters}
 use Rattle.hexfilter_core.proofs.callers.print_version.Goals as goal
 
+-- these arguments ask for the version
 is_version : (words : List (List ℕ)) → (words ≡ codes "--version" ∷ []) ⊎ (words ≡ codes "-V" ∷ [])
     → request_for words ≡ Ok Version
 unfolding with_arguments with_letters

@@ -1,4 +1,6 @@
--- Proofs of open goals: `c` has the facts that are known at a goal.
+-- Proof of an open goal, named after its place: `returns` is the return at the end; `clause-X` is the clause X of the
+-- contract. `c` has the facts that are known there: `c.args` are the arguments; `c.F.ensures` is what the call of F
+-- ensures; `c.F.new` is what it has changed.
 use Rattle.std.proofs.Common.{arith}
 use Rattle.hexfilter_core.proofs.lemmas.Groups.{puts_one}
 use Rattle.hexfilter_core.proofs.groups.put_block.Goals as goal

@@ -1,4 +1,7 @@
--- Proofs of open goals: `c` has the facts that are known at a goal.
+-- Proofs of open goals, named after their places: `returns` is the return at the end; `F-requires` is what the call of
+-- F requires; `clause-X` is the clause X of the contract. `c` has the facts that are known there: `c.args` are the
+-- arguments; `c.F.ensures` is what the call of F ensures; `c.F.new` is what it has changed; `F-x` is a call whose
+-- result is named x.
 use Rattle.std.proofs.Common.{◌≡◌, ◌≤◌, ◌++◌, ◌∙◌, drop, length, length-take, refl, arith}
 use Rattle.hexfilter_core.proofs.lemmas.Groups.{puts_pairs}
 use Rattle.hexfilter_core.proofs.lemmas.Texts.{take_put}

@@ -1,4 +1,8 @@
--- Loop invariant and measure: `l` has the live variables.
+-- The invariant of the loop `groups`, and its measure, which decreases with each iteration. `l` has the live variables.
+--
+-- Terms of the contracts:
+-- - `PutsInto g k t y m`: the text t is written in the groups g as y, if the first group has k characters already;
+--   the last one then has m
 use Rattle.std.proofs.Common.{◌*◌, ◌≤◌, ◌-◌, length, take}
 use Rattle.hexfilter_core.specs.Dumps.{PutsInto}
 use Rattle.hexfilter_core.proofs.groups.put_short.Given as goal

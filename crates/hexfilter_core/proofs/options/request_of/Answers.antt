@@ -1,13 +1,15 @@
--- Proofs of open goals: `c` has the facts that are known at a goal.
+-- Proofs of open goals, named after their places: `returns` is a return; `in-V` is the arm V of a `match`;
+-- `L-preserved` is the invariant after an iteration of the loop L. `c` has the facts that are known there:
+-- `c.F.ensures` is what the call of F ensures; `c.L` has the variables of the loop L and its invariant.
 use Rattle.std.proofs.Common.{Err, Ok, string_bytes, sym, ap, ◌∙◌}
-use Rattle.hexfilter_core.proofs.lemmas.Arguments.{argument_read, read_back}
+use Rattle.hexfilter_core.proofs.lemmas.Arguments.{next_argument, read_back}
 use Rattle.hexfilter_core.specs.Options.{request_for}
 use Rattle.hexfilter_core.proofs.options.request_of.Goals as goal
 
 pub returns-in-Err : goal.returns-in-Err
 returns-in-Err c =
     let result_eq = sym
-    (argument_read string_bytes _ _ _ (Err c.in-Err.kind) _ _ c.loop-index-test.true c.index-arguments-index.is
+    (next_argument string_bytes _ _ _ (Err c.in-Err.kind) _ _ c.loop-index-test.true c.index-arguments-index.is
     c.as_str.ensures.value (sym c.in-Err.is ∙ c.with_argument.ensures)) ∙ c.loop-index.invariant in
     record {
       grammar = result_eq;
@@ -16,5 +18,5 @@ returns-in-Err c =
 
 pub loop-index-preserved : goal.loop-index-preserved
 loop-index-preserved c =
-    sym (argument_read string_bytes _ _ _ (Ok c.in-Ok.more) _ _ c.loop-index-test.true c.index-arguments-index.is
+    sym (next_argument string_bytes _ _ _ (Ok c.in-Ok.more) _ _ c.loop-index-test.true c.index-arguments-index.is
     c.as_str.ensures.value (sym c.in-Ok.is ∙ c.with_argument.ensures)) ∙ c.loop-index.invariant

@@ -1,4 +1,4 @@
--- Loop invariant: `l` has the live variables.
+-- The invariant of the loop `loop-index`. `l` has the live variables, `l.fn` the function's arguments.
 use Rattle.std.proofs.Common.{◌≡◌, drop, map, string_bytes}
 use Rattle.hexfilter_core.specs.Options.{request_for, with_arguments}
 use Rattle.hexfilter_core.proofs.options.request_of.Given as goal

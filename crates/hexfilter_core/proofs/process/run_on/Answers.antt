@@ -1,8 +1,13 @@
--- Proofs of open goals: `c` has the facts that are known at a goal, `g` the type parameters and their traits' members.
+-- Proofs of open goals, named after their places: `returns` is a return; `then-F` is the `then` branch of the `if` that
+-- tests F; `in-V` is the arm V of a `match`; `clause-X` is the clause X of the contract. `c` has the facts that are
+-- known there: `c.args` are the arguments; `c.F.ensures` is what the call of F ensures; `c.F.result` is its result;
+-- `c.F.new` is what it has changed; `F-x` is a call whose result is named x. `g` has the type parameters and their
+-- traits' members.
 use Rattle.std.proofs.Common.{◌≡◌, List, ℕ, Some, Option, true, false, refl, Bor, option_copied}
 use Rattle.hexfilter_core.proofs.lemmas.Runs.{ends}
 use Rattle.hexfilter_core.proofs.process.run_on.Goals as goal
 
+-- a name that is there is the name that the contract speaks of
 same_name : (name : Option (Bor (List ℕ))) (b : Bor (List ℕ)) (n : List ℕ) → name ≡ Some b → option_copied name ≡ Some n
     → b.now ≡ n
 same_name name b n name_eq named = cc

@@ -1,4 +1,5 @@
--- Proofs of open goals: `c` has the facts that are known at a goal.
+-- Proofs of open goals, named after their places: `returns` is the return at the end; `then-F` is the `then` branch of
+-- the `if` that tests F. `c` has the facts that are known there: `c.args` are the arguments.
 use Rattle.std.proofs.Common.{◌≡◌, length, arith, nat_lt, w8}
 use Rattle.std.proofs.lemmas.Simd.{bitmask_splat, first_set_mask_l}
 use Rattle.hexfilter_core.proofs.scanner.count_above_space.Goals as goal

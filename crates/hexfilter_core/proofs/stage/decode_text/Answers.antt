@@ -1,4 +1,6 @@
--- Proofs of open goals: `c` has the facts that are known at a goal.
+-- Proofs of open goals, named after their places: `returns` is the return at the end; `in-V` is the arm V of a `match`;
+-- `clause-X` is the clause X of the contract. `c` has the facts that are known there: `c.F.ensures` is what the call of
+-- F ensures; `c.F.result` is its result; `F-x` is a call whose result is named x; `c.if-F` is the test of F.
 use Rattle.std.proofs.Common.{arith, refl}
 use Rattle.std.proofs.lemmas.Result.{IfOk-weaker}
 use Rattle.const_hex_arch.proofs.lemmas.FirstInvalid.{digits_not_invalid}

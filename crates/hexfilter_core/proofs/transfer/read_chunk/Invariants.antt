@@ -1,4 +1,8 @@
--- Loop invariant: `l` has the live variables, `g` the type parameters and their traits' members.
+-- The invariant of the loop `reads`. `l` has the live variables, `l.initial` their values before the loop. `g` has the
+-- type parameters and their traits' members.
+--
+-- Terms of the contracts:
+-- - `Keeps before after`: these bytes did not change
 use Rattle.std.specs.Io.KnownBytes.{Keeps}
 use Rattle.hexfilter_core.proofs.transfer.read_chunk.Given as goal
 

@@ -1,4 +1,8 @@
--- Loop invariant: `l` has the live variables, `g` the type parameters and their traits' members.
+-- The invariant of the loop `writes`. `l` has the live variables, `l.initial` their values before the loop. `g` has the
+-- type parameters and their traits' members.
+--
+-- Terms of the contracts:
+-- - `Appends before after bs`: bs was appended to what a writer holds
 use Rattle.std.proofs.Common.{length, take, ◌≤◌}
 use Rattle.std.specs.Io.KnownBytes.{Appends}
 use Rattle.hexfilter_core.proofs.transfer.write_piece.Given as goal

@@ -1,4 +1,8 @@
 -- `format_slice_upper` returns the text that `write_text` borrows: see `lemmas/Walks.antt`.
+--
+-- `𝓤` is the resource algebra of the separation logic `𝓛`, `𝓜` is the memory model, and `𝓡` is the running program.
+-- `wired` says that the program has the code of the function and of what it calls. `n`, `p` and `len` are N, PREFIX
+-- and LEN, and `fits_..` says that each is a number of its type.
 use Rattle.std.specs.Prelude.{true}
 use denote.Param.{number}
 use Rattle.const_hex.proofs.lemmas.Walks.LentText.{slice_input, numbers, passes_on}

@@ -1,4 +1,8 @@
--- Proofs of open goals: `c` has the facts that are known at a goal.
+-- Proofs of open goals, named after their places: `returns` is the return at the end; `then-F` is the `then` branch of
+-- the `if` that tests F; `L-preserved` is the invariant after an iteration of the loop L; `clause-X` is the clause X of
+-- the contract. `c` has the facts that are known there: `c.args` are the arguments; `c.F.ensures` is what the call of F
+-- ensures; `c.F.result` is its result; `c.if-F` is the test of F; `c.L` has the variables of the loop L and its
+-- invariant.
 use Rattle.std.proofs.Common.{◌∙◌, get_or, arith}
 use Rattle.std.proofs.lemmas.List.{take_all}
 use Rattle.const_hex.specs.Prelude.{AllDigits}

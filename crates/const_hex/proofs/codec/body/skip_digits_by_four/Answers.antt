@@ -1,4 +1,8 @@
--- Proofs of open goals: `c` has the facts that are known at a goal.
+-- Proofs of open goals, named after their places: `returns` is a return; `then-F` is the `then` branch of the `if` that
+-- tests F; `L-preserved` is the invariant after an iteration of the loop L; `clause-X` is the clause X of the contract;
+-- `-2` is the second one of that name. `c` has the facts that are known there: `c.args` are the arguments;
+-- `c.F.ensures` is what the call of F ensures; `F-x` is a call whose result is named x; `c.if-F` is the test of F;
+-- `c.L` has the variables of the loop L and its invariant.
 use Rattle.std.proofs.Common.{◌+◌, ◌≤◌, length, take, refl, arith}
 use Rattle.const_hex.specs.Prelude.{AllDigits}
 use Rattle.const_hex.proofs.lemmas.Searching.{two_more}

@@ -1,4 +1,4 @@
--- Loop invariant and measure: `l` has the live variables.
+-- The invariant of the loop `fours`, and its measure, which decreases with each iteration. `l` has the live variables.
 use Rattle.std.proofs.Common.{◌-◌, ◌≤◌, length, take}
 use Rattle.const_hex.specs.Prelude.{AllDigits}
 use Rattle.const_hex.proofs.codec.body.skip_digits_by_four.Given as goal

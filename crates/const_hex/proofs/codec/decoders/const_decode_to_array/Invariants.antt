@@ -1,4 +1,8 @@
--- Loop invariant and measure: `l` has the live variables, `g` the type parameters and their traits' members.
+-- The invariant of the loop `pairs`, and its measure, which decreases with each iteration. `l` has the live variables.
+-- `g` has the type parameters and their traits' members.
+--
+-- Terms of the contracts:
+-- - `Spells u bs`: the digits u decode to the bytes bs
 use Rattle.std.proofs.Common.{◌≡◌, ◌≤◌, ◌*◌, ◌-◌, length, take}
 use Rattle.const_hex.specs.Prelude.{AllDigits, Spells}
 use Rattle.const_hex.proofs.codec.decoders.const_decode_to_array.Given as goal

@@ -1,4 +1,7 @@
 -- `encode_to_str_upper` returns a borrow of the text in the slice, or leaves it unchanged: see `lemmas/Walks.antt`.
+--
+-- `𝓤` is the resource algebra of the separation logic `𝓛`, `𝓜` is the memory model, and `𝓡` is the running program.
+-- `wired` says that the program has the code of the function and of what it calls.
 use Rattle.std.specs.Prelude.{true}
 use Rattle.const_hex.proofs.lemmas.Walks.EncodedStr.{text_or_error}
 use Rattle.const_hex.proofs.codec.encoders.encode_to_str_upper.Statement.{statement}

@@ -1,4 +1,7 @@
--- Proofs of open goals: `c` has the facts that are known at a goal, `g` the type parameters and their traits' members.
+-- Proof of an open goal, named after its place: `returns` is a return; `in-V` is the arm V of a `match`; `clause-X` is
+-- the clause X of the contract. `c` has the facts that are known there: `c.args` are the arguments; `c.F.ensures` is
+-- what the call of F ensures; `c.F.result` is its result; `c.F.new` is what it has changed. `g` has the type parameters
+-- and their traits' members.
 use Rattle.std.proofs.Common.{◌≡◌, ◌∙◌, refl, sym, ap, subst, ℕ, ◌<◌, Bool, true, false, if◌then◌else◌, [], ◌∷◌, ◌++◌, Some, None, codes, decimal, arith, append_assoc}
 use Rattle.std.specs.Char.{encode_utf8, is_ascii}
 use Rattle.std.specs.Fmt.{DisplaysOnOk, debug_escape, ◌++?◌}

@@ -1,4 +1,4 @@
--- Loop invariant: `l` has the live variables.
+-- The invariant of the loop `bytes`. `l` has the live variables.
 use Rattle.std.proofs.Common.{◌≡◌, take, map}
 use Rattle.const_hex.specs.Prelude.{signed_of}
 use Rattle.const_hex.proofs.traits.signed.fill_signed.Given as goal

@@ -1,4 +1,6 @@
--- Proofs of open goals: `c` has the facts that are known at a goal, `g` the type parameters and their traits' members.
+-- Proof of an open goal, named after its place: `returns` is the return at the end; `clause-X` is the clause X of the
+-- contract. `c` has the facts that are known there: `c.F.ensures` is what the call of F ensures. `g` has the type
+-- parameters and their traits' members.
 use Rattle.const_hex.proofs.lemmas.WriteSinks.{streamed_text}
 use Rattle.const_hex.proofs.write_sink.WriteSink.write_hex.Goals as goal
 

@@ -1,4 +1,5 @@
--- Proofs of open goals: `c` has the facts that are known at a goal.
+-- Proof of the open goal `returns`: the clauses of the contract hold at the return. `c` has the facts that are known
+-- there: `c.args` are the arguments; `c.F.ensures` is what the call of F ensures.
 use Rattle.std.proofs.Common.{true, arith}
 use Rattle.const_hex.specs.Prelude.{AreBytes}
 use Rattle.const_hex_tests.proofs.examples.store.round_trip.Goals as goal

@@ -1,4 +1,6 @@
--- Proofs of open goals: `c` has the facts that are known at a goal.
+-- Proofs of open goals, named after their places: `returns` is the return at the end; `clause-X` is the clause X of the
+-- contract. `c` has the facts that are known there: `c.args` are the arguments; `c.F.ensures` is what the call of F
+-- ensures; `F-x` is a call whose result is named x.
 use Rattle.std.proofs.Common.{[], arith}
 use Rattle.const_hex.proofs.lemmas.Decoding.{body-shorter}
 use Rattle.const_hex.specs.Decoding.{NamesInvalidSaturated}

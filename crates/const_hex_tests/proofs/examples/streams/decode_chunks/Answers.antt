@@ -1,4 +1,6 @@
--- Proofs of open goals: `c` has the facts that are known at a goal.
+-- Proof of an open goal, named after its place: `returns` is the return at the end; `clause-X` is the clause X of the
+-- contract. `c` has the facts that are known there: `c.F.ensures` is what the call of F ensures; `F-x` is a call whose
+-- result is named x.
 use Rattle.std.proofs.Common.{[], arith}
 use Rattle.const_hex_tests.proofs.examples.streams.decode_chunks.Goals as goal
 

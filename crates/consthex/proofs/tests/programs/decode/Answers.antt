@@ -1,11 +1,22 @@
--- Proofs of open goals: `c` has the facts that are known at a goal, `g` the type parameters and their traits' members.
--- `x` is the input that was read, `y` is the output that was written for it, and `has` is the fact that they match the
--- state.
+-- Proof of the open goal `returns`: the clauses of the contract hold at the return. `c` has the facts that are known
+-- there: `c.F.ensures` is what the call of F ensures. `g` has the type parameters and their traits' members.
+--
+-- `x` is the input that was read, and `y` the output that was written for it: `read` and `wrote` are these facts, and
+-- `end` is the fact that the reader is at its end.
+--
+-- Terms of the contracts:
+-- - `DecodesTo t r`: the text t decodes to the result r
+-- - `Appends before after bs`: bs was appended to what a writer holds
+-- - `Consumes before after bs`: bs was read from what a reader has left
+-- - `Keeps before after`: these bytes did not change
+-- - `WritesBeginning before after bs`: a beginning of bs was appended
+-- - `IsResultOfInput m in_before in_after r`: r is the result of the mode m for the input that was read, to its end
+-- - `Ends m status ..`: a run in the mode m ended with this exit status
 use Rattle.std.proofs.Common.{arith, ◌≡◌, ◌≢◌, ◌∷◌, ◌⊎◌, ◌∙◌, [], List, Ok, Option, ℕ, codes, inl, inr, refl, sym, take}
 use Rattle.std.specs.Io.BufRead.{strip_last}
 use Rattle.std.specs.Io.KnownBytes.{Appends, Consumes, Keeps}
-use Rattle.const_hex.specs.Prelude.{Reads, WritesBeginning}
-use Rattle.consthex.specs.Program.{Answers, Ends, word_of}
+use Rattle.const_hex.specs.Prelude.{DecodesTo, WritesBeginning}
+use Rattle.consthex.specs.Program.{IsResultOfInput, Ends, word_of}
 use Rattle.consthex.specs.declared.mode.Mode.{Mode}
 use Rattle.consthex.specs.declared.mode.Mode.TheVariants.{Decode}
 use Rattle.consthex.proofs.tests.programs.decode.Goals as goal
@@ -28,9 +39,9 @@ ends_decode words status in_before in_after out_before out_after is_decode ran n
 -- after a failed read or write, nothing was written, or a beginning of the decoded bytes
 partly_written : (in_before in_after out_before out_after : Option (List ℕ))
     → Keeps out_before out_after
-    ⊎ ((bs : List ℕ) × Answers Decode in_before in_after (Ok bs) × WritesBeginning out_before out_after bs)
+    ⊎ ((bs : List ℕ) × IsResultOfInput Decode in_before in_after (Ok bs) × WritesBeginning out_before out_after bs)
     → Keeps out_before out_after
-    ⊎ ((x : List ℕ) × (y : List ℕ) × (n : ℕ) × Consumes in_before in_after x × Reads (strip_last 10 x) (Ok y)
+    ⊎ ((x : List ℕ) × (y : List ℕ) × (n : ℕ) × Consumes in_before in_after x × DecodesTo (strip_last 10 x) (Ok y)
     × Appends out_before out_after (take n y))
 partly_written in_before in_after out_before out_after (inl unchanged) = inl unchanged
 partly_written in_before in_after out_before out_after

@@ -1,4 +1,5 @@
--- Proofs of open goals: `c` has the facts that are known at a goal.
+-- Proof of the open goal `returns`: the clauses of the contract hold at the return. `c` has the facts that are known
+-- there: `c.args` are the arguments.
 use Rattle.std.proofs.Common.{refl}
 use Rattle.hexfilter_core.proofs.lemmas.Locations.{location_after_run}
 use Rattle.hexfilter_core.proofs.location.Location.advance_by.Goals as goal

@@ -1,4 +1,5 @@
--- Proofs of open goals: `c` has the facts that are known at a goal.
+-- Proof of an open goal, named after its place: `returns` is a return; `then-F` is the `then` branch of the `if` that
+-- tests F. `c` has the facts that are known there: `c.args` are the arguments; `c.if-F` is the test of F.
 use Rattle.std.proofs.Common.{refl}
 use Rattle.hexfilter_core.proofs.lemmas.Locations.{location_after_newline}
 use Rattle.hexfilter_core.proofs.location.Location.after.Goals as goal

@@ -1,4 +1,5 @@
--- Loop invariant and measure: `l` has the live variables.
+-- The invariant of the loop `loop-letters`, and its measure, which decreases with each iteration. `l` has the live
+-- variables, `l.fn` the function's arguments.
 use Rattle.std.proofs.Common.{◌≡◌, length}
 use denote.Text.{Utf8}
 use denote.Shadow.{shadow}

@@ -1,4 +1,7 @@
--- Proofs of open goals: `c` has the facts that are known at a goal.
+-- Proofs of open goals, named after their places: `then-F` is the `then` branch of the `if` that tests F; `L-preserved`
+-- is the invariant after an iteration of the loop L. `c` has the facts that are known there: `c.args` are the
+-- arguments; `c.F.ensures` is what the call of F ensures; `c.F.result` is its result; `F-x` is a call whose result is
+-- named x; `c.L` has the variables of the loop L and its invariant.
 use Rattle.std.proofs.Common.{◌≡◌, ◌+◌, ◌-◌, ◌<◌, length, length-drop, length-take, arith, option_to_list, take, drop}
 use Rattle.hexfilter_core.proofs.lemmas.Texts.{added_byte, added_run}
 use Rattle.hexfilter_core.proofs.scanner.Scanner.scan.Goals as goal

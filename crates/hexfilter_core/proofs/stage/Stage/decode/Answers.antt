@@ -1,16 +1,23 @@
--- Proofs of open goals: `c` has the facts that are known at a goal. `x` is the input that was read, `y` is the output
--- that was written for it, and `has` is the fact that they match the state.
+-- Proofs of open goals, named after their places: `returns` is the return at the end; `in-V` is the arm V of a `match`;
+-- `L-preserved` is the invariant after an iteration of the loop L; `clause-X` is the clause X of the contract. `c` has
+-- the facts that are known there: `c.args` are the arguments; `c.F.ensures` is what the call of F ensures; `c.F.new` is
+-- what it has changed; `F-x` is a call whose result is named x; `c.L` has the variables of the loop L and its
+-- invariant.
+--
+-- `x` is the input that was read, `y` is the output that was written for it, and `has` is the fact that they match the
+-- state.
 use Rattle.std.proofs.Common.{◌≡◌, ◌∷◌, ◌++◌, ◌+◌, ◌<◌, ℕ, List, length, take, drop, get_or, sym, arith, append_assoc, length-drop, take_all}
 use Rattle.std.proofs.lemmas.Grind.{common_steps}
 use Rattle.std.proofs.lemmas.Slice.{take-put_mid_below}
 use Rattle.hexfilter_core.proofs.lemmas.Texts.{append_chunk_byte, take_put}
 use Rattle.hexfilter_core.proofs.stage.Stage.decode.Goals as goal
 
+-- an input, cut before and after the byte with the index k of the chunk u
 cut_at : (x u : List ℕ) (k : ℕ) → k < length u → (x ++ take k u) ++ get_or u k 0 ∷ drop (k + 1) u ≡ x ++ u
 cut_at x u k h = grind (arith, common_steps)
 
-pub returns-in-Ok-clause-made : goal.returns-in-Ok-clause-made
-returns-in-Ok-clause-made c = λ x y in_after has.
+pub returns-in-Ok-clause-reaches : goal.returns-in-Ok-clause-reaches
+returns-in-Ok-clause-reaches c = λ x y in_after has.
     (λ some. c.in-Ok.ensures.ok x y has, λ none. absurd (omega (arith, none, c.requires.chunk)))
 
 pub bytes-preserved : goal.bytes-preserved
@@ -36,8 +43,8 @@ bytes-preserved c =
           (ensured.ok (x ++ take done chunk) (y ++ take end out) (i.decoded x y has));
     }
 
-pub returns-in-Err-clause-made : goal.returns-in-Err-clause-made
-returns-in-Err-clause-made c = λ x y in_after has.
+pub returns-in-Err-clause-reaches : goal.returns-in-Err-clause-reaches
+returns-in-Err-clause-reaches c = λ x y in_after has.
     let chunk = c.args.chunk.now in
     let done = c.bytes.done in
     let end = c.bytes.end in
@@ -54,8 +61,8 @@ returns-in-Err-clause-made c = λ x y in_after has.
     (c.error.ensures (x ++ take done chunk) (y ++ take end out) (drop (done + 1) chunk) in_after read
     (omega (arith, length-drop (done + 1) chunk, c.requires.chunk, inside)) invalid))
 
-pub returns-clause-made : goal.returns-clause-made
-returns-clause-made c = λ x y in_after has. (
+pub returns-clause-reaches : goal.returns-clause-reaches
+returns-clause-reaches c = λ x y in_after has. (
   λ some. rw (take_all c.bytes.done c.args.chunk.now (omega arith)) at (c.bytes.invariant.decoded x y has),
   λ none. absurd (omega (arith, none, c.requires.chunk)),
 )

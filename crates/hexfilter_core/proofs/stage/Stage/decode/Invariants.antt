@@ -1,4 +1,7 @@
--- Loop invariant: `l` has the live variables.
+-- The invariant of the loop `bytes`. `l` has the live variables, `l.fn` the function's arguments.
+--
+-- Terms of the contracts:
+-- - `HasDecoded r s x y`: s is the state of a run after the input x, for which y was written
 use Rattle.std.proofs.Common.{◌≤◌, ◌++◌, ℕ, List, take}
 use Rattle.hexfilter_core.specs.Stages.{HasDecoded}
 use Rattle.hexfilter_core.proofs.stage.Stage.decode.Given as goal

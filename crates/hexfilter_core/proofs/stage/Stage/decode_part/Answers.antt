@@ -1,5 +1,13 @@
--- Proofs of open goals: `c` has the facts that are known at a goal. `x` is the input that was read, `y` is the output
--- that was written for it, and `has` is the fact that they match the state.
+-- Proofs of open goals, named after their places: `returns` is the return at the end; `then-F` is the `then` branch of
+-- the `if` that tests F; `clause-X` is the clause X of the contract. `c` has the facts that are known there: `c.args`
+-- are the arguments; `c.F.ensures` is what the call of F ensures; `c.F.result` is its result; `c.F.new` is what it has
+-- changed; `F-x` is a call whose result is named x; `c.if-F` is the test of F.
+--
+-- `x` is the input that was read, `y` is the output that was written for it, and `has` is the fact that they match the
+-- state.
+--
+-- Terms of the contracts:
+-- - `text_of r x`: the input x without the bytes that are left out
 use Rattle.std.proofs.Common.{arith, length-take, refl}
 use Rattle.std.proofs.lemmas.Result.{IfOk-weaker}
 use Rattle.hexfilter_core.proofs.lemmas.Texts.{decoded_more, plain_added}

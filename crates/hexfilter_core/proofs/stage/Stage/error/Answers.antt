@@ -1,5 +1,8 @@
--- Proofs of open goals: `c` has the facts that are known at a goal. `x` is the input that was read, `y` is the output
--- that was written for it, and `has` is the fact that they match the state.
+-- Proof of the open goal `returns`: the clauses of the contract hold at the return. `c` has the facts that are known
+-- there: `c.args` are the arguments; `c.F.ensures` is what the call of F ensures.
+--
+-- `x` is the input that was read, `y` is the output that was written for it, and `has` is the fact that they match the
+-- state.
 use Rattle.std.proofs.Common.{refl}
 use Rattle.hexfilter_core.proofs.lemmas.Texts.{pairs}
 use Rattle.hexfilter_core.proofs.stage.Stage.error.Goals as goal

@@ -1,4 +1,7 @@
--- Proofs of open goals: `c` has the facts that are known at a goal.
+-- Proofs of open goals, named after their places: `returns` is the return at the end; `then-F` is the `then` branch of
+-- the `if` that tests F. `c` has the facts that are known there: `c.args` are the arguments; `c.F.ensures` is what the
+-- call of F ensures; `c.F.new` is what it has changed; `F-x` is a call whose result is named x; `c.if-F` is the test of
+-- F. `search` is a proof search.
 use Rattle.std.proofs.Common.{◌∙◌, refl, rules}
 use Rattle.std.proofs.lemmas.Bool.{false≢true}
 use Rattle.const_hex.proofs.lemmas.Decoding.{first_invalid_in_chunk, body_is_digits, check_more}

@@ -1,6 +1,14 @@
--- Proofs of open goals: `c` has the facts that are known at a goal, `g` the type parameters and their traits' members.
+-- Proofs of open goals, named after their places: `returns` is the return at the end; `then-F` is the `then` branch of
+-- the `if` that tests F. `c` has the facts that are known there: `c.args` are the arguments; `c.F.ensures` is what the
+-- call of F ensures; `c.F.result` is its result; `c.F.new` is what it has changed; `F-x` is a call whose result is
+-- named x; `c.if-F` is the test of F. `g` has the type parameters and their traits' members. `search` is a proof
+-- search.
+--
+-- Terms of the contracts:
+-- - `ChunkResult t bs n r`: the last chunk of t has the result r, after the bytes bs, with space for n more
+-- - `HasRead d t bs`: the decoder d has read t without an error, and has written bs for it
 use Rattle.std.proofs.Common.{◌++◌, ℕ, List, Err, arith, refl, sym, length, ◌≡◌, ◌∙◌, take, drop, rules, length-take-le, take_at, drop_at}
-use Rattle.const_hex.specs.Prelude.{HasRead, InvalidStringLength, ReadsOn}
+use Rattle.const_hex.specs.Prelude.{HasRead, InvalidStringLength, ChunkResult}
 use Rattle.const_hex_arch.proofs.lemmas.Digits.{digits_append}
 use Rattle.const_hex_arch.proofs.lemmas.FirstInvalid.{digits_not_invalid}
 use Rattle.const_hex.proofs.lemmas.Decoding.{body_added, first_invalid_in_chunk, body_is_digits, decode_more, decoded_length, partial_pairs}
@@ -10,7 +18,7 @@ pub returns-then-count-output : goal.returns-then-count-output
 returns-then-count-output g c =
     let next = c.next_digits-pending in
     let outcome : (t bs : List ℕ) → HasRead c.args.self.now t bs
-    → ReadsOn (t ++ c.args.chunk.now) bs (length c.args.output.now) (Err InvalidStringLength) =
+    → ChunkResult (t ++ c.args.chunk.now) bs (length c.args.output.now) (Err InvalidStringLength) =
     λ t bs r.
     let size = decoded_length _ c.args.chunk.now _ _ next.ensures.body next.ensures.pending_valid t bs r _
     c.count_pairs-count.ensures in omega (arith, size) in search (rules, outcome)

@@ -1,4 +1,10 @@
--- Proofs of open goals: `c` has the facts that are known at a goal, `g` the type parameters and their traits' members.
+-- Proof of an open goal, named after its place: `returns` is the return at the end; `clause-X` is the clause X of the
+-- contract. `c` has the facts that are known there: `c.args` are the arguments; `c.F.ensures` is what the call of F
+-- ensures; `c.F.result` is its result; `F-x` is a call whose result is named x. `g` has the type parameters and their
+-- traits' members.
+--
+-- Terms of the contracts:
+-- - `saturated n`: n, but at most `usize::MAX`
 use Rattle.std.proofs.Common.{◌≡◌, ◌+◌, arith}
 use Rattle.const_hex.specs.Prelude.{saturated, position_of}
 use Rattle.const_hex.proofs.codec.decoder.Decoder.fail.Goals as goal

@@ -1,4 +1,6 @@
--- Proofs of open goals: `c` has the facts that are known at a goal.
+-- Proofs of open goals, named after their places: `returns` is the return at the end; `then-F` is the `then` branch of
+-- the `if` that tests F; `clause-X` is the clause X of the contract. `c` has the facts that are known there: `c.args`
+-- are the arguments; `c.if-F` is the test of F. `search` is a proof search.
 use Rattle.std.proofs.Common.{arith, refl, rules}
 use Rattle.const_hex.proofs.lemmas.Decoding.{ends_even, ends_odd}
 use Rattle.const_hex.proofs.codec.decoder.Decoder.finish.Goals as goal

@@ -1,4 +1,6 @@
--- Proofs of open goals: `c` has the facts that are known at a goal, `g` the type parameters and their traits' members.
+-- Proof of an open goal, named after its place: `returns` is a return; `in-V` is the arm V of a `match`. `c` has the
+-- facts that are known there: `c.F.ensures` is what the call of F ensures; `F-x` is a call whose result is named x. `g`
+-- has the type parameters and their traits' members. `search` is a proof search.
 use Rattle.std.proofs.Common.{rules, sym}
 use Rattle.std.proofs.lemmas.Bool.{not-true}
 use Rattle.const_hex.proofs.lemmas.Printing.{printed_stream}

@@ -1,4 +1,10 @@
--- Proofs of open goals: `c` has the facts that are known at a goal, `g` the type parameters and their traits' members.
+-- Proof of an open goal, named after its place: `returns` is a return; `then-F` is the `then` branch of the `if` that
+-- tests F. `c` has the facts that are known there: `c.args` are the arguments; `c.F.ensures` is what the call of F
+-- ensures; `c.F.new` is what it has changed; `c.if-F` is the test of F. `g` has the type parameters and their traits'
+-- members.
+--
+-- A buffered output is seen as a pair: `s.0` is the output, and `s.1` the pending text. `v` is the fact that the fields
+-- are seen so after the bytes were found to be long, `m` is that for the output, and `e` says that nothing is pending.
 use Rattle.std.proofs.Common.{◌≡◌, [], take, refl, ap, ◌∙◌, arith}
 use Rattle.std.proofs.lemmas.List.{nil_from_length}
 use Rattle.const_hex_arch.proofs.lemmas.Runs.{Buffers-long}

@@ -1,4 +1,10 @@
--- Proofs of open goals: `c` has the facts that are known at a goal, `g` the type parameters and their traits' members.
+-- Proofs of open goals, named after their places: `returns` is the return at the end; `F-requires` is what the call of
+-- F requires; `-2` is the second one of that name. `c` has the facts that are known there: `c.args` are the arguments;
+-- `c.F.ensures` is what the call of F ensures; `c.F.result` is its result; `F-x` is a call whose result is named x. `g`
+-- has the type parameters and their traits' members.
+--
+-- Terms of the contracts:
+-- - `hex_text upper bs`: two digits for each of the bytes bs
 use Rattle.std.proofs.Common.{◌≡◌, ◌*◌, ◌+◌, length, arith}
 use Rattle.const_hex.specs.Texts.{hex_text}
 use Rattle.const_hex_arch.proofs.lemmas.Runs.{Writes-append, Writes_space}

@@ -1,10 +1,15 @@
 //! The result of a mode for an input.
 
+// Terms of the contracts:
+// - `DecodesTo t r`: the text t decodes to the result r
+// - `full_text prefix upper bs`: the text of bs, after `0x` if `prefix` is true
+// - `IsResult m x r`: r is the result of the mode m for the input x
+// - `MayAllocate m x`: the mode may allocate for x
 ghost use Rattle.std.specs.Prelude.{◌≡◌, ◌≢◌, ◌≤◌, ◌<◌, ◌++◌, ◌+◌, ◌↔◌, ◌⊎◌, List, ℕ, codes, length, IfOk, IfErr, Ok, Err};
-ghost use Rattle.const_hex.specs.Prelude.{IsOdd, Reads, full_text, text_length};
+ghost use Rattle.const_hex.specs.Prelude.{IsOdd, DecodesTo, full_text, text_length};
 ghost use Rattle.const_hex.specs.declared.error.FromHexError.{FromHexError};
 ghost use Rattle.const_hex.specs.declared.error.FromHexError.TheVariants.{OddLength};
-ghost use Rattle.consthex.specs.Program.{Answer, MayAllocate, without_newline, newline, limit};
+ghost use Rattle.consthex.specs.Program.{IsResult, MayAllocate, without_newline, newline, limit};
 ghost use Rattle.consthex.specs.declared.error.RunError.TheVariants.{Text, TooLong, NoMemory};
 ghost use Rattle.consthex.specs.declared.mode.Mode.TheVariants.{Decode, Check};
 
@@ -23,20 +28,20 @@ pub(crate) const LIMIT: usize = 1_048_576;
 /// One newline at the end of the input is not part of the text.
 ///
 /// ```rust
-/// let line = answer(rt.alloc(), Mode::EncodeUpper, b"kiwi")?;
+/// let line = result_of(rt.alloc(), Mode::EncodeUpper, b"kiwi")?;
 /// assert_eq!(rt; line.as_slice(), b"6B697769\n".as_slice());
 /// ```
-pub fn answer(alloc: Global, mode: Mode, input: &[u8]) -> Result<Vec<u8>, RunError>
-    ensures ok { IfOk result (λ v. Answer mode input.now (Ok v.items)) }
-    ensures err { IfErr result (λ e. e ≢ NoMemory → Answer mode input.now (Err e)) }
+pub fn result_of(alloc: Global, mode: Mode, input: &[u8]) -> Result<Vec<u8>, RunError>
+    ensures ok { IfOk result (λ v. IsResult mode input.now (Ok v.items)) }
+    ensures err { IfErr result (λ e. e ≢ NoMemory → IsResult mode input.now (Err e)) }
     ensures too_long { (result ≡ Err TooLong) ↔ (limit < length input.now) }
     ensures no_memory { result ≡ Err NoMemory → MayAllocate mode input.now }
     // In every mode, `RunError::Text` is returned only for a text that cannot be decoded.
     ensures invalid { (e : FromHexError) → result ≡ Err (Text e)
-        → Reads (without_newline input.now) (Err e) }
+        → DecodesTo (without_newline input.now) (Err e) }
     // The result is `ok` only for a text that can be decoded.
     ensures checked { mode ≡ Check → IfOk result (λ v. (v.items ≡ codes "ok" ++ newline)
-        × ((bs : List ℕ) × Reads (without_newline input.now) (Ok bs))) }
+        × ((bs : List ℕ) × DecodesTo (without_newline input.now) (Ok bs))) }
     // An odd length never leads to `NoMemory`.
     ensures odd { (mode ≡ Decode) ⊎ (mode ≡ Check) → length input.now ≤ limit
         → IsOdd (length (without_newline input.now)) → result ≡ Err (Text OddLength) }
