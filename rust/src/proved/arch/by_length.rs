@@ -43,6 +43,8 @@ impl<const N: usize, V: LaneOps<N> + LaneOps<16>> Kernel for ByLength<N, V> {
             short::check::<V>(input)
         } else if input.len() <= 32 {
             short::check_two_vectors::<16, V>(input)
+        } else if input.len() <= 2 * N {
+            short::check_two_vectors::<N, V>(input)
         } else {
             long::check::<N, V>(input)
         }
