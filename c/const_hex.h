@@ -86,11 +86,11 @@
  * PLATFORMS
  *
  * On Linux tested with glibc and musl on x86-64, and with glibc on AArch64, under QEMU only; for macOS assembled and
- * linked, and not run; on BSD not tried. On x86-64 the CPU must support x86-64-v2 (SSE4.2 and what came with it, introduced about
- * 2009; some CPUs lacked it until 2013): on another one a function may stop the program with an illegal instruction.
- * What encodes, checks and decodes digits has a second build for x86-64-v3 (AVX2 and what came with it), which is
- * used if the CPU supports it. The first call detects that and stores the result in one byte; nothing else is kept
- * between calls.
+ * linked, and not run; on BSD not tried. On x86-64 the CPU must support x86-64-v2 (SSE4.2 and what came with it,
+ * introduced about 2009; some CPUs lacked it until 2013): on another one a function may stop the program with an
+ * illegal instruction. What encodes, checks and decodes digits has a second build for x86-64-v3 (AVX2 and what came
+ * with it), which is used if the CPU supports it. The first call detects that and stores the result in one byte;
+ * nothing else is kept between calls.
  *
  * A function uses at most 2,048 bytes of stack, which the tool machine_code checks (on Windows windows.c adds some
  * 200 by gcc 12, which it does not check), and calls no other library. The object files have no unwind tables: a

@@ -1,13 +1,13 @@
 //! Encoding and decoding of keys, passwords and other secrets.
 //!
 //! For valid input, whatever depends on a byte happens in the inner loop, the kernel. On x86-64 with SSE4.2, and on
-//! AArch64 with an operating system, that is machine code: in programs for Linux and Windows, and not on other systems, it
-//! is proved that no branch and no address depends on a byte. Elsewhere it computes digits without a table, and one branch
-//! after the last byte tests whether all are digits, which is constant-time by design, and tested on x86-64. The code
-//! around it, which is compiled with yours, only copies bytes.
+//! AArch64 with an operating system, that is machine code, of which it is proved, for Linux and Windows only, that no
+//! branch and no address depends on a byte. Elsewhere it computes digits without a table, and one branch after the
+//! last byte tests whether all are digits, which is constant-time by design, and tested on x86-64. The code around it,
+//! which is compiled with yours, only copies bytes.
 //!
-//! Nothing here clears the stack, a register, or text of yours. [`decode_to_array`] may leave a copy on the stack: to wipe
-//! a key, decode it by [`decode_to_slice`] into a buffer that you wipe.
+//! Nothing here clears the stack, a register, or text of yours. [`decode_to_array`] may leave a copy on the stack: to
+//! wipe a key, decode it by [`decode_to_slice`] into a buffer that you wipe.
 //!
 //! ```
 //! # use const_hex_proved::secret;
@@ -17,8 +17,8 @@
 //! # Ok::<(), secret::Error>(())
 //! ```
 //!
-//! A prefix is an error, since a test for one would decide by a byte. If you know that there is one, leave out these two
-//! bytes, which this does not test. Do not slice a `&str`: that can panic, with the text in the message.
+//! A prefix is an error, since a test for one would decide by a byte. If you know that there is one, leave out these
+//! two bytes, which this does not test. Do not slice a `&str`: that can panic, with the text in the message.
 //!
 //! ```
 //! # use const_hex_proved::secret;
