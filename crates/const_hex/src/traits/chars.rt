@@ -53,7 +53,7 @@ impl<const UPPER: bool> Iterator for BytesToHexChars<'_, UPPER> {
     ghost remaining = { item_count (chars_left UPPER) };
 
     #[inline]
-    #[tactic(auto, using(crate::proofs::lemmas::Characters::remaining_characters))]
+    #[tactic(auto, using(crate::proofs::lemmas::CharIterator::remaining_characters))]
     fn next(&mut self) -> Option<char> {
         match self.low {
             Some(low) => {
@@ -73,7 +73,7 @@ impl<const UPPER: bool> Iterator for BytesToHexChars<'_, UPPER> {
 
     /// Exactly the number of characters that are left.
     #[inline]
-    #[tactic(auto, using(crate::proofs::lemmas::Characters::remaining_characters))]
+    #[tactic(auto, using(crate::proofs::lemmas::CharIterator::remaining_characters))]
     fn size_hint(&self) -> (usize, Option<usize>)
         ensures lower { IsWithinCount result.0 (item_count (chars_left UPPER) self.now) }
         ensures upper { IfSome result.1 (UpTo (item_count (chars_left UPPER) self.now)) }

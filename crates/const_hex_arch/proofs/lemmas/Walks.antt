@@ -8,9 +8,10 @@
 -- `𝓤` is the resource algebra of the separation logic `𝓛`, `𝓜` is the memory model, and `𝓡` is the running program.
 -- `κs` are the lifetimes, `qs` the shares of their tokens, `a` the arguments, `are` facts about them, and `l` are the
 -- locals. `G` is the contract of the call as a triple, `z` its arguments, `r` its result, and `v` the machine value of
--- that. Each line that ends in `$` applies a rule to the symbolic state.
--- `wired` says that this program has the code of the function and of those that it calls. `F.met`, which is generated,
--- proves that F meets its contract.
+-- that. Each line that ends in `$` applies a rule to the symbolic state. `qed 𝓛 S ∵ rules` proves the goal from the
+-- state S by these rules. A resource is `‵ F` for a formula, or `raw P` for any assertion; `⊛` is the separating
+-- conjunction. `wired` says that this program has the code of the function and of those that it calls. `F.met`, which
+-- is generated, proves that F meets its contract.
 --
 -- What breaks the walk: it refers to the function's locals by number, and to its statements in
 -- their order. So every edit of the body of `decode_chunk` breaks it. An edit of a function that it

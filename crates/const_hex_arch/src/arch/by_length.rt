@@ -39,6 +39,8 @@ impl<const N: usize, V: LaneOps<N> + LaneOps<16>> Kernel for ByLength<N, V> {
             short::fill(input, upper, output);
         } else if input.len() <= 32 {
             short::fill_two_vectors::<16, V>(input, upper, output);
+        } else if input.len() <= 2 * N {
+            short::fill_two_vectors::<N, V>(input, upper, output);
         } else {
             long::fill::<N, V>(input, upper, output);
         }

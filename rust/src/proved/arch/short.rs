@@ -12,13 +12,15 @@ use crate::std_shim::simd::prelude::*;
 /// Fills the output with two digits for each of at most 15 bytes.
 #[inline(always)]
 pub(crate) fn fill(bytes: &[u8], upper: bool, output: &mut [u8]) {
-    // One byte first, where a test takes the greatest part of the time.
-    if bytes.len() == 1 {
+    // Fewer than 4 bytes by the fewest tests, which take the greatest part of the time there.
+    if bytes.len() >= 4 {
+        if bytes.len() >= 8 {
+            fill_overlapping::<8>(bytes, upper, output);
+        } else {
+            fill_overlapping::<4>(bytes, upper, output);
+        }
+    } else if bytes.len() == 1 {
         fill_one_vector::<1>(bytes, upper, output);
-    } else if bytes.len() >= 8 {
-        fill_overlapping::<8>(bytes, upper, output);
-    } else if bytes.len() >= 4 {
-        fill_overlapping::<4>(bytes, upper, output);
     } else if bytes.len() >= 2 {
         fill_overlapping::<2>(bytes, upper, output);
     }

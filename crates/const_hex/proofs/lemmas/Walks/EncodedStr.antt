@@ -5,10 +5,11 @@
 -- second. `G` and `H` are those of the calls as triples, and `zg` and `zh` their arguments. `x` is the input, `o` the
 -- output, `s` the output after the first call, and `m` the length of the text.
 --
--- A list in brackets is the symbolic state: the resources that are held there, in order. `𝓤` is the resource algebra
--- of the separation logic `𝓛`, `𝓜` is the memory model, and `𝓡` is the running program. `κs` are the lifetimes, `qs`
--- the shares of their tokens, `a` the arguments, `are` facts about them, and `v` is a machine value. Each line that
--- ends in `$` applies a rule to the symbolic state.
+-- A list in brackets is the symbolic state: the resources that are held there, in order. `𝓤` is the resource algebra of
+-- the separation logic `𝓛`, `𝓜` is the memory model, and `𝓡` is the running program. `κs` are the lifetimes, `qs` the
+-- shares of their tokens, `a` the arguments, `are` facts about them, and `v` is a machine value. Each line that ends in
+-- `$` applies a rule to the symbolic state. `qed 𝓛 S ∵ rules` proves the goal from the state S by these rules. A
+-- resource is `‵ F` for a formula, or `raw P` for any assertion; `⊛` is the separating conjunction.
 --
 -- The steps: `enter` begins the body; `alloc_all` allocates the locals; `pass_all` stores the arguments in them;
 -- `sets` executes an assignment; `calls_at` executes a call by its contract; `lands_as` stores its result; `returns`

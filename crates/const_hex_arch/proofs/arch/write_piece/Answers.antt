@@ -1,4 +1,7 @@
--- Proofs of open goals: `c` has the facts that are known at a goal, `g` the type parameters and their traits' members.
+-- Proofs of open goals, named after their places: `returns` is a return; `then-F` is the `then` branch of the `if` that
+-- tests F; `else-F` is its `else` branch. `c` has the facts that are known there: `c.args` are the arguments;
+-- `c.F.ensures` is what the call of F ensures; `F-x` is a call whose result is named x; `c.if-F` is the test of F. `g`
+-- has the type parameters and their traits' members.
 use Rattle.std.proofs.Common.{[], ◌∷◌, slice_index_or, arith}
 use Rattle.const_hex_arch.proofs.lemmas.Runs.{one_written, Writes-append}
 use Rattle.const_hex_arch.proofs.lemmas.Blocks.{two_bytes}

@@ -1,7 +1,7 @@
 -- Proof of the open goal `returns`: the clauses of the contract hold at the return. `c` has the facts that are known
 -- there: `c.args` are the arguments; `c.F.ensures` is what the call of F ensures; `c.F.result` is its result; `c.F.new`
--- is what it has changed; `F-x` is a call whose result is named x. `g` has the type parameters and their traits'
--- members.
+-- is what it has changed; `in_ok-F` is F, where `?` goes on after it; `F-x` is a call whose result is named x. `g` has
+-- the type parameters and their traits' members.
 --
 -- Terms of the contracts:
 -- - `RunsToEnd m ..`: the whole input was read, and the mode's output for it written

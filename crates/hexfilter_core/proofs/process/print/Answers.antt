@@ -1,7 +1,7 @@
 -- Proof of an open goal, named after its place: `returns` is the return at the end; `clause-X` is the clause X of the
 -- contract. `c` has the facts that are known there: `c.args` are the arguments; `c.F.ensures` is what the call of F
--- ensures; `c.F.result` is its result; `F-x` is a call whose result is named x. `g` has the type parameters and their
--- traits' members.
+-- ensures; `c.F.result` is its result; `in_ok-F` is F, where `?` goes on after it. `g` has the type parameters and
+-- their traits' members.
 use Rattle.std.proofs.Common.{length, arith, take_all}
 use Rattle.std.proofs.KnownBytes.{Appends-kept}
 use Rattle.hexfilter_core.proofs.lemmas.Runs.{failed}

@@ -2,9 +2,9 @@
 -- the `if` that tests F; `in-V` is the arm V of a `match`; `in_err-F` is the error that `?` returns after F;
 -- `L-preserved` is the invariant after an iteration of the loop L; `clause-X` is the clause X of the contract. `c` has
 -- the facts that are known there: `c.args` are the arguments; `c.F.ensures` is what the call of F ensures; `c.F.result`
--- is its result; `c.F.new` is what it has changed; `F-x` is a call whose result is named x; `c.if-F` is the test of F;
--- `c.L` has the variables of the loop L and its invariant. `g` has the type parameters and their traits' members.
--- `search` is a proof search.
+-- is its result; `c.F.new` is what it has changed; `in_ok-F` is F, where `?` goes on after it; `F-x` is a call whose
+-- result is named x; `c.if-F` is the test of F; `c.L` has the variables of the loop L and its invariant. `g` has the
+-- type parameters and their traits' members. `search` is a proof search.
 use Rattle.std.proofs.Common.{rules, ◌++◌, ◌+◌, [], Some, length, take, arith, length-take, refl}
 use Rattle.std.proofs.KnownBytes.{Appends-kept, Appends-trans, Consumes-kept, Consumes-trans}
 use Rattle.std.proofs.Math.Seq.{take-append-add}

@@ -1,7 +1,7 @@
 -- Proofs of open goals, named after their places: `returns` is a return; `then-F` is the `then` branch of the `if` that
 -- tests F; `else-F` is its `else` branch. `c` has the facts that are known there: `c.args` are the arguments;
--- `c.F.ensures` is what the call of F ensures; `F-x` is a call whose result is named x; `c.if-F` is the test of F. `g`
--- has the type parameters and their traits' members. `search` is a proof search.
+-- `c.F.ensures` is what the call of F ensures; `in_ok-F` is F, where `?` goes on after it; `c.if-F` is the test of F.
+-- `g` has the type parameters and their traits' members. `search` is a proof search.
 use Rattle.std.proofs.Common.{Ok, rules}
 use Rattle.const_hex.proofs.lemmas.Reading.{DecodesTo-digits, ChecksText-from_Checks}
 use Rattle.const_hex.proofs.codec.checks.check_with.Goals as goal

@@ -1,4 +1,11 @@
--- Proofs of open goals: `c` has the facts that are known at a goal, `g` the type parameters and their traits' members.
+-- Proofs of open goals, named after their places: `returns` is the return at the end; `L-init` is the invariant before
+-- the loop L; `L-preserved` is the invariant after an iteration of the loop L; `F-requires` is what the call of F
+-- requires; `clause-X` is the clause X of the contract. `c` has the facts that are known there: `c.args` are the
+-- arguments; `c.F.ensures` is what the call of F ensures; `c.L` has the variables of the loop L and its invariant. `g`
+-- has the type parameters and their traits' members.
+--
+-- Terms of the contracts:
+-- - `hex_text upper bs`: two digits for each of the bytes bs
 use Rattle.std.proofs.Common.{arith}
 use Rattle.std.proofs.lemmas.List.{nil_from_length}
 use Rattle.const_hex_arch.proofs.lemmas.Runs.{none_written}

@@ -1,4 +1,5 @@
--- Loop invariant and measure: `l` has the live variables, `g` the type parameters and their traits' members.
+-- The invariant of the loop `loop-rest`, and its measure, which decreases with each iteration. `l` has the live
+-- variables, `l.initial` their values before the loop. `g` has the type parameters and their traits' members.
 use Rattle.std.proofs.Common.{length}
 use Rattle.const_hex_arch.proofs.lemmas.Blocks.{IsWritten}
 use Rattle.const_hex_arch.proofs.arch.Kernel.encode.Given as goal

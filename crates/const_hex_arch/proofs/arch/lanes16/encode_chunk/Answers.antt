@@ -1,4 +1,6 @@
--- Proofs of open goals: `c` has the facts that are known at a goal, `g` the type parameters and their traits' members.
+-- Proof of an open goal, named after its place: `returns` is the return at the end; `clause-X` is the clause X of the
+-- contract. `c` has the facts that are known there: `c.F.ensures` is what the call of F ensures; `F-x` is a call whose
+-- result is named x. `g` has the type parameters and their traits' members.
 use Rattle.std.proofs.Common.{append-nil, ◌∙◌, arith}
 use Rattle.const_hex_arch.proofs.lemmas.LaneText.{halves}
 use Rattle.const_hex_arch.proofs.arch.lanes16.encode_chunk.Goals as goal

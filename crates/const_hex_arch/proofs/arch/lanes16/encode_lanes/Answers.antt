@@ -1,4 +1,5 @@
--- Proofs of open goals: `c` has the facts that are known at a goal.
+-- Proofs of open goals, named after their places: `returns` is the return at the end. `c` has the facts that are known
+-- there: `c.args` are the arguments; `c.F.ensures` is what the call of F ensures.
 use Rattle.std.proofs.Common.{map, ◌++◌, refl}
 use Rattle.std.specs.List.{range_with_len}
 use Rattle.const_hex_arch.specs.{hex_digit}

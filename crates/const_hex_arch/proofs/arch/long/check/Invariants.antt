@@ -1,4 +1,5 @@
--- Loop invariant and measure: `l` has the live variables, `g` the type parameters and their traits' members.
+-- The invariants of the loops, and its measure, which decreases with each iteration. `l` has the live variables. `g`
+-- has the type parameters and their traits' members.
 use Rattle.std.proofs.Common.{◌-◌, ◌≤◌, length, take}
 use Rattle.const_hex_arch.specs.{AllDigits}
 use Rattle.const_hex_arch.proofs.arch.long.check.Given as goal

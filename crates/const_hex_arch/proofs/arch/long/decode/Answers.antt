@@ -1,4 +1,8 @@
--- Proofs of open goals: `c` has the facts that are known at a goal, `g` the type parameters and their traits' members.
+-- Proofs of open goals, named after their places: `returns` is the return at the end; `then-F` is the `then` branch of
+-- the `if` that tests F; `L-preserved` is the invariant after an iteration of the loop L; `clause-X` is the clause X of
+-- the contract; `-2` is the second one of that name. `c` has the facts that are known there: `c.F.ensures` is what the
+-- call of F ensures; `F-x` is a call whose result is named x; `c.if-F` is the test of F; `c.L` has the variables of the
+-- loop L and its invariant. `g` has the type parameters and their traits' members.
 use Rattle.std.proofs.Common.{◌-◌, length, refl, arith}
 use Rattle.const_hex_arch.proofs.lemmas.Blocks.{decoded_block, decoded_less, rejected_block, spells_rest}
 use Rattle.const_hex_arch.proofs.arch.long.decode.Goals as goal

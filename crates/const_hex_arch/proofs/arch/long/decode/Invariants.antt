@@ -1,4 +1,5 @@
--- Loop invariant and measure: `l` has the live variables, `g` the type parameters and their traits' members.
+-- The invariants of the loops, and its measure, which decreases with each iteration. `l` has the live variables, `l.fn`
+-- the function's arguments. `g` has the type parameters and their traits' members.
 use Rattle.std.proofs.Common.{◌-◌, length}
 use Rattle.const_hex_arch.proofs.lemmas.Blocks.{IsDecoded}
 use Rattle.const_hex_arch.proofs.arch.long.decode.Given as goal

@@ -1,4 +1,7 @@
--- Proofs of open goals: `c` has the facts that are known at a goal, `g` the type parameters and their traits' members.
+-- Proofs of open goals, named after their places: `returns` is the return at the end; `L-init` is the invariant before
+-- the loop L; `L-preserved` is the invariant after an iteration of the loop L. `c` has the facts that are known there:
+-- `c.args` are the arguments; `c.F.ensures` is what the call of F ensures; `F-x` is a call whose result is named x;
+-- `c.L` has the variables of the loop L and its invariant. `g` has the type parameters and their traits' members.
 use Rattle.std.proofs.Common.{◌-◌, length, arith}
 use Rattle.const_hex_arch.proofs.lemmas.Blocks.{none_filled, filled_block, filled_less, filled_rest}
 use Rattle.const_hex_arch.proofs.arch.long.fill.Goals as goal

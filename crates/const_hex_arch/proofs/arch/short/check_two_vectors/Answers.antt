@@ -1,4 +1,6 @@
--- Proofs of open goals: `c` has the facts that are known at a goal, `g` the type parameters and their traits' members.
+-- Proof of the open goal `returns`: the clauses of the contract hold at the return. `c` has the facts that are known
+-- there: `c.args` are the arguments; `c.F.ensures` is what the call of F ensures. `g` has the type parameters and their
+-- traits' members.
 use Rattle.std.proofs.Common.{◌≡◌, ◌-◌, length, take, drop, arith, take_all, length-drop}
 use Rattle.const_hex_arch.proofs.lemmas.Blocks.{digits_first_and_last}
 use Rattle.const_hex_arch.proofs.lemmas.Standard.{through}

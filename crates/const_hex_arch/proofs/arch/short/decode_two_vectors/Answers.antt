@@ -1,4 +1,10 @@
--- Proofs of open goals: `c` has the facts that are known at a goal, `g` the type parameters and their traits' members.
+-- Proof of an open goal, named after its place: `returns` is a return; `then-F` is the `then` branch of the `if` that
+-- tests F; `clause-X` is the clause X of the contract. `c` has the facts that are known there: `c.args` are the
+-- arguments; `c.F.ensures` is what the call of F ensures; `c.F.result` is its result; `F-x` is a call whose result is
+-- named x. `g` has the type parameters and their traits' members.
+--
+-- Terms of the contracts:
+-- - `Spells u bs`: the digits u decode to the bytes bs
 use Rattle.std.proofs.Common.{◌≡◌, ◌-◌, ◌*◌, ◌/◌, ◌++◌, length, take, drop, sym, arith, take_all, length-take, length-drop, length-append}
 use Rattle.const_hex_arch.specs.{Spells}
 use Rattle.const_hex_arch.proofs.lemmas.Blocks.{digits_first_and_last, spells_first_and_last}

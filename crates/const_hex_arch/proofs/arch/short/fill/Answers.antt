@@ -1,4 +1,5 @@
--- Proofs of open goals: `c` has the facts that are known at a goal.
+-- Proof of an open goal, named after its place: `returns` is a return; `else-F` is the `else` branch of the `if` that
+-- tests F. `c` has the facts that are known there.
 use Rattle.std.proofs.Common.{arith}
 use Rattle.std.proofs.lemmas.List.{nil_from_length}
 use Rattle.const_hex_arch.proofs.lemmas.Texts.{hex_text-nil}

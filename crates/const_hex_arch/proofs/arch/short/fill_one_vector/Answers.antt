@@ -1,4 +1,6 @@
--- Proofs of open goals: `c` has the facts that are known at a goal, `g` the type parameters and their traits' members.
+-- Proof of the open goal `returns`: the clauses of the contract hold at the return. `c` has the facts that are known
+-- there: `c.args` are the arguments; `c.F.ensures` is what the call of F ensures; `c.F.result` is its result. `g` has
+-- the type parameters and their traits' members.
 use Rattle.std.proofs.Common.{◌≡◌, ◌∙◌, take, refl, arith, take_all}
 use Rattle.const_hex_arch.proofs.lemmas.Blocks.{hex_text-parts}
 use Rattle.const_hex_arch.proofs.arch.short.fill_one_vector.Goals as goal

@@ -1,4 +1,6 @@
--- Proofs of open goals: `c` has the facts that are known at a goal, `g` the type parameters and their traits' members.
+-- Proof of the open goal `returns`: the clauses of the contract hold at the return. `c` has the facts that are known
+-- there: `c.args` are the arguments; `c.F.ensures` is what the call of F ensures; `F-x` is a call whose result is named
+-- x. `g` has the type parameters and their traits' members.
 use Rattle.std.proofs.Common.{◌-◌, length, refl, arith}
 use Rattle.std.proofs.lemmas.List.{take_rest}
 use Rattle.const_hex_arch.proofs.lemmas.Blocks.{filled_first_and_last}

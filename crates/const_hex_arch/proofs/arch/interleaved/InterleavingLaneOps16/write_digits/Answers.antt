@@ -1,4 +1,6 @@
--- Proofs of open goals: `c` has the facts that are known at a goal.
+-- Proofs of open goals, named after their places: `returns` is the return at the end. `c` has the facts that are known
+-- there: `c.args` are the arguments; `c.F.ensures` is what the call of F ensures; `F-x` is a call whose result is named
+-- x.
 use Rattle.std.proofs.Common.{◌∙◌, ap, length, arith, refl}
 use Rattle.std.proofs.lemmas.Simd.{put_chunk_whole}
 use Rattle.const_hex_arch.proofs.lemmas.LaneText.{high_ok, masked_ok, interleaved_text}

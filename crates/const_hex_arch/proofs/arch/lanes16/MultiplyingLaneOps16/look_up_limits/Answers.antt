@@ -1,4 +1,5 @@
--- Proofs of open goals: `c` has the facts that are known at a goal.
+-- Proofs of open goals, named after their places: `returns` is the return at the end. `c` has the facts that are known
+-- there: `c.args` are the arguments.
 use Rattle.std.proofs.Common.{refl}
 use Rattle.const_hex_arch.specs.declared.arch.lanes16.TheConstants.{LIMITS}
 use Rattle.const_hex_arch.proofs.lemmas.LaneText.{masked_ok}

@@ -1,4 +1,5 @@
--- Proofs of open goals: `c` has the facts that are known at a goal.
+-- Proof of the open goal `returns`: the clauses of the contract hold at the return. `c` has the facts that are known
+-- there: `c.args` are the arguments.
 use Rattle.const_hex_arch.proofs.lemmas.LaneValues.{are_clear}
 use Rattle.const_hex_arch.proofs.arch.lanes32.MultiplyingLaneOps32.are_clear.Goals as goal
 

@@ -1,4 +1,5 @@
--- Loop invariant: `l` has the live variables, `g` the type parameters and their traits' members.
+-- The invariant of the loop `loop-b`. `l` has the live variables. `g` has the type parameters and their traits'
+-- members.
 use Rattle.std.proofs.Common.{take}
 use Rattle.const_hex_arch.specs.{AllDigits}
 use Rattle.const_hex_arch.proofs.arch.plain.ByteByByteKernel.check.Given as goal

@@ -1,4 +1,8 @@
--- Loop invariant: `l` has the live variables, `g` the type parameters and their traits' members.
+-- The invariant of the loop `loop-i`. `l` has the live variables, `l.initial` their values before the loop. `g` has the
+-- type parameters and their traits' members.
+--
+-- Terms of the contracts:
+-- - `Spells u bs`: the digits u decode to the bytes bs
 use Rattle.std.proofs.Common.{◌≡◌, ◌*◌, take, drop}
 use Rattle.const_hex_arch.specs.{Spells}
 use Rattle.const_hex_arch.proofs.arch.plain.ByteByByteKernel.decode_checked.Given as goal

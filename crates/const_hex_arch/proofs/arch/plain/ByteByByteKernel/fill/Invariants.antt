@@ -1,4 +1,5 @@
--- Loop invariant: `l` has the live variables, `g` the type parameters and their traits' members.
+-- The invariant of the loop `loop-i`. `l` has the live variables. `g` has the type parameters and their traits'
+-- members.
 use Rattle.const_hex_arch.proofs.lemmas.Blocks.{IsFilled}
 use Rattle.const_hex_arch.proofs.arch.plain.ByteByByteKernel.fill.Given as goal
 
