@@ -92,15 +92,16 @@ test(one_line NEEDS python3 COMMAND sh -ec "rm -rf one_line && mkdir one_line &&
   '${CMAKE_C_COMPILER}' ${TARGET} '-I${PROJECT_SOURCE_DIR}' '${EXAMPLES}/unhex.c' libconst_hex.a -o unhex
   '${run}' ./unhex")
 
-# The archive of a release.
+# The archive of a release. It is made with a umask on which the modes of its files must not depend.
 if(CONST_HEX_PORTABLE)
   return()
 endif()
 set(ARCHIVE "${HERE}/un packed/${RELEASE}")
-test(archive PROPERTIES FIXTURES_SETUP unpacked COMMAND sh -c "rm -rf 'un packed' one && mkdir 'un packed' &&
-  (umask 077; '${CMAKE_CPACK_COMMAND}' --config '${PROJECT_BINARY_DIR}/CPackConfig.cmake' -B one) &&
-  tar xzf one/*.tar.gz -C 'un packed'")
+test(archive PROPERTIES FIXTURES_SETUP unpacked COMMAND sh -c "rm -rf 'un packed' packed && mkdir 'un packed' &&
+  (umask 077; '${CMAKE_CPACK_COMMAND}' --config '${PROJECT_BINARY_DIR}/CPackConfig.cmake' -B packed) &&
+  tar xzf packed/*.tar.gz -C 'un packed'")
 set(WITH PROPERTIES FIXTURES_REQUIRED unpacked)
+test(archive.is_readable_by_all ${WITH} COMMAND sh -c "test \"$(find '${ARCHIVE}' ! -perm -444)\" = ''")
 test(archive.sums ${WITH} COMMAND sh -c "cd '${ARCHIVE}' && sha256sum --quiet -c SHA256SUMS && LC_ALL=C &&
   sed 's/.*  //' SHA256SUMS | sort > '${HERE}/summed' &&
   find . -type f ! -name SHA256SUMS -printf '%P\\n' | sort | diff '${HERE}/summed' -")

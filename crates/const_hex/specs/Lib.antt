@@ -1,3 +1,4 @@
+-- The definitions that contracts cite: the head of each file says what it defines.
 pub mod Buffers
 pub mod Decoding
 pub mod Messages

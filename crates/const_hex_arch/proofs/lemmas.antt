@@ -1,3 +1,4 @@
+-- The lemmas: the head of each file says what they are about.
 pub mod Blocks
 pub mod Digits
 pub mod FirstInvalid

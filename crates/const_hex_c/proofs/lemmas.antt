@@ -1,2 +1,3 @@
-pub mod Ends
-pub mod Wording
+-- The lemmas about the NUL after text, and about the message of an invalid character.
+pub mod CharacterMessage
+pub mod NulTerminator

@@ -62,7 +62,7 @@ pub(crate) fn size_of_extras(flags: u32) -> usize
 /// Writes the NUL after a text of `end` bytes, if one is asked for. Returns false if the text and its
 /// NUL do not fit, or if a flag is not known; the buffer is then unchanged.
 #[inline(always)]
-#[tactic(auto, using(crate::proofs::lemmas::Ends::after_nul))]
+#[tactic(auto, using(crate::proofs::lemmas::NulTerminator::after_nul))]
 pub(crate) fn terminate(text: &mut [u8], end: usize, flags: u32) -> bool
     ensures fits { IsTrue result
         ↔ AreFlags flags × (end + (if has_nul flags then 1 else 0) ≤ length text.old) }

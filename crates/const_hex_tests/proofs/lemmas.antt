@@ -1,1 +1,2 @@
+-- The lemmas: the head of each file says what they are about.
 pub mod PartialOutputs

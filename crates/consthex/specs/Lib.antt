@@ -1,1 +1,2 @@
+-- The definitions that contracts cite: the head of each file says what it defines.
 pub mod Program

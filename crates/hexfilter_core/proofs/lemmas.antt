@@ -1,3 +1,4 @@
+-- The lemmas: the head of each file says what they are about.
 pub mod Arguments
 pub mod Runs
 pub mod Groups

@@ -3,7 +3,7 @@
 use Rattle.std.proofs.Common.{◌∙◌, ℕ, List, refl, arith}
 use Rattle.std.specs.Char.{encode_utf8}
 use Rattle.std.specs.Fmt.{digits}
-use Rattle.const_hex_c.proofs.lemmas.Wording.{whole_message}
+use Rattle.const_hex_c.proofs.lemmas.CharacterMessage.{whole_message}
 use Rattle.const_hex_c.proofs.callers.message_of_character.Goals as goal
 
 pub returns : goal.returns
