@@ -150,15 +150,16 @@ static void update(const struct line *line, struct const_hex_decoder *decoder, s
   compare(line, output, from, to, expected, "decoder_update");
 }
 
-/* Decodes the text in two chunks, each first into a buffer that is too small, unless there has been an error. */
+/* Decodes the text in two chunks, each first into a buffer that is too small, unless there has been an error, and then
+   into one with a byte to spare, or two. */
 static void decode_chunks(const struct line *line, size_t cut) {
   static const struct const_hex_error none = {0, 0, 0}, no_space = {CONST_HEX_INVALID_LENGTH, 0, 0};
   struct const_hex_decoder decoder = {{0, 0}}, old;
   struct const_hex_error expected = none, error = UNSET;
   size_t ends[] = {0, cut, line->length};
-  for (size_t chunk = 1; chunk <= 2; chunk++) {
-    size_t from = ends[chunk - 1];
-    size_t to = ends[chunk];
+  for (size_t number = 1; number <= 2; number++) {
+    size_t from = ends[number - 1];
+    size_t to = ends[number];
     size_t count = count_before(line, to) - count_before(line, from);
     old = decoder;
     if (count > 0 && expected.kind == 0) {
@@ -168,7 +169,8 @@ static void decode_chunks(const struct line *line, size_t cut) {
     if (line->error.kind == CONST_HEX_INVALID_CHARACTER && line->error.index < to) {
       expected = line->error;
     }
-    update(line, &decoder, from, to, count + chunk, expected);
+    size_t spare = number;
+    update(line, &decoder, from, to, count + spare, expected);
   }
   old = decoder;
   bool result = const_hex_decoder_finish(&decoder, &error);

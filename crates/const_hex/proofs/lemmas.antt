@@ -1,5 +1,6 @@
--- The lemmas about the iterator `BytesToHexChars`, the streaming decoder, messages, the results of decoding, round
--- trips, the search for the first invalid character, symbolic execution, and sinks over a `Write`.
+-- The lemmas about the iterator `BytesToHexChars` (`CharIterator`), the streaming decoder (`Decoding`), messages
+-- (`Printing`), the results of decoding (`Reading`), round trips, the search for the first invalid character
+-- (`Searching`), symbolic execution (`Walks`), and sinks over a `Write`.
 pub mod CharIterator
 pub mod Decoding
 pub mod Printing

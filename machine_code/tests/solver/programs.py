@@ -116,7 +116,9 @@ def lines_of(text):
 def text_of(build):
     """The assembly of a build, or the text format of the module."""
     if build != WASM:
-        return lines_of("\n".join(path.read_text() for path in COMMITTED[build][0]))
+        assembly = "\n".join(path.read_text() for path in COMMITTED[build][0])
+        # Without the alignment of branches, which stands between instructions.
+        return re.sub(r"^\.p2align 5, , .*\n", "", lines_of(assembly), flags=re.M)
     text = run("wasm2wat", "--no-debug-names", MODULE).decode()
     return re.sub(r"^ +| +$", "", re.sub(r"\(;@?\d+;\)|;; .*$", "", text, flags=re.M), flags=re.M)
 

@@ -11,7 +11,7 @@ pub digits-init : goal.digits-init
 digits-init c = record {
   within = omega arith;
   size = omega arith;
-  long = length-decimal-le 20 c.args.number (omega arith) (omega arith) c.ranges.number.fits;
+  at_most_20 = length-decimal-le 20 c.args.number (omega arith) (omega arith) c.ranges.number.fits;
   start = refl;
   digits = rw (drop_all 59 c.args.space.now (omega arith), append-nil);
 }
@@ -20,11 +20,11 @@ pub digits-preserved : goal.digits-preserved
 digits-preserved c =
     let l = c.digits in
     let step = decimal_step l.quotient (omega arith) (omega (arith, l.auto.quotient-fits.fits)) in
-    let long = ap length step ∙ length-append (decimal (l.quotient / 10)) ((48 + l.quotient % 10) ∷ []) in
+    let length_step = ap length step ∙ length-append (decimal (l.quotient / 10)) ((48 + l.quotient % 10) ∷ []) in
     let e : l.start - 1 + 1 ≡ l.start = omega arith in record {
       within = omega arith;
       size = omega (arith, length-set l.space (l.start - 1) (48 + l.quotient % 10));
-      long = l.invariant.long;
+      at_most_20 = l.invariant.at_most_20;
       start = omega arith;
       digits = rw (drop-set l.space (l.start - 1) _ (omega arith), e) (rw (step, append_assoc) at l.invariant.digits);
     }

@@ -2,12 +2,12 @@
 use Rattle.std.proofs.Common.{◌≡◌, ◌+◌, ◌≤◌, ◌++◌, length, drop, decimal}
 use Rattle.const_hex_c.proofs.message.prepend_decimal.Given as goal
 
--- 59 is `MAX_MESSAGE`, and the digits of `quotient` are still to be written
+-- 59 is `MAX_MESSAGE`, a number of 64 bits has at most 20 digits, and those of `quotient` are still to be written
 abbrev pub invariant-digits : goal.invariant-digits
 invariant-digits l = record {
   within : l.start ≤ 59;
   size : length l.space ≡ 59;
-  long : length (decimal l.number) ≤ 20;
+  at_most_20 : length (decimal l.number) ≤ 20;
   start : l.start + length (decimal l.number) ≡ 59 + length (decimal l.quotient);
   digits : decimal l.quotient ++ drop l.start l.space ≡ decimal l.number;
 }
