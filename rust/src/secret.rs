@@ -1,10 +1,10 @@
 //! Encoding and decoding of keys, passwords and other secrets.
 //!
 //! For valid input, whatever depends on a byte happens in the inner loop, the kernel. On x86-64 with SSE4.2, and on
-//! AArch64 with an operating system, that is machine code, of which it is proved, for Linux and, on x86-64, Windows
-//! only, that no branch and no address depends on a byte. Elsewhere it computes digits without a table, and one branch
-//! after the last byte tests whether all are digits, which is constant-time by design, and tested on x86-64. The code
-//! around it, which is compiled with yours, only copies bytes.
+//! AArch64 with an operating system, that is machine code, of which it is proved that no branch and no address depends
+//! on a byte: for Linux on x86-64, and for releases also for Linux on AArch64 and Windows on x86-64. Elsewhere it
+//! computes digits without a table, and one branch after the last byte tests whether all are digits, which is
+//! constant-time by design, and tested on x86-64. The code around it, which is compiled with yours, only copies bytes.
 //!
 //! Nothing here clears the stack, a register, or text of yours. [`decode_to_array`] may leave a copy on the stack: to
 //! wipe a key, decode it by [`decode_to_slice`] into a buffer that you wipe.
