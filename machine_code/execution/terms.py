@@ -75,5 +75,5 @@ def table_entry(table, index):
 @functools.cache
 def constant_table_entry(table, index):
     """The same for a table of bytes that are known. Many paths look the same entry up, so it is
-    remembered."""
+    remembered: terms are the same key only if they have the same structure."""
     return simplify(table_entry([bv8(number) for number in table], index))
